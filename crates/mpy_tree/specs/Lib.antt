@@ -1,0 +1,11 @@
+pub mod Expressions
+pub mod Operations
+pub mod Outcomes
+pub mod Printable
+pub mod Printing
+pub mod Refusals
+pub mod Running
+pub mod Statements
+pub mod Syntax
+pub mod Values
+pub mod View

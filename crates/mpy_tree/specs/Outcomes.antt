@@ -1,0 +1,33 @@
+-- How a run ends, as the public outcome and as text.
+use Rattle.std.specs.Prelude.{ℕ, List, ◌++◌, codes}
+use Rattle.std.specs.declared.result.Result.{Result}
+use Rattle.std.specs.declared.result.Result.TheVariants.{Ok, Err}
+use Rattle.mpy_tree.specs.declared.limits.Limits.{Limits}
+use Rattle.mpy_tree.specs.declared.value.Value.{Value}
+use Rattle.mpy_tree.specs.declared.outcome.FaultKind.{FaultKind}
+use Rattle.mpy_tree.specs.declared.outcome.FaultKind.TheVariants.{Overflow, Divisor, Index, Unset, Turns, Depth, Length, Power, Step, NoValue}
+use Rattle.mpy_tree.specs.declared.outcome.Fault.{Fault}
+use Rattle.mpy_tree.specs.declared.outcome.Outcome.{Outcome}
+use Rattle.mpy_tree.specs.declared.outcome.Outcome.TheVariants as outcome
+use Rattle.mpy_tree.specs.Syntax.{Routine}
+use Rattle.mpy_tree.specs.Running.{evaluated}
+
+abbrev pub outcome_of : Result Value Fault → Outcome
+outcome_of (Ok v) = outcome.Value v
+outcome_of (Err f) = outcome.Fault f.kind f.line
+
+-- how a run of the program ends on these arguments
+abbrev pub run_outcome : Limits → List Routine → List ℕ → List Value → Outcome
+run_outcome l p entry vs = outcome_of (evaluated l p entry vs)
+
+abbrev pub fault_text : FaultKind → List ℕ
+fault_text Overflow = codes "Overflow"
+fault_text Divisor = codes "Divisor"
+fault_text Index = codes "Index"
+fault_text Unset = codes "Unset"
+fault_text Turns = codes "Turns"
+fault_text Depth = codes "Depth"
+fault_text Length = codes "Length"
+fault_text Power = codes "Power"
+fault_text Step = codes "Step"
+fault_text NoValue = codes "NoValue"

@@ -1,0 +1,174 @@
+-- The text of programs and of values. Each line ends with byte 10.
+use Rattle.std.specs.Prelude.{ℕ, zero, suc, ◌+◌, Bool, true, false, ◌==◌, List, [], ◌∷◌, ◌++◌, map, nat_lt, if◌then◌else◌, codes, replicate}
+use Rattle.std.specs.List.{flat_map}
+use Rattle.std.specs.Fmt.{decimal, signed_decimal}
+use Rattle.mpy_tree.specs.declared.operators.ArithOp.{ArithOp}
+use Rattle.mpy_tree.specs.declared.operators.ArithOp.TheVariants.{Add, Sub, Mul, Floor, Rem, Power}
+use Rattle.mpy_tree.specs.declared.operators.CmpOp.{CmpOp}
+use Rattle.mpy_tree.specs.declared.operators.CmpOp.TheVariants.{Eq, Ne, Lt, Le, Gt, Ge, Member, NotMember}
+use Rattle.mpy_tree.specs.declared.value.Value.{Value}
+use Rattle.mpy_tree.specs.declared.value.Value.TheVariants as value
+use Rattle.mpy_tree.specs.Syntax.{Term, Terms, MaybeTerm, Number, Truth, Quoted, Var, Items, Minus, Negation, Binary, Compare, Both, Either, Choose, At, Cut, Apply, no_terms, term_and, no_term, a_term, Statement, at, Action, SetTo, SetBy, SetAt, SetAtBy, AppendTo, Give, Nothing, Leave, Again, Test, Loop, Each, Block, end, step, MaybeBlock, no_block, a_block, Branch, arm, Branches, no_arms, arm_and, Routine}
+
+-- texts with a comma and a space between each two
+abbrev pub commas : List (List ℕ) → List ℕ
+commas [] = []
+commas (x ∷ []) = x
+commas (x ∷ y ∷ rest) = x ++ codes ", " ++ commas (y ∷ rest)
+
+-- a backslash goes before a backslash and before a single quote
+abbrev pub escaped : ℕ → List ℕ
+escaped c = if c == 92 then 92 ∷ 92 ∷ [] else if c == 39 then 92 ∷ 39 ∷ [] else c ∷ []
+
+abbrev pub quoted_text : List ℕ → List ℕ
+quoted_text cs = codes "'" ++ flat_map escaped cs ++ codes "'"
+
+abbrev pub truth_text : Bool → List ℕ
+truth_text true = codes "True"
+truth_text false = codes "False"
+
+abbrev pub arith_text : ArithOp → List ℕ
+arith_text Add = codes "+"
+arith_text Sub = codes "-"
+arith_text Mul = codes "*"
+arith_text Floor = codes "//"
+arith_text Rem = codes "%"
+arith_text Power = codes "**"
+
+abbrev pub compare_text : CmpOp → List ℕ
+compare_text Eq = codes "=="
+compare_text Ne = codes "!="
+compare_text Lt = codes "<"
+compare_text Le = codes "<="
+compare_text Gt = codes ">"
+compare_text Ge = codes ">="
+compare_text Member = codes "in"
+compare_text NotMember = codes "not in"
+
+-- The levels of the grammar, from 0, the conditional, to 10, the atoms: an operator's, and those that it asks of its parts.
+abbrev pub arith_level : ArithOp → ℕ
+arith_level Add = 5
+arith_level Sub = 5
+arith_level Mul = 6
+arith_level Floor = 6
+arith_level Rem = 6
+arith_level Power = 8
+
+abbrev pub left_level : ArithOp → ℕ
+left_level Add = 5
+left_level Sub = 5
+left_level Mul = 6
+left_level Floor = 6
+left_level Rem = 6
+left_level Power = 9
+
+abbrev pub right_level : ArithOp → ℕ
+right_level Add = 6
+right_level Sub = 6
+right_level Mul = 7
+right_level Floor = 7
+right_level Rem = 7
+right_level Power = 7
+
+-- the highest level that spells the expression without parentheses round it
+abbrev pub level_of : Term → ℕ
+level_of (Choose t a b) = 0
+level_of (Either a b) = 1
+level_of (Both a b) = 2
+level_of (Negation e) = 3
+level_of (Compare op a b) = 4
+level_of (Binary op a b) = arith_level op
+level_of (Minus e) = 7
+level_of (At v i) = 9
+level_of (Cut v from to) = 9
+level_of _ = 10
+
+-- the text of a part, in parentheses where its own level is below the one asked for
+abbrev pub at_level : ℕ → Term → List ℕ → List ℕ
+at_level k e text = if nat_lt (level_of e) k then codes "(" ++ text ++ codes ")" else text
+
+-- an operator with one space on each side
+abbrev pub spaced : List ℕ → List ℕ
+spaced text = codes " " ++ text ++ codes " "
+
+abbrev mutual
+  pub text_of : Term → List ℕ
+  text_of (Number n) = decimal n
+  text_of (Truth b) = truth_text b
+  text_of (Quoted cs) = quoted_text cs
+  text_of (Var x) = x
+  text_of (Items es) = codes "[" ++ commas (texts_of es) ++ codes "]"
+  text_of (Minus e) = codes "-" ++ at_level 7 e (text_of e)
+  text_of (Negation e) = codes "not " ++ at_level 3 e (text_of e)
+  text_of (Binary op a b) = at_level (left_level op) a (text_of a) ++ spaced (arith_text op) ++ at_level (right_level op) b (text_of b)
+  text_of (Compare op a b) = at_level 5 a (text_of a) ++ spaced (compare_text op) ++ at_level 5 b (text_of b)
+  text_of (Both a b) = at_level 2 a (text_of a) ++ codes " and " ++ at_level 3 b (text_of b)
+  text_of (Either a b) = at_level 1 a (text_of a) ++ codes " or " ++ at_level 2 b (text_of b)
+  text_of (Choose t a b) = at_level 1 a (text_of a) ++ codes " if " ++ at_level 1 t (text_of t) ++ codes " else " ++ text_of b
+  text_of (At v i) = at_level 9 v (text_of v) ++ codes "[" ++ text_of i ++ codes "]"
+  text_of (Cut v from to) = at_level 9 v (text_of v) ++ codes "[" ++ end_text from ++ codes ":" ++ end_text to ++ codes "]"
+  text_of (Apply f es) = f ++ codes "(" ++ commas (texts_of es) ++ codes ")"
+
+  pub texts_of : Terms → List (List ℕ)
+  texts_of no_terms = []
+  texts_of (term_and e es) = text_of e ∷ texts_of es
+
+  pub end_text : MaybeTerm → List ℕ
+  end_text no_term = []
+  end_text (a_term e) = text_of e
+
+-- a line, so many blocks deep
+abbrev pub indented : ℕ → List ℕ → List ℕ
+indented zero text = text ++ codes "\n"
+indented (suc d) text = codes "    " ++ indented d text
+
+abbrev pub return_text : MaybeTerm → List ℕ
+return_text no_term = codes "return"
+return_text (a_term e) = codes "return " ++ text_of e
+
+abbrev mutual
+  pub block_text : ℕ → Block → List ℕ
+  block_text d end = []
+  block_text d (step (at line act) rest) = action_text d act ++ block_text d rest
+
+  pub action_text : ℕ → Action → List ℕ
+  action_text d (SetTo x e) = indented d (x ++ codes " = " ++ text_of e)
+  action_text d (SetBy x op e) = indented d (x ++ codes " " ++ arith_text op ++ codes "= " ++ text_of e)
+  action_text d (SetAt x i e) = indented d (x ++ codes "[" ++ text_of i ++ codes "] = " ++ text_of e)
+  action_text d (SetAtBy x i op e) = indented d (x ++ codes "[" ++ text_of i ++ codes "] " ++ arith_text op ++ codes "= " ++ text_of e)
+  action_text d (AppendTo x e) = indented d (x ++ codes ".append(" ++ text_of e ++ codes ")")
+  action_text d (Give e) = indented d (return_text e)
+  action_text d Nothing = indented d (codes "pass")
+  action_text d Leave = indented d (codes "break")
+  action_text d Again = indented d (codes "continue")
+  action_text d (Test arms last) = arms_text d (codes "if ") arms ++ else_text d last
+  action_text d (Loop e body) = indented d (codes "while " ++ text_of e ++ codes ":") ++ block_text (suc d) body
+  action_text d (Each x e body) = indented d (codes "for " ++ x ++ codes " in " ++ text_of e ++ codes ":") ++ block_text (suc d) body
+
+  -- the first arm has one word before its test, the others another
+  pub arms_text : ℕ → List ℕ → Branches → List ℕ
+  arms_text d word no_arms = []
+  arms_text d word (arm_and (arm line e body) rest) = indented d (word ++ text_of e ++ codes ":") ++ block_text (suc d) body ++ arms_text d (codes "elif ") rest
+
+  pub else_text : ℕ → MaybeBlock → List ℕ
+  else_text d no_block = []
+  else_text d (a_block body) = indented d (codes "else:") ++ block_text (suc d) body
+
+abbrev pub routine_text : Routine → List ℕ
+routine_text r = codes "def " ++ r.name ++ codes "(" ++ commas r.params ++ codes "):\n" ++ block_text 1 r.body
+
+-- functions are separated by one empty line
+abbrev pub program_text : List Routine → List ℕ
+program_text [] = []
+program_text (r ∷ []) = routine_text r
+program_text (r ∷ s ∷ rest) = routine_text r ++ codes "\n" ++ program_text (s ∷ rest)
+
+abbrev pub value_text : Value → List ℕ
+value_text (value.Int z) = signed_decimal z
+value_text (value.Bool b) = truth_text b
+value_text (value.List xs) = codes "[" ++ commas (map signed_decimal xs) ++ codes "]"
+value_text (value.Text cs) = quoted_text cs
+
+-- the values of an input
+abbrev pub values_text : List Value → List ℕ
+values_text vs = commas (map value_text vs)

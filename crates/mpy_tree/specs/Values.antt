@@ -1,0 +1,45 @@
+-- Values, faults and states.
+use Rattle.std.specs.Prelude.{ℕ, Bool, List, [], ◌∷◌, Option, Some, None, if◌then◌else◌, nat_eq}
+use Rattle.std.specs.Cmp.Lexicographic.{pointwise}
+use Rattle.std.specs.declared.result.Result.{Result}
+use Rattle.std.specs.declared.result.Result.TheVariants.{Ok, Err}
+use Rattle.mpy_tree.specs.declared.value.Value.{Value}
+use Rattle.mpy_tree.specs.declared.outcome.FaultKind.{FaultKind}
+use Rattle.mpy_tree.specs.declared.outcome.FaultKind.TheVariants.{Unset}
+use Rattle.mpy_tree.specs.declared.outcome.Fault.{Fault}
+
+-- goes on with a value, or ends with the fault
+infixl 10 ◌>>=◌
+abbrev pub ◌>>=◌ : {A B E : Type 0} → Result A E → (A → Result B E) → Result B E
+Ok a >>= f = f a
+Err e >>= f = Err e
+
+-- The fault where operands have no type that the operator takes. Programs that keep the typing rules never come here.
+abbrev pub wrong_type : FaultKind
+wrong_type = Unset
+
+abbrev pub fault : FaultKind → ℕ → Fault
+fault kind line = record { kind = kind; line = line }
+
+-- a fault gets the line of the statement
+abbrev pub on_line : {A : Type 0} → ℕ → Result A FaultKind → Result A Fault
+on_line line (Ok a) = Ok a
+on_line line (Err kind) = Err (fault kind line)
+
+abbrev pub same_bytes : List ℕ → List ℕ → Bool
+same_bytes = pointwise nat_eq
+
+-- the value of each local that is set
+abbrev pub State : Type 0
+State = List ℕ → Option Value
+
+abbrev pub nothing_set : State
+nothing_set = λ x. None
+
+abbrev pub assign : State → List ℕ → Value → State
+assign s x v = λ y. if same_bytes y x then Some v else s y
+
+-- the value of a local
+abbrev pub set_or_fault : Option Value → Result Value FaultKind
+set_or_fault None = Err Unset
+set_or_fault (Some v) = Ok v

@@ -1,0 +1,26 @@
+//! The syntax of mPy programs, their values, types and refusals, and, in `specs/`, what programs mean.
+#![tactic(auto)]
+
+mod limits;
+mod lists;
+mod names;
+mod operators;
+mod outcome;
+mod refusal;
+mod tree;
+mod typing;
+mod value;
+
+pub use limits::Limits;
+pub use lists::{Chars, Ints};
+pub use names::{Name, Names};
+pub use operators::{ArithOp, CmpOp};
+pub use outcome::{Fault, FaultKind, Outcome};
+pub use refusal::{Cause, Refusal, Source};
+use std::alloc::AllocError;
+pub use tree::{Act, Arm, Arms, Expr, Exprs, Func, Funcs, Prog, Stmt, Stmts};
+pub use typing::{Fact, Facts, Signature, Slot, Ty, Types, Tys};
+pub use value::{Value, Values};
+
+/// Want of memory, where a call has no other refusal.
+pub type NoMemory = AllocError;

@@ -1,0 +1,77 @@
+//! Values, and lists of them.
+ghost use Rattle.std.specs.Prelude.{◌≡◌, IfOk, List};
+ghost use Rattle.mpy_tree.specs.declared.value.Value.{Value as AnyValue};
+
+use crate::NoMemory;
+use crate::lists::{Chars, Ints};
+use std::alloc::Global;
+use std::marker::Model;
+
+/// A value.
+#[derive(Drop)]
+pub enum Value {
+    Int(i32),
+    Bool(bool),
+    List(Ints),
+    Text(Chars),
+}
+
+impl Value {
+    /// An equal value.
+    pub fn copy(&self) -> Result<Value, NoMemory>
+        ensures { IfOk result (λ v. v ≡ self.now) }
+    {
+        match self {
+            Value::Int(n) => Ok(Value::Int(*n)),
+            Value::Bool(b) => Ok(Value::Bool(*b)),
+            Value::List(l) => Ok(Value::List(l.copy()?)),
+            Value::Text(t) => Ok(Value::Text(t.copy()?)),
+        }
+    }
+}
+
+/// A list of values, such as the arguments of a call.
+#[derive(Drop)]
+pub struct Values {
+    items: Vec<Value>,
+}
+
+impl Model for Values {
+    ghost Value = { List AnyValue };
+
+    ghost view = { λ a. a.items.items };
+}
+
+impl Values {
+    /// The list that has these values.
+    pub fn from_vec(items: Vec<Value>) -> Values
+        ensures { result ≡ items.items }
+    {
+        Values { items }
+    }
+
+    /// The values.
+    pub fn items(&self) -> &[Value]
+        ensures { result.now ≡ self.now }
+    {
+        self.items.as_slice()
+    }
+
+    /// The values, given back.
+    pub fn into_vec(self) -> Vec<Value>
+        ensures { result.items ≡ self }
+    {
+        self.items
+    }
+
+    /// An equal list.
+    pub fn copy(&self, alloc: Global) -> Result<Values, NoMemory>
+        ensures { IfOk result (λ n. n ≡ self.now) }
+    {
+        let mut copies = Vec::new(alloc);
+        for v in &self.items {
+            copies.push(v.copy()?)?;
+        }
+        Ok(Values { items: copies })
+    }
+}
