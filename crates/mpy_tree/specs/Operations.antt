@@ -16,10 +16,13 @@ use Rattle.mpy_tree.specs.declared.outcome.FaultKind.{FaultKind}
 use Rattle.mpy_tree.specs.declared.outcome.FaultKind.TheVariants.{Overflow, Divisor, Index, Length, Power as NegativePower, Step}
 use Rattle.mpy_tree.specs.Values.{◌>>=◌, wrong_type, same_bytes}
 
--- numbers from -2^(W-1) to 2^(W-1) - 1
+-- whether a number is from -2^(width-1) to 2^(width-1) - 1
+abbrev pub fits_width : ℕ → ℤ → Bool
+fits_width width (pos n) = nat_lt n (2 ^ (width - 1))
+fits_width width (negsuc n) = nat_lt n (2 ^ (width - 1))
+
 abbrev pub fits : Limits → ℤ → Bool
-fits l (pos n) = nat_lt n (2 ^ (l.width - 1))
-fits l (negsuc n) = nat_lt n (2 ^ (l.width - 1))
+fits l = fits_width l.width
 
 abbrev pub number : Limits → ℤ → Result Value FaultKind
 number l z = if fits l z then Ok (Int z) else Err Overflow

@@ -1,0 +1,11 @@
+pub mod Agreement
+pub mod Answers
+pub mod BoundsForm
+pub mod Decisions
+pub mod Names
+pub mod ProgramForm
+pub mod Reports
+pub mod Rewriting
+pub mod RulesForm
+pub mod Texts
+pub mod Views

@@ -1,0 +1,5 @@
+//! The grader: from the words of a command line to what it writes and the status that it ends with.
+#![tactic(auto)]
+
+mod formula;
+mod task;
