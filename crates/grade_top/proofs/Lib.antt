@@ -1,0 +1,4 @@
+pub mod Counting
+pub mod FormulaMeaning
+pub mod Leasts
+pub mod SelectionLaws

@@ -2,10 +2,14 @@ pub mod Agreement
 pub mod Answers
 pub mod BoundsForm
 pub mod Decisions
+pub mod FormulaValues
 pub mod Names
 pub mod ProgramForm
 pub mod Reports
 pub mod Rewriting
+pub mod RewritingViews
 pub mod RulesForm
+pub mod Searches
+pub mod Selections
 pub mod Texts
 pub mod Views

@@ -17,9 +17,13 @@ pub record Alternative : Type 0 where
   pub cost : ℕ
   pub literal : ℕ
 
-abbrev pub alternatives_of : ℕ → Rule → List Alternative
-alternatives_of i r = map (λ n. record { rule = i; cost = r.cost; literal = n }) r.literals
+abbrev pub alternative : ℕ → ℕ → ℕ → Alternative
+alternative i cost n = record { rule = i; cost = cost; literal = n }
 
+abbrev pub alternatives_of : ℕ → Rule → List Alternative
+alternatives_of i r = map (alternative i r.cost) r.literals
+
+-- those of the rules from the one with this number on
 abbrev pub alternatives_from : ℕ → List Rule → List Alternative
 alternatives_from i [] = []
 alternatives_from i (r ∷ rules) = alternatives_of i r ++ alternatives_from (suc i) rules
