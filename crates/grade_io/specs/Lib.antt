@@ -1,0 +1,6 @@
+pub mod Calls
+pub mod Devices
+pub mod Files
+pub mod Kept
+pub mod Status
+pub mod Written
