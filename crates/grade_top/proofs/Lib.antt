@@ -1,4 +1,9 @@
+pub mod AgreementLaws
+pub mod Appending
 pub mod Counting
 pub mod FormulaMeaning
+pub mod Keeping
 pub mod Leasts
+pub mod Ranges
 pub mod SelectionLaws
+pub mod VerdictLaws

@@ -11,5 +11,7 @@ pub mod RewritingViews
 pub mod RulesForm
 pub mod Searches
 pub mod Selections
+pub mod Tables
 pub mod Texts
+pub mod Verdicts
 pub mod Views

@@ -2,9 +2,14 @@
 #![tactic(auto)]
 
 mod alternatives;
+mod answer;
 mod evaluation;
+mod failure;
 mod formula;
 mod least;
+mod numbers;
+mod program;
 mod rewritings;
 mod search;
+mod tables;
 mod task;
