@@ -1,0 +1,5 @@
+pub mod BoundsLaws
+pub mod BoundsRanges
+pub mod Digits
+pub mod Fronts
+pub mod OneTask

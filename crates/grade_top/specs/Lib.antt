@@ -1,11 +1,13 @@
 pub mod Agreement
 pub mod Answers
 pub mod BoundsForm
+pub mod BoundsReading
 pub mod Decisions
 pub mod Names
 pub mod ProgramForm
 pub mod Reports
 pub mod Rewriting
 pub mod RulesForm
+pub mod Scanning
 pub mod Texts
 pub mod Views
