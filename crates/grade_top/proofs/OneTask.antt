@@ -6,7 +6,9 @@ use Rattle.std.proofs.lemmas.Option.{same_Some}
 use Rattle.mpy_tree.specs.declared.limits.Limits.{Limits}
 use Rattle.grade_top.specs.BoundsForm.{BoundsLines, Bounds, IsBounds, lines_of}
 use Rattle.grade_top.specs.BoundsReading.{bounds_lines}
+use Rattle.grade_top.specs.RulesForm.{Rule, IsRules}
 use Rattle.grade_top.proofs.BoundsLaws.{lines_again}
+use Rattle.grade_top.proofs.RulesLaws.{rules_are_read}
 
 -- a range, and its one proof
 abbrev Within : ℕ → ℕ → ℕ → Type 0
@@ -48,3 +50,6 @@ one_bounds bytes k other is also =
     let first = lines_again bytes (lines_of k is.param) is.spelled in
     let second = lines_again bytes (lines_of other also.param) also.spelled in
     same_bounds k other is.param also.param (same_Some (lines_of k is.param) (lines_of other also.param) (sym first ∙ second))
+
+pub one_rules : (bytes : List ℕ) (rules others : List Rule) → IsRules bytes rules → IsRules bytes others → rules ≡ others
+one_rules bytes rules others is also = same_Some rules others (sym (rules_are_read bytes rules is) ∙ rules_are_read bytes others also)

@@ -8,6 +8,7 @@ pub mod ProgramForm
 pub mod Reports
 pub mod Rewriting
 pub mod RulesForm
+pub mod RulesReading
 pub mod Scanning
 pub mod Texts
 pub mod Views

@@ -5,5 +5,6 @@ mod bounds_form;
 mod formula;
 #[cfg(test)]
 mod reading_tests;
+mod rules_form;
 mod scan;
 mod task;

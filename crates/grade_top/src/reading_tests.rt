@@ -1,4 +1,5 @@
 use crate::bounds_form::{BoundsRead, read_bounds};
+use crate::rules_form::read_rules;
 use std::alloc::Global;
 use std::test::Fail;
 
@@ -105,6 +106,35 @@ fn texts_are_read(rt: HostRuntime) -> Result<(), Fail> {
     ];
     for (bytes, wanted) in bounds {
         assert_eq!(rt; kind_of(rt.alloc(), bytes)?, wanted);
+    }
+    let rules: [(&[u8], Option<usize>); 14] = [
+        (b"", Some(0)),
+        (
+            b"rule lit cost 1: $n => {1, 3}\nrule if cost 9: $n => {2147483647}\n",
+            Some(2),
+        ),
+        (
+            b"rule lit cost 1: $n => {1, 3}\nrule lit cost 9: $n => {2147483647}\n",
+            None,
+        ),
+        (b"rule lit cost 0: $n => {1, 3}\n", None),
+        (b"rule lit cost 10: $n => {1, 3}\n", None),
+        (b"rule lit cost 1: $n => {2147483648}\n", None),
+        (b"rule lit cost 1: $n => {}\n", None),
+        (b"rule lit cost 1: $n => {1,3}\n", None),
+        (b"rule lit cost 1: $n => {1, }\n", None),
+        (b"rule lit cost 1: $n => {01}\n", None),
+        (b"rule lit cost 1: $n => 1\n", None),
+        (b"rule lit cost 1: $n => {1, 3}", None),
+        (
+            b"rule a2345678901234567890123456789012345678901 cost 1: $n => {1}\n",
+            None,
+        ),
+        (b"\n", None),
+    ];
+    for (bytes, wanted) in rules {
+        let count = read_rules(rt.alloc(), bytes)?.map(|rules| rules.len());
+        assert_eq!(rt; count, wanted);
     }
     Ok(())
 }
