@@ -1,0 +1,4 @@
+pub mod Kept
+pub mod Pushes
+pub mod Naturals
+pub mod Integers

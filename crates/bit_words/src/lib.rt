@@ -1,0 +1,16 @@
+//! Words of bits over any logic: what a logic owes, and arithmetic on words in two's complement.
+#![tactic(auto)]
+
+pub mod bits;
+pub mod bitwise;
+pub mod compare;
+pub mod gates;
+pub mod logic;
+pub mod sums;
+pub mod word;
+pub mod words;
+
+use std::alloc::AllocError;
+
+/// Want of memory.
+pub type NoMemory = AllocError;
