@@ -12,7 +12,7 @@ use Rattle.bit_words.specs.Words.{bit_value, nat_of, int_of, is_within, fits}
 use Rattle.bit_words.proofs.Kept.{take_read}
 use Rattle.bit_words.proofs.Naturals.{power_double}
 
-int_cons : (b c : Bool) (bs : List Bool) → int_of (b ∷ c ∷ bs) ≡ pos (bit_value b) +ℤ (int_of (c ∷ bs) +ℤ int_of (c ∷ bs))
+pub int_cons : (b c : Bool) (bs : List Bool) → int_of (b ∷ c ∷ bs) ≡ pos (bit_value b) +ℤ (int_of (c ∷ bs) +ℤ int_of (c ∷ bs))
 int_cons true c bs = refl
 int_cons false c bs = refl
 
@@ -48,27 +48,27 @@ nat_below (true ∷ bs) = let rest = nat_below bs in rw (power_double (length bs
 nat_below (false ∷ bs) = let rest = nat_below bs in rw (power_double (length bs)) (omega arith)
 
 -- which numbers a width holds, from a number that is known up to its sign
-within : (p : ℕ) (z : ℤ) (n : ℕ) → z +ℤ pos p ≡ pos n → n < p + p → is_within p z ≡ true
+pub within : (p : ℕ) (z : ℤ) (n : ℕ) → z +ℤ pos p ≡ pos n → n < p + p → is_within p z ≡ true
 within p (pos m) n e h = let lt : m < p = omega (arith, ints) in grind (arith, nat_tests)
 within p (negsuc m) n e h = let lt : m < p = omega (arith, ints) in grind (arith, nat_tests)
 
-above : (p : ℕ) (z : ℤ) (n : ℕ) → z ≡ pos n → p ≤ n → is_within p z ≡ false
+pub above : (p : ℕ) (z : ℤ) (n : ℕ) → z ≡ pos n → p ≤ n → is_within p z ≡ false
 above p (pos m) n e h = let le : p ≤ m = omega (arith, ints) in grind (arith, nat_tests)
 above p (negsuc m) n e h = absurd (omega (arith, ints))
 
-beneath : (p : ℕ) (z : ℤ) (n : ℕ) → z +ℤ pos p ≡ negsuc n → is_within p z ≡ false
+pub beneath : (p : ℕ) (z : ℤ) (n : ℕ) → z +ℤ pos p ≡ negsuc n → is_within p z ≡ false
 beneath p (pos m) n e = absurd (omega (arith, ints))
 beneath p (negsuc m) n e = let le : p ≤ m = omega (arith, ints) in grind (arith, nat_tests)
 
 -- a sum by its digits: it leaves the width exactly where the carry into the highest digit isn't the carry out of it
-Sum : ℕ → Bool → ℤ → ℤ → Type 0
+unfoldable pub Sum : ℕ → Bool → ℤ → ℤ → Type 0
 Sum p over z s = (over ≡ not (is_within p z)) × (is_within p z ≡ true → s ≡ z)
 
-inside : (p : ℕ) (z s : ℤ) → is_within p z ≡ true → s ≡ z → Sum p false z s
+pub inside : (p : ℕ) (z s : ℤ) → is_within p z ≡ true → s ≡ z → Sum p false z s
 unfolding Sum
 inside p z s h e = (ap not (sym h), λ _. e)
 
-outside : (p : ℕ) (z s : ℤ) → is_within p z ≡ false → Sum p true z s
+pub outside : (p : ℕ) (z s : ℤ) → is_within p z ≡ false → Sum p true z s
 unfolding Sum
 outside p z s h = (ap not (sym h), λ (k : is_within p z ≡ true). cc)
 
@@ -103,7 +103,7 @@ int_pushed f f' w w' b i long kept e =
 pub nat_read_below : {B : Type 0} (f : B → Bool) (w : List B) (i : ℕ) → length w ≡ i → nat_of (map f w) < 2 ^ i
 nat_read_below f w i long = let size : length (map f w) ≡ i = simp length-map long in subst (λ (k : ℕ). nat_of (map f w) < 2 ^ k) size (nat_below (map f w))
 
-bit_not : (b : Bool) → bit_value (not b) + bit_value b ≡ 1
+pub bit_not : (b : Bool) → bit_value (not b) + bit_value b ≡ 1
 bit_not true = refl
 bit_not false = refl
 
@@ -163,7 +163,7 @@ same_top p n m x y a b h k f i =
     same_from_decides (eqb (n + p * bit_value x) (m + p * bit_value y)) (int_eq a b) (Decides-eqb (n + p * bit_value x) (m + p * bit_value y))
     (Decides-like (int_eq a b) (there p n m x y a b h k f i) (back p n m x y a b h k f i) (Decides-int_eq a b))
 
-bit_small : (b : Bool) → bit_value b ≤ 1
+pub bit_small : (b : Bool) → bit_value b ≤ 1
 bit_small true = omega arith
 bit_small false = omega arith
 

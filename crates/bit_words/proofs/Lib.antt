@@ -2,3 +2,6 @@ pub mod Kept
 pub mod Pushes
 pub mod Naturals
 pub mod Integers
+pub mod Signs
+pub mod Products
+pub mod Quotients

@@ -1,5 +1,5 @@
 -- What a list of bits reads as, and which numbers a width holds.
-use Rattle.std.specs.Prelude.{ℕ, ◌+◌, ◌-◌, ◌^◌, nat_lt, Bool, true, false, not, List, [], ◌∷◌, map, ℤ, pos, negsuc, ◌+ℤ◌, ◌≡◌}
+use Rattle.std.specs.Prelude.{ℕ, ◌+◌, ◌-◌, ◌^◌, nat_lt, Bool, true, false, not, List, [], ◌∷◌, map, ℤ, pos, negsuc, ◌+ℤ◌, neg_ℤ, ◌≡◌}
 
 -- the value of a bit
 abbrev pub bit_value : Bool → ℕ
@@ -41,3 +41,17 @@ Holds read width z = fits width z ≡ true → read ≡ z
 -- a bit says whether a number leaves a width
 abbrev pub OverflowsAs : Bool → ℕ → ℤ → Type 0
 OverflowsAs over width z = over ≡ not (fits width z)
+
+abbrev pub is_negative : ℤ → Bool
+is_negative (pos m) = false
+is_negative (negsuc m) = true
+
+-- a number without a sign is read, and a bit says whether it leaves a width
+pub record IsUnsigned (width number read : ℕ) (over : Bool) : Type 0 where
+  pub leaves : over ≡ not (nat_lt number (2 ^ width))
+  pub reads : nat_lt number (2 ^ width) ≡ true → read ≡ number
+
+-- a number by its sign and its magnitude
+abbrev pub signed : Bool → ℕ → ℤ
+signed true n = neg_ℤ (pos n)
+signed false n = pos n
