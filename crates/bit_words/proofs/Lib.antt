@@ -5,3 +5,4 @@ pub mod Integers
 pub mod Signs
 pub mod Products
 pub mod Quotients
+pub mod Floors

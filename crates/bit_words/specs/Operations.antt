@@ -1,5 +1,5 @@
 -- Operations on whole numbers of unlimited size.
-use Rattle.std.specs.Prelude.{ℕ, zero, suc, ◌≡◌, ◌<◌, ◌+◌, ◌*◌, ◌/◌, ℤ, pos, negsuc, ◌-ℤ◌, ◌*ℤ◌, neg_ℤ}
+use Rattle.std.specs.Prelude.{Bool, true, false, ℕ, zero, suc, ◌≡◌, ◌<◌, ◌+◌, ◌*◌, ◌/◌, ℤ, pos, negsuc, ◌-ℤ◌, ◌*ℤ◌, neg_ℤ}
 
 -- a number divided by a positive one, rounded towards minus infinity; by none it is 0 or -1
 abbrev pub floor_by : ℤ → ℕ → ℤ
@@ -24,3 +24,18 @@ int_power z (suc n) = z *ℤ int_power z n
 pub record IsDivided (a b quotient rest : ℕ) : Type 0 where
   pub whole : a ≡ b * quotient + rest
   pub below : rest < b
+
+-- the size of a number or, below zero, of its complement
+abbrev pub folded : ℤ → ℕ
+folded (pos m) = m
+folded (negsuc m) = m
+
+-- a number by its sign and that size
+abbrev pub unfolded : Bool → ℕ → ℤ
+unfolded false m = pos m
+unfolded true m = negsuc m
+
+-- a dividend by a positive divisor: both change their signs where the divisor is below zero
+abbrev pub by_positive : ℤ → ℤ → ℤ
+by_positive a (pos n) = a
+by_positive a (negsuc n) = neg_ℤ a

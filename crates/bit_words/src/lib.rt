@@ -4,6 +4,7 @@
 pub mod bits;
 pub mod bitwise;
 pub mod compare;
+pub mod floor;
 pub mod gates;
 pub mod logic;
 pub mod magnitude;
