@@ -3,6 +3,7 @@ pub mod Appending
 pub mod BoundsLaws
 pub mod BoundsRanges
 pub mod Counting
+pub mod Decimals
 pub mod Digits
 pub mod FormulaMeaning
 pub mod Fronts
@@ -14,4 +15,5 @@ pub mod RuleNames
 pub mod RulesLaws
 pub mod RulesLoops
 pub mod SelectionLaws
+pub mod SevenItems
 pub mod VerdictLaws

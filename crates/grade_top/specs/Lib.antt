@@ -2,11 +2,14 @@ pub mod Agreement
 pub mod Answers
 pub mod BoundsForm
 pub mod BoundsReading
+pub mod Claims
 pub mod Decisions
+pub mod Ends
 pub mod FormulaValues
 pub mod Names
 pub mod ProgramForm
 pub mod Reports
+pub mod Request
 pub mod Rewriting
 pub mod RewritingViews
 pub mod RulesForm
@@ -18,3 +21,4 @@ pub mod Tables
 pub mod Texts
 pub mod Verdicts
 pub mod Views
+pub mod Words

@@ -7,14 +7,17 @@ mod bounds_form;
 mod evaluation;
 mod failure;
 mod formula;
+mod formula_text;
 mod least;
 mod numbers;
 mod program;
 #[cfg(test)]
 mod reading_tests;
+mod report;
 mod rewritings;
 mod rules_form;
 mod scan;
 mod search;
 mod tables;
 mod task;
+mod words;
