@@ -1,8 +1,14 @@
 pub mod BoundsLaws
 pub mod BoundsRanges
+pub mod ChainLaws
+pub mod ChainLoop
 pub mod Digits
 pub mod Fronts
+pub mod GroupingLaws
+pub mod GroupingSteps
 pub mod OneTask
+pub mod ProgramLaws
 pub mod RuleNames
 pub mod RulesLaws
 pub mod RulesLoops
+pub mod WrittenFormulas

@@ -2,9 +2,13 @@ pub mod Agreement
 pub mod Answers
 pub mod BoundsForm
 pub mod BoundsReading
+pub mod ChainGrouping
+pub mod ChainReading
 pub mod Decisions
+pub mod GroupingView
 pub mod Names
 pub mod ProgramForm
+pub mod ProgramReading
 pub mod Reports
 pub mod Rewriting
 pub mod RulesForm

@@ -2,9 +2,13 @@
 #![tactic(auto)]
 
 mod bounds_form;
+mod chain;
 mod formula;
+mod grouping;
+mod program_form;
 #[cfg(test)]
 mod reading_tests;
 mod rules_form;
 mod scan;
+mod shallow;
 mod task;
