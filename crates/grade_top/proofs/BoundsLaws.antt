@@ -1,20 +1,15 @@
 -- The six lines that are read are spelled by the bytes, and lines that are spelled are read.
-use Rattle.std.proofs.Common.{◌≡◌, ◌<◌, ◌≤◌, ◌^◌, ℕ, zero, suc, Bool, true, false, List, [], ◌∷◌, ◌++◌, length, Option, None, Some, refl, sym, ap, subst, ◌∙◌, cond, ℤ, pos, negsuc, codes, append_assoc, arith}
-use Rattle.std.specs.Prelude.{nat_abs, ◌&&◌, IsTrue, nat_le, ◌==◌}
-use Rattle.std.specs.Char.{is_ascii_digit}
+use Rattle.std.proofs.Common.{◌≡◌, ◌<◌, ◌≤◌, ◌^◌, ℕ, zero, suc, List, ◌∷◌, ◌++◌, Option, None, Some, refl, ap, subst, ◌∙◌, ℤ, pos, negsuc, codes, arith}
 use Rattle.std.specs.Fmt.{decimal, signed_decimal}
-use Rattle.std.specs.List.{list_all}
-use Rattle.std.proofs.lemmas.Bool.{false≢true, and_parts, and_from, leb-true, leb-false, ne_eqb, and_left}
 use Rattle.std.proofs.lemmas.Fmt.{decimal_nonempty}
 use Rattle.std.proofs.lemmas.Option.{cond_some}
 use Rattle.std.proofs.lemmas.Slice.Eq.{bytes_eq-Decides}
 use Rattle.mpy_tree.specs.Values.{same_bytes}
-use Rattle.grade_top.specs.Names.{is_name_byte, is_name, is_short_name, is_plain_name}
 use Rattle.grade_top.specs.BoundsForm.{BoundsLines, bounds_text, IsShortNumber, SpellsBounds}
-use Rattle.grade_top.specs.Scanning.{◌>>=◌, after, word_at, number_of, number_at, name_after}
+use Rattle.grade_top.specs.Scanning.{◌>>=◌, after, number_at, name_after}
 use Rattle.grade_top.specs.BoundsReading.{negative, signed_from, signed_at, signed_after, bounds_lines}
-use Rattle.grade_top.proofs.Digits.{number_takes, number_again, decimal_digits}
-use Rattle.grade_top.proofs.Fronts.{bind_some, after_again, after_takes, Stops, word_again, word_takes, number_at_takes, number_at_again, no_minus, name_after_takes, name_after_again}
+use Rattle.grade_top.proofs.Digits.{decimal_digits}
+use Rattle.grade_top.proofs.Fronts.{bind_some, after_again, after_takes, Stops, number_at_takes, number_at_again, no_minus, name_after_takes, name_after_again}
 
 -- a number behind a minus
 behind_minus : (n : ℕ) (z : ℤ) (text rest tail : List ℕ) → negative n ≡ Some z → text ≡ codes "-" ++ rest → rest ≡ decimal n ++ tail → n ≤ 999999999 → (text ≡ signed_decimal z ++ tail) × IsShortNumber z

@@ -1,5 +1,5 @@
 -- A chain that is read stands there, and a chain that stands there is read.
-use Rattle.std.proofs.Common.{◌≡◌, ◌≤◌, ◌<◌, ℕ, zero, suc, ◌+◌, List, [], ◌∷◌, ◌++◌, length, Option, Some, None, refl, sym, ap, subst, ◌∙◌, append_assoc, codes, true, false, Bool, cond, inl, inr, ◌^◌, length-append, arith}
+use Rattle.std.proofs.Common.{◌≡◌, ◌≤◌, ◌<◌, ℕ, zero, suc, List, [], ◌∷◌, ◌++◌, length, Option, Some, None, refl, sym, ap, subst, ◌∙◌, append_assoc, codes, true, false, inl, inr, ◌^◌, length-append, arith}
 use Rattle.std.specs.Prelude.{◌==◌, ◌||◌, nat_le}
 use Rattle.std.specs.Char.{is_ascii_digit}
 use Rattle.std.specs.Fmt.{decimal}
@@ -41,8 +41,8 @@ digit_no_start c digit =
     let low : 48 ≤ c = leb-true _ _ both.0 in
     let high : c ≤ 57 = leb-true _ _ both.1 in
     or_from (is_between 65 90 c || is_between 97 122 c) (c == 95)
-      (or_from (is_between 65 90 c) (is_between 97 122 c) (and_left (nat_le 65 c) (nat_le c 90) (lt-leb 65 c (omega arith))) (and_left (nat_le 97 c) (nat_le c 122) (lt-leb 97 c (omega arith))))
-      (ne_eqb c 95 (λ e. omega arith))
+    (or_from (is_between 65 90 c) (is_between 97 122 c) (and_left (nat_le 65 c) (nat_le c 90) (lt-leb 65 c (omega arith))) (and_left (nat_le 97 c) (nat_le c 122) (lt-leb 97 c (omega arith))))
+    (ne_eqb c 95 (λ e. omega arith))
 
 no_name : (ds x : List ℕ) → list_all is_ascii_digit ds ≡ true → 0 < length ds → is_name x ≡ true → ds ≡ x → ⊥
 no_name [] x all some name same = absurd (omega arith)
@@ -61,9 +61,9 @@ unfolding atom_of
 atom_of_takes param word a e = elim (one_way (same_bytes word param) (Some Param) (number_of 2147483647 word >>= λ n. Some (Number n)) (Some a) e) [
   | inl same ↦ subst (λ (b : Atom). (word ≡ atom_text param b) × IsSmall b) (same_Some Param a same.1) ((bytes_eq-Decides word param).0 same.0, tt)
   | inr other ↦
-    let n = bind_some (number_of 2147483647 word) _ a other.1 in
-    subst (λ (b : Atom). (word ≡ atom_text param b) × IsSmall b) (same_Some (Number n.0) a n.2) (number_takes 2147483647 word n.0 (omega arith) n.1)
-  ]
+      let n = bind_some (number_of 2147483647 word) _ a other.1 in
+      subst (λ (b : Atom). (word ≡ atom_text param b) × IsSmall b) (same_Some (Number n.0) a n.2) (number_takes 2147483647 word n.0 (omega arith) n.1)
+]
 
 atom_takes : (param text : List ℕ) (x : Atom × List ℕ) → atom_at param text ≡ Some x → (text ≡ atom_text param x.0 ++ x.1) × IsSmall x.0
 unfolding atom_at
@@ -71,7 +71,7 @@ atom_takes param text x e =
     let a = bind_some (atom_of param (word_at text).0) _ x e in
     let is = atom_of_takes param (word_at text).0 a.0 a.1 in
     subst (λ (y : Atom × List ℕ). (text ≡ atom_text param y.0 ++ y.1) × IsSmall y.0) (same_Some (a.0, (word_at text).1) x a.2)
-      (word_takes text ∙ ap (λ (w : List ℕ). w ++ (word_at text).1) is.0, is.1)
+    (word_takes text ∙ ap (λ (w : List ℕ). w ++ (word_at text).1) is.0, is.1)
 
 atom_again : (param rest : List ℕ) (a : Atom) → is_plain_name param ≡ true → IsSmall a → Stops rest → atom_at param (atom_text param a ++ rest) ≡ Some (a, rest)
 unfolding atom_at atom_of

@@ -1,6 +1,5 @@
 -- Reading the links of a chain one after the other, as a loop does.
 use Rattle.std.proofs.Common.{◌≡◌, ℕ, suc, ◌-◌, ◌+◌, ◌≤◌, ◌<◌, List, [], ◌∷◌, ◌++◌, Option, Some, None, refl, sym, ap, ◌∙◌, append_assoc, arith}
-use Rattle.std.specs.Option.{option_map_or}
 use Rattle.std.proofs.lemmas.List.{append-nil}
 use Rattle.grade_top.specs.declared.formula.Operation.{Operation}
 use Rattle.grade_top.specs.declared.chain.Atom.{Atom}

@@ -1,15 +1,15 @@
 -- What is read at the front of a text stands there, and what stands there is read.
-use Rattle.std.proofs.Common.{◌≡◌, ◌<◌, ◌≤◌, ◌+◌, ℕ, suc, Bool, true, false, List, [], ◌∷◌, ◌++◌, length, take, drop, Option, None, Some, refl, sym, ap, subst, ◌∙◌, cond, inl, inr, codes, ◌^◌, arith}
-use Rattle.std.specs.Prelude.{◌&&◌, ◌⊎◌, option_and_then}
+use Rattle.std.proofs.Common.{◌≡◌, ◌<◌, ◌≤◌, ℕ, Bool, true, false, List, [], ◌∷◌, ◌++◌, length, take, drop, Option, None, Some, refl, sym, ap, subst, ◌∙◌, cond, inl, inr, codes, ◌^◌, arith}
+use Rattle.std.specs.Prelude.{◌⊎◌}
 use Rattle.std.specs.Char.{is_ascii_digit}
 use Rattle.std.specs.Fmt.{decimal}
-use Rattle.std.specs.List.{list_all, prefix_len}
+use Rattle.std.specs.List.{list_all}
 use Rattle.std.proofs.lemmas.Bool.{and_parts, and_from, or_left}
 use Rattle.std.proofs.lemmas.List.{take_at, drop_at, take-append-drop}
 use Rattle.std.proofs.lemmas.Option.{cond_some, some_pair_parts}
 use Rattle.std.proofs.lemmas.Slice.Eq.{bytes_eq-Decides}
 use Rattle.mpy_tree.specs.Values.{same_bytes}
-use Rattle.grade_top.specs.Names.{is_between, is_name_start, is_name_byte, is_name, is_short_name, is_plain_name}
+use Rattle.grade_top.specs.Names.{is_between, is_name_start, is_name_byte, is_name, is_plain_name}
 use Rattle.grade_top.specs.Scanning.{◌>>=◌, after, word_len, word_at, number_of, number_at, name_after}
 use Rattle.grade_top.proofs.Digits.{number_takes, number_again, decimal_in_word, is_no_minus}
 

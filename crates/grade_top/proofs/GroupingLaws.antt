@@ -1,12 +1,10 @@
 -- Grouping gives a bare formula with the text of the chain, and each bare formula comes from its own chain.
-use Rattle.std.proofs.Common.{◌≡◌, ◌≤◌, ◌<◌, ◌+◌, max, ℕ, List, [], ◌∷◌, ◌++◌, Option, Some, None, refl, sym, ap, ◌∙◌, append_assoc, cond, false, arith}
-use Rattle.std.specs.Prelude.{nat_lt}
+use Rattle.std.proofs.Common.{◌≡◌, ◌≤◌, ℕ, List, [], ◌∷◌, ◌++◌, Option, Some, None, refl, sym, ap, ◌∙◌, append_assoc, arith}
 use Rattle.std.proofs.lemmas.Bool.{le-ltb}
 use Rattle.std.proofs.lemmas.List.{append-nil}
 use Rattle.mpy_tree.specs.declared.operators.ArithOp.{ArithOp}
-use Rattle.mpy_tree.specs.declared.operators.ArithOp.TheVariants as arith_op
-use Rattle.mpy_tree.specs.Syntax.{Term, Number, Var, Binary}
-use Rattle.mpy_tree.specs.Printing.{level_of, left_level, right_level, arith_level, at_level, text_of, arith_text, spaced}
+use Rattle.mpy_tree.specs.Syntax.{Term, Binary}
+use Rattle.mpy_tree.specs.Printing.{level_of, left_level, right_level, arith_level, text_of, arith_text, spaced}
 use Rattle.grade_top.specs.declared.formula.Operation.{Operation}
 use Rattle.grade_top.specs.declared.formula.Operation.TheVariants.{Add, Sub, Mul}
 use Rattle.grade_top.specs.declared.chain.Atom.{Atom}

@@ -1,6 +1,5 @@
 -- Terms that aren't too deep, and what a step of grouping leaves to be done.
-use Rattle.std.proofs.Common.{◌≡◌, ◌≤◌, ◌<◌, ◌+◌, max, ℕ, List, [], ◌∷◌, Option, Some, None, refl, sym, ap, ◌∙◌, true, false, inl, inr, arith}
-use Rattle.std.specs.Prelude.{nat_le}
+use Rattle.std.proofs.Common.{◌≡◌, ◌≤◌, ◌<◌, ℕ, List, ◌∷◌, Option, Some, None, refl, sym, ap, ◌∙◌, inl, inr, arith}
 use Rattle.std.proofs.lemmas.Bool.{le-leb, lt-leb, cases_lt}
 use Rattle.mpy_tree.specs.Syntax.{Term, Binary}
 use Rattle.grade_top.specs.declared.formula.Operation.{Operation}
@@ -21,13 +20,13 @@ pub is_deep : (e : Term) → shallow e ≡ None → 32 < depth_of e
 is_deep e none = elim (cases_lt 32 (depth_of e)) [
   | inl deep ↦ deep
   | inr within ↦ let some = shallow_is e within in absurd cc
-  ]
+]
 
 pub shallow_value : (e t : Term) → shallow e ≡ Some t → e ≡ t
 shallow_value e t some = elim (cases_lt 32 (depth_of e)) [
   | inl deep ↦ let none = deep_is e deep in absurd cc
   | inr within ↦ let is = shallow_is e within in cc
-  ]
+]
 
 -- what is too deep stays too deep, however the chain goes on
 pub deep_front : (x : List ℕ) (sum : Option (Term × Operation)) (p : Term) (links : List Link) → shallow (closed sum p) ≡ None → shallow (grouped x sum p links) ≡ None
@@ -75,4 +74,4 @@ pub is_shallow : (e t : Term) → shallow e ≡ Some t → depth_of e ≤ 32
 is_shallow e t some = elim (cases_lt 32 (depth_of e)) [
   | inl deep ↦ let none = deep_is e deep in absurd cc
   | inr within ↦ within
-  ]
+]

@@ -6,7 +6,7 @@ pub mod Digits
 pub mod Fronts
 pub mod GroupingLaws
 pub mod GroupingSteps
-pub mod OneTask
+pub mod OneReading
 pub mod ProgramLaws
 pub mod RuleNames
 pub mod RulesLaws

@@ -1,6 +1,6 @@
 -- The program that is read is spelled by the bytes, and a program that is spelled is read.
-use Rattle.std.proofs.Common.{◌≡◌, ◌≤◌, ℕ, List, [], ◌∷◌, ◌++◌, Option, Some, None, refl, sym, ap, subst, ◌∙◌, append_assoc, codes, true, false, cond, arith}
-use Rattle.std.specs.Prelude.{option_map, MatchOption, not}
+use Rattle.std.proofs.Common.{◌≡◌, ◌≤◌, ℕ, List, ◌++◌, Option, Some, None, refl, sym, ap, subst, ◌∙◌, append_assoc, codes, true, false, cond}
+use Rattle.std.specs.Prelude.{option_map, MatchOption}
 use Rattle.std.proofs.lemmas.Bool.{not_from_false, not-true}
 use Rattle.std.proofs.lemmas.List.{append-nil}
 use Rattle.std.proofs.lemmas.Option.{same_Some}
@@ -10,8 +10,8 @@ use Rattle.mpy_tree.specs.Printing.{program_text, text_of}
 use Rattle.mpy_tree.specs.Values.{same_bytes}
 use Rattle.grade_top.specs.Names.{is_in, builtins, is_plain_name}
 use Rattle.grade_top.specs.ProgramForm.{Function, program, IsFormula, IsBare, depth_of, IsProgram, HaveNoProgram}
-use Rattle.grade_top.specs.Scanning.{◌>>=◌, after, name_after}
-use Rattle.grade_top.specs.ChainReading.{Written, written_at, written_text}
+use Rattle.grade_top.specs.Scanning.{after, name_after}
+use Rattle.grade_top.specs.ChainReading.{written_at, written_text}
 use Rattle.grade_top.specs.ChainGrouping.{term_written, shallow}
 use Rattle.grade_top.specs.ProgramReading.{heading_at, formula_read, function_read}
 use Rattle.grade_top.proofs.Fronts.{bind_some, when_some, unless_some, after_again, after_takes, name_after_takes, name_after_again}
@@ -46,10 +46,10 @@ heading_take entry bytes x e =
     let rest = bind_some (after (codes "):\n    return ") param.0.1) _ x param.2 in
     let taken = name_after_takes (codes "(") open_at.0 param.0 param.1 in
     let text : bytes ≡ heading_text entry param.0.0 rest.0 =
-        after_takes (codes "def ") bytes name.0 name.1
-        ∙ ap (λ (t : List ℕ). codes "def " ++ t) (after_takes entry name.0 open_at.0 open_at.1
-        ∙ ap (λ (t : List ℕ). entry ++ t) (taken.0
-        ∙ ap (λ (t : List ℕ). codes "(" ++ (param.0.0 ++ t)) (after_takes (codes "):\n    return ") param.0.1 rest.0 rest.1))) in
+    after_takes (codes "def ") bytes name.0 name.1
+    ∙ ap (λ (t : List ℕ). codes "def " ++ t) (after_takes entry name.0 open_at.0 open_at.1
+    ∙ ap (λ (t : List ℕ). entry ++ t) (taken.0
+    ∙ ap (λ (t : List ℕ). codes "(" ++ (param.0.0 ++ t)) (after_takes (codes "):\n    return ") param.0.1 rest.0 rest.1))) in
     subst (λ (y : List ℕ × List ℕ). (bytes ≡ heading_text entry y.0 y.1) × (is_plain_name y.0 ≡ true)) (same_Some (param.0.0, rest.0) x rest.2) (text, taken.1)
 
 heading_again : (entry param rest : List ℕ) → is_plain_name param ≡ true → heading_at entry (heading_text entry param rest) ≡ Some (param, rest)
@@ -101,14 +101,14 @@ read_is_program entry bytes f e =
     let is = formula_take heading.0.0 heading.0.1 body.0 body.1 in
     let g : Function = record { param = heading.0.0; body = body.0 } in
     subst (λ (h : Function). IsProgram bytes entry h) (same_Some g f body.2)
-      (record {
-        text = head.0 ∙ ap (λ (t : List ℕ). heading_text entry heading.0.0 t) is.spelled ∙ sym (flat_text entry g);
-        no_builtin = not_from_false (is_in entry builtins) own.0;
-        param = head.1;
-        formula = is.formula;
-        bare = is.bare;
-        shallow = is.within
-      })
+    (record {
+      text = head.0 ∙ ap (λ (t : List ℕ). heading_text entry heading.0.0 t) is.spelled ∙ sym (flat_text entry g);
+      no_builtin = not_from_false (is_in entry builtins) own.0;
+      param = head.1;
+      formula = is.formula;
+      bare = is.bare;
+      shallow = is.within;
+    })
 
 -- what is spelled so is read
 pub program_is_read : (entry bytes : List ℕ) (f : Function) → IsProgram bytes entry f → function_read entry bytes ≡ Some f

@@ -1,11 +1,11 @@
 -- The rules that are read are spelled by the bytes, and rules that are spelled are read.
-use Rattle.std.proofs.Common.{◌≡◌, ◌≤◌, ◌<◌, ℕ, zero, suc, List, [], ◌∷◌, ◌++◌, length, map, Option, Some, None, refl, sym, ap, subst, ◌∙◌, append_assoc, codes, true, false, Bool, cond, inl, inr, arith}
-use Rattle.std.specs.Prelude.{◌==◌, ◌⊎◌, nat_le, option_map, MatchOption}
+use Rattle.std.proofs.Common.{◌≡◌, ◌≤◌, ℕ, zero, suc, List, [], ◌∷◌, ◌++◌, length, map, Option, Some, None, refl, sym, ap, subst, ◌∙◌, append_assoc, codes, true, false, cond, inl, inr, arith}
+use Rattle.std.specs.Prelude.{◌==◌, nat_le, option_map, MatchOption}
 use Rattle.std.specs.Fmt.{decimal}
-use Rattle.std.specs.List.{AllByRecursion, flat_map}
+use Rattle.std.specs.List.{AllByRecursion}
 use Rattle.std.specs.Option.{option_map_or}
 use Rattle.std.proofs.lemmas.Bool.{and_parts, leb-true, le-leb, eqb-true, ne_eqb}
-use Rattle.std.proofs.lemmas.List.{append-nil, nil_from_length}
+use Rattle.std.proofs.lemmas.List.{nil_from_length}
 use Rattle.std.proofs.lemmas.Option.{cond_some, same_Some}
 use Rattle.mpy_tree.specs.Printing.{commas}
 use Rattle.grade_top.specs.Names.{is_short_name}

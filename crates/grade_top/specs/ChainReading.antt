@@ -28,15 +28,15 @@ atom_at param text = do
 -- an operation with a space on each side
 unfoldable pub operation_at : List ℕ → Option (Operation × List ℕ)
 operation_at text =
-  option_map_or (λ (rest : List ℕ). Some (Add, rest)) (after (codes " + ") text)
-  (option_map_or (λ (rest : List ℕ). Some (Sub, rest)) (after (codes " - ") text)
-  (option_map_or (λ (rest : List ℕ). Some (Mul, rest)) (after (codes " * ") text) None))
+    option_map_or (λ (rest : List ℕ). Some (Add, rest)) (after (codes " + ") text)
+    (option_map_or (λ (rest : List ℕ). Some (Sub, rest)) (after (codes " - ") text)
+    (option_map_or (λ (rest : List ℕ). Some (Mul, rest)) (after (codes " * ") text) None))
 
 -- at most so many links, and the rest
 unfoldable pub links_at : ℕ → List ℕ → List ℕ → Option (List Link × List ℕ)
 links_at zero param text = Some ([], text)
 links_at (suc k) param text =
-  option_map_or (λ (op : Operation × List ℕ). atom_at param op.1 >>= λ atom. links_at k param atom.1 >>= λ more. Some (record { operation = op.0; atom = atom.0 } ∷ more.0, more.1)) (operation_at text) (Some ([], text))
+    option_map_or (λ (op : Operation × List ℕ). atom_at param op.1 >>= λ atom. links_at k param atom.1 >>= λ more. Some (record { operation = op.0; atom = atom.0 } ∷ more.0, more.1)) (operation_at text) (Some ([], text))
 
 unfoldable pub written_at : List ℕ → List ℕ → Option (Written × List ℕ)
 written_at param text = do

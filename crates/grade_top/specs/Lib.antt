@@ -7,6 +7,7 @@ pub mod ChainReading
 pub mod Decisions
 pub mod GroupingView
 pub mod Names
+pub mod OneTask
 pub mod ProgramForm
 pub mod ProgramReading
 pub mod Reports

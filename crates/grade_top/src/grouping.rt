@@ -18,7 +18,11 @@ struct Grouping {
     product: Shallow,
 }
 
-fn close(alloc: Global, sum: Option<(Shallow, Operation)>, product: Shallow) -> Result<Option<Shallow>, NoMemory>
+fn close(
+    alloc: Global,
+    sum: Option<(Shallow, Operation)>,
+    product: Shallow,
+) -> Result<Option<Shallow>, NoMemory>
     ensures { IfOk result (λ o. (param : List ℕ) → option_map (tree_term param) o ≡ shallow (closed (sum_terms param sum) (tree_term param product))) }
 {
     match sum {
@@ -43,7 +47,10 @@ fn next(alloc: Global, grouping: Grouping, link: Link) -> Result<Option<Grouping
             let Some(whole) = close(alloc, sum, product)? else {
                 return Ok(None);
             };
-            Ok(Some(Grouping { sum: Some((whole, operation)), product: operand }))
+            Ok(Some(Grouping {
+                sum: Some((whole, operation)),
+                product: operand,
+            }))
         }
     }
 }
@@ -52,7 +59,10 @@ fn next(alloc: Global, grouping: Grouping, link: Link) -> Result<Option<Grouping
 pub(crate) fn group(alloc: Global, first: Atom, links: &[Link]) -> Result<Option<Formula>, NoMemory>
     ensures { IfOk result (λ o. (param : List ℕ) → option_map (term_of param) o ≡ shallow (grouped param None (leaf param first) links.now)) }
 {
-    let mut grouping = Grouping { sum: None, product: leaf(first) };
+    let mut grouping = Grouping {
+        sum: None,
+        product: leaf(first),
+    };
     for link in links {
         let Some(longer) = next(alloc, grouping, *link)? else {
             return Ok(None);

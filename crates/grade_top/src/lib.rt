@@ -5,6 +5,7 @@ mod bounds_form;
 mod chain;
 mod formula;
 mod grouping;
+mod laws;
 mod program_form;
 #[cfg(test)]
 mod reading_tests;
@@ -12,3 +13,5 @@ mod rules_form;
 mod scan;
 mod shallow;
 mod task;
+
+pub use laws::one_task;

@@ -58,7 +58,11 @@ fn function_read(alloc: Global, entry: &[u8], bytes: &[u8]) -> Result<Option<Fun
 }
 
 /// The function that the bytes spell under the entry's name, if they spell one.
-pub(crate) fn read_program(alloc: Global, bytes: &[u8], entry: &Name) -> Result<Option<Function>, NoMemory>
+pub(crate) fn read_program(
+    alloc: Global,
+    bytes: &[u8],
+    entry: &Name,
+) -> Result<Option<Function>, NoMemory>
     ensures { IfOk result (λ o. MatchOption o (HaveNoProgram bytes.now entry.now) (λ f. IsProgram bytes.now entry.now (function_of f))) }
 {
     function_read(alloc, entry.bytes(), bytes)

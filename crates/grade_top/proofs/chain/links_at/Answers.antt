@@ -1,6 +1,5 @@
 use Rattle.std.proofs.Common.{◌≡◌, ◌++◌, ◌∷◌, [], length, sym}
 use Rattle.grade_top.specs.declared.chain.Link.{Link}
-use Rattle.grade_top.specs.ChainReading.{links_at}
 use Rattle.grade_top.proofs.ChainLoop.{last_link, no_atom, more_links, all_links}
 use Rattle.grade_top.proofs.chain.links_at.Goals as goal
 

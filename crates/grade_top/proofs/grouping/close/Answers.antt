@@ -1,4 +1,4 @@
-use Rattle.std.proofs.Common.{◌≡◌, ◌≤◌, sym, arith}
+use Rattle.std.proofs.Common.{◌≤◌, sym, arith}
 use Rattle.grade_top.specs.ProgramForm.{depth_of}
 use Rattle.grade_top.specs.GroupingView.{tree_term}
 use Rattle.grade_top.proofs.GroupingSteps.{shallow_is}

@@ -1,9 +1,8 @@
-use Rattle.std.proofs.Common.{◌≡◌, ℕ, List, ◌∷◌, ◌+◌, None, Some, drop, get_or, sym, ap, ◌∙◌}
+use Rattle.std.proofs.Common.{List, ◌+◌, drop, sym, ◌∙◌}
 use Rattle.std.proofs.lemmas.List.{at_drop_more, at_drop_all}
 use Rattle.grade_top.specs.declared.chain.Link.{Link}
-use Rattle.grade_top.specs.ChainGrouping.{leaf, closed, grouped, shallow}
-use Rattle.grade_top.specs.GroupingView.{tree_term, sum_terms, finished}
-use Rattle.grade_top.specs.Views.{operator_of, term_of}
+use Rattle.grade_top.specs.ChainGrouping.{grouped}
+use Rattle.grade_top.specs.GroupingView.{finished}
 use Rattle.grade_top.proofs.grouping.group.Goals as goal
 
 pub returns-in_default : goal.returns-in_default

@@ -1,9 +1,6 @@
-use Rattle.std.proofs.Common.{◌≡◌, ℕ, List, ◌∷◌, None, Some, sym, ap}
-use Rattle.mpy_tree.specs.Syntax.{Term, Binary}
-use Rattle.grade_top.specs.declared.formula.Operation.TheVariants.{Mul}
-use Rattle.grade_top.specs.ChainGrouping.{leaf, closed, grouped, shallow}
-use Rattle.grade_top.specs.GroupingView.{tree_term, sum_terms, finished}
-use Rattle.grade_top.specs.Views.{operator_of, term_of}
+use Rattle.std.proofs.Common.{◌≡◌, ◌∷◌, sym, ap}
+use Rattle.grade_top.specs.ChainGrouping.{leaf, shallow}
+use Rattle.grade_top.specs.GroupingView.{tree_term, sum_terms}
 use Rattle.grade_top.proofs.GroupingSteps.{product_too_deep, product_goes_on, sum_goes_on, deep_front}
 use Rattle.grade_top.proofs.grouping.next.Goals as goal
 

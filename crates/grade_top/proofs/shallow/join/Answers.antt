@@ -1,6 +1,5 @@
-use Rattle.std.proofs.Common.{◌≡◌, ◌+◌, max, ℕ, List, Some, sym, ap, ◌∙◌, arith}
+use Rattle.std.proofs.Common.{Some, sym, ap, ◌∙◌, arith}
 use Rattle.mpy_tree.specs.Syntax.{Term, Binary}
-use Rattle.grade_top.specs.ProgramForm.{depth_of}
 use Rattle.grade_top.specs.Views.{operator_of, term_of}
 use Rattle.grade_top.proofs.GroupingSteps.{shallow_is, deep_is}
 use Rattle.grade_top.proofs.shallow.join.Goals as goal
