@@ -1,20 +1,15 @@
 -- The six lines that are read are spelled by the bytes, and lines that are spelled are read.
-use Rattle.std.proofs.Common.{◌≡◌, ◌<◌, ◌≤◌, ◌^◌, ℕ, zero, suc, Bool, true, false, List, [], ◌∷◌, ◌++◌, length, Option, None, Some, refl, sym, ap, subst, ◌∙◌, cond, ℤ, pos, negsuc, codes, append_assoc, arith}
-use Rattle.std.specs.Prelude.{nat_abs, ◌&&◌, IsTrue, nat_le, ◌==◌}
-use Rattle.std.specs.Char.{is_ascii_digit}
+use Rattle.std.proofs.Common.{◌≡◌, ◌<◌, ◌≤◌, ◌^◌, ℕ, zero, suc, List, ◌∷◌, ◌++◌, Option, None, Some, refl, ap, subst, ◌∙◌, ℤ, pos, negsuc, codes, arith}
 use Rattle.std.specs.Fmt.{decimal, signed_decimal}
-use Rattle.std.specs.List.{list_all}
-use Rattle.std.proofs.lemmas.Bool.{false≢true, and_parts, and_from, leb-true, leb-false, ne_eqb, and_left}
 use Rattle.std.proofs.lemmas.Fmt.{decimal_nonempty}
 use Rattle.std.proofs.lemmas.Option.{cond_some}
 use Rattle.std.proofs.lemmas.Slice.Eq.{bytes_eq-Decides}
 use Rattle.mpy_tree.specs.Values.{same_bytes}
-use Rattle.grade_top.specs.Names.{is_name_byte, is_name, is_short_name, is_plain_name}
 use Rattle.grade_top.specs.BoundsForm.{BoundsLines, bounds_text, IsShortNumber, SpellsBounds}
-use Rattle.grade_top.specs.Scanning.{◌>>=◌, after, word_at, number_of, number_at}
-use Rattle.grade_top.specs.BoundsReading.{negative, signed_from, signed_at, signed_after, name_after, bounds_lines}
-use Rattle.grade_top.proofs.Digits.{number_takes, number_again, decimal_digits}
-use Rattle.grade_top.proofs.Fronts.{bind_some, after_again, after_takes, Stops, word_again, word_takes, number_at_takes, number_at_again, name_in_word, no_minus}
+use Rattle.grade_top.specs.Scanning.{◌>>=◌, after, number_at, name_after}
+use Rattle.grade_top.specs.BoundsReading.{negative, signed_from, signed_at, signed_after, bounds_lines}
+use Rattle.grade_top.proofs.Digits.{decimal_digits}
+use Rattle.grade_top.proofs.Fronts.{bind_some, after_again, after_takes, Stops, number_at_takes, number_at_again, no_minus, name_after_takes, name_after_again}
 
 -- a number behind a minus
 behind_minus : (n : ℕ) (z : ℤ) (text rest tail : List ℕ) → negative n ≡ Some z → text ≡ codes "-" ++ rest → rest ≡ decimal n ++ tail → n ≤ 999999999 → (text ≡ signed_decimal z ++ tail) × IsShortNumber z
@@ -65,22 +60,6 @@ signed_after_takes mark text x e =
 pub signed_after_again : (mark : List ℕ) (z : ℤ) (rest : List ℕ) → IsShortNumber z → Stops rest → signed_after mark (mark ++ (signed_decimal z ++ rest)) ≡ Some (z, rest)
 unfolding signed_after
 signed_after_again mark z rest short stops = rw (after_again mark (signed_decimal z ++ rest)) (signed_again z rest short stops)
-
--- a name
-pub name_after_takes : (mark text : List ℕ) (x : List ℕ × List ℕ) → name_after mark text ≡ Some x → (text ≡ mark ++ (x.0 ++ x.1)) × (is_plain_name x.0 ≡ true)
-unfolding name_after
-name_after_takes mark text x e =
-    let rest = bind_some (after mark text) (λ r. cond (is_plain_name (word_at r).0) (Some (word_at r)) None) x e in
-    let both = cond_some (is_plain_name (word_at rest.0).0) (word_at rest.0) x rest.2 in
-    let parts = subst (λ (p : List ℕ × List ℕ). rest.0 ≡ p.0 ++ p.1) both.1 (word_takes rest.0) in
-    (after_takes mark text rest.0 rest.1 ∙ ap (λ (t : List ℕ). mark ++ t) parts, subst (λ (p : List ℕ × List ℕ). is_plain_name p.0 ≡ true) both.1 both.0)
-
-pub name_after_again : (mark x rest : List ℕ) → is_plain_name x ≡ true → Stops rest → name_after mark (mark ++ (x ++ rest)) ≡ Some (x, rest)
-unfolding name_after
-name_after_again mark x rest plain stops =
-    let name = (and_parts _ _ (and_parts _ _ plain).0).0 in
-    let word = word_again x rest (name_in_word x name) stops in
-    rw (after_again mark (x ++ rest), word, plain) refl
 
 -- a text that goes on as another
 joined : {text rest more : List ℕ} (mark part : List ℕ) → text ≡ mark ++ (part ++ rest) → rest ≡ more → text ≡ mark ++ (part ++ more)

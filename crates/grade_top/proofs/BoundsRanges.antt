@@ -1,5 +1,5 @@
 -- What the ranges of the bounds say of the numbers.
-use Rattle.std.proofs.Common.{◌≡◌, ◌≤◌, ℕ, Bool, true, false, Option, None, Some, refl, ℤ, pos, negsuc, cond}
+use Rattle.std.proofs.Common.{◌≡◌, ℕ, Bool, true, false, Option, None, Some, refl, ℤ, pos, negsuc, cond}
 use Rattle.std.specs.Prelude.{not, nat_abs}
 use Rattle.std.proofs.lemmas.Bool.{false≢true, and_parts, leb-true}
 use Rattle.grade_top.specs.BoundsForm.{BoundsLines, is_from_to, is_param_range, range_fault}

@@ -1,22 +1,37 @@
 -- What is read at the front of a text stands there, and what stands there is read.
-use Rattle.std.proofs.Common.{◌≡◌, ◌<◌, ◌≤◌, ◌+◌, ℕ, suc, Bool, true, false, List, [], ◌∷◌, ◌++◌, length, take, drop, Option, None, Some, refl, sym, ap, ◌∙◌, cond, codes, ◌^◌, arith}
-use Rattle.std.specs.Prelude.{◌&&◌, option_and_then}
+use Rattle.std.proofs.Common.{◌≡◌, ◌<◌, ◌≤◌, ℕ, Bool, true, false, List, [], ◌∷◌, ◌++◌, length, take, drop, Option, None, Some, refl, sym, ap, subst, ◌∙◌, cond, inl, inr, codes, ◌^◌, arith}
+use Rattle.std.specs.Prelude.{◌⊎◌}
 use Rattle.std.specs.Char.{is_ascii_digit}
 use Rattle.std.specs.Fmt.{decimal}
-use Rattle.std.specs.List.{list_all, prefix_len}
+use Rattle.std.specs.List.{list_all}
 use Rattle.std.proofs.lemmas.Bool.{and_parts, and_from, or_left}
 use Rattle.std.proofs.lemmas.List.{take_at, drop_at, take-append-drop}
 use Rattle.std.proofs.lemmas.Option.{cond_some, some_pair_parts}
 use Rattle.std.proofs.lemmas.Slice.Eq.{bytes_eq-Decides}
 use Rattle.mpy_tree.specs.Values.{same_bytes}
-use Rattle.grade_top.specs.Names.{is_between, is_name_start, is_name_byte, is_name}
-use Rattle.grade_top.specs.Scanning.{◌>>=◌, after, word_len, word_at, number_of, number_at}
+use Rattle.grade_top.specs.Names.{is_between, is_name_start, is_name_byte, is_name, is_plain_name}
+use Rattle.grade_top.specs.Scanning.{◌>>=◌, after, word_len, word_at, number_of, number_at, name_after}
 use Rattle.grade_top.proofs.Digits.{number_takes, number_again, decimal_in_word, is_no_minus}
 
 -- the value of a step that gave one
 pub bind_some : {A B : Type 0} (o : Option A) (f : A → Option B) (y : B) → (o >>= f) ≡ Some y → (x : A) × (o ≡ Some x) × (f x ≡ Some y)
 bind_some None f y e = absurd cc
 bind_some (Some x) f y e = (x, refl, e)
+
+-- a step that is taken only where a test passes
+pub when_some : {A : Type 0} (b : Bool) (o : Option A) (x : A) → cond b o None ≡ Some x → (b ≡ true) × (o ≡ Some x)
+when_some true o x e = (refl, e)
+when_some false o x e = absurd cc
+
+-- and one that is taken only where it doesn't pass
+pub unless_some : {A : Type 0} (b : Bool) (o : Option A) (x : A) → cond b None o ≡ Some x → (b ≡ false) × (o ≡ Some x)
+unless_some true o x e = absurd cc
+unless_some false o x e = (refl, e)
+
+-- which way a test went
+pub one_way : {A : Type 0} (b : Bool) (x y z : A) → cond b x y ≡ z → ((b ≡ true) × (x ≡ z)) ⊎ ((b ≡ false) × (y ≡ z))
+one_way true x y z e = inl (refl, e)
+one_way false x y z e = inr (refl, e)
 
 pub after_again : (mark rest : List ℕ) → after mark (mark ++ rest) ≡ Some rest
 unfolding after
@@ -81,3 +96,18 @@ no_minus [] rest all some = absurd (omega arith)
 no_minus (c ∷ cs) rest all some =
     let both = and_parts (is_ascii_digit c) (list_all is_ascii_digit cs) all in
     rw (is_no_minus c both.0) refl
+
+pub name_after_takes : (mark text : List ℕ) (x : List ℕ × List ℕ) → name_after mark text ≡ Some x → (text ≡ mark ++ (x.0 ++ x.1)) × (is_plain_name x.0 ≡ true)
+unfolding name_after
+name_after_takes mark text x e =
+    let rest = bind_some (after mark text) (λ r. cond (is_plain_name (word_at r).0) (Some (word_at r)) None) x e in
+    let both = cond_some (is_plain_name (word_at rest.0).0) (word_at rest.0) x rest.2 in
+    let parts = subst (λ (p : List ℕ × List ℕ). rest.0 ≡ p.0 ++ p.1) both.1 (word_takes rest.0) in
+    (after_takes mark text rest.0 rest.1 ∙ ap (λ (t : List ℕ). mark ++ t) parts, subst (λ (p : List ℕ × List ℕ). is_plain_name p.0 ≡ true) both.1 both.0)
+
+pub name_after_again : (mark x rest : List ℕ) → is_plain_name x ≡ true → Stops rest → name_after mark (mark ++ (x ++ rest)) ≡ Some (x, rest)
+unfolding name_after
+name_after_again mark x rest plain stops =
+    let name = (and_parts _ _ (and_parts _ _ plain).0).0 in
+    let word = word_again x rest (name_in_word x name) stops in
+    rw (after_again mark (x ++ rest), word, plain) refl

@@ -2,14 +2,20 @@ pub mod AgreementLaws
 pub mod Appending
 pub mod BoundsLaws
 pub mod BoundsRanges
+pub mod ChainLaws
+pub mod ChainLoop
 pub mod Counting
 pub mod Decimals
 pub mod Digits
 pub mod FormulaMeaning
 pub mod Fronts
+pub mod GroupingLaws
+pub mod GroupingSteps
 pub mod Keeping
 pub mod Leasts
+pub mod OneReading
 pub mod OneTask
+pub mod ProgramLaws
 pub mod Ranges
 pub mod RuleNames
 pub mod RulesLaws
@@ -17,3 +23,4 @@ pub mod RulesLoops
 pub mod SelectionLaws
 pub mod SevenItems
 pub mod VerdictLaws
+pub mod WrittenFormulas

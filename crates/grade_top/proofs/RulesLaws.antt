@@ -1,28 +1,18 @@
 -- The rules that are read are spelled by the bytes, and rules that are spelled are read.
-use Rattle.std.proofs.Common.{◌≡◌, ◌≤◌, ◌<◌, ℕ, zero, suc, List, [], ◌∷◌, ◌++◌, length, map, Option, Some, None, refl, sym, ap, subst, ◌∙◌, append_assoc, codes, true, false, Bool, cond, inl, inr, arith}
-use Rattle.std.specs.Prelude.{◌==◌, ◌⊎◌, nat_le, option_map, MatchOption}
+use Rattle.std.proofs.Common.{◌≡◌, ◌≤◌, ℕ, zero, suc, List, [], ◌∷◌, ◌++◌, length, map, Option, Some, None, refl, sym, ap, subst, ◌∙◌, append_assoc, codes, true, false, cond, inl, inr, arith}
+use Rattle.std.specs.Prelude.{◌==◌, nat_le, option_map, MatchOption}
 use Rattle.std.specs.Fmt.{decimal}
-use Rattle.std.specs.List.{AllByRecursion, flat_map}
+use Rattle.std.specs.List.{AllByRecursion}
 use Rattle.std.specs.Option.{option_map_or}
 use Rattle.std.proofs.lemmas.Bool.{and_parts, leb-true, le-leb, eqb-true, ne_eqb}
-use Rattle.std.proofs.lemmas.List.{append-nil, nil_from_length}
+use Rattle.std.proofs.lemmas.List.{nil_from_length}
 use Rattle.std.proofs.lemmas.Option.{cond_some, same_Some}
 use Rattle.mpy_tree.specs.Printing.{commas}
 use Rattle.grade_top.specs.Names.{is_short_name}
 use Rattle.grade_top.specs.RulesForm.{Rule, rule_text, rules_text, IsLiteral, IsRule, IsRules, HaveNoRules, are_distinct}
 use Rattle.grade_top.specs.Scanning.{◌>>=◌, after, word_at, number_at}
 use Rattle.grade_top.specs.RulesReading.{literals_at, head_at, rule_at, rules_at, rules_read}
-use Rattle.grade_top.proofs.Fronts.{bind_some, after_again, after_takes, Stops, word_again, word_takes, number_at_takes, number_at_again, name_in_word}
-
--- a step that is taken only where a test passes
-when_some : {A : Type 0} (b : Bool) (o : Option A) (x : A) → cond b o None ≡ Some x → (b ≡ true) × (o ≡ Some x)
-when_some true o x e = (refl, e)
-when_some false o x e = absurd cc
-
--- which way a test went
-one_way : {A : Type 0} (b : Bool) (x y z : A) → cond b x y ≡ z → ((b ≡ true) × (x ≡ z)) ⊎ ((b ≡ false) × (y ≡ z))
-one_way true x y z e = inl (refl, e)
-one_way false x y z e = inr (refl, e)
+use Rattle.grade_top.proofs.Fronts.{bind_some, when_some, one_way, after_again, after_takes, Stops, word_again, word_takes, number_at_takes, number_at_again, name_in_word}
 
 no_comma : (rest : List ℕ) → after (codes ", ") (codes "}\n" ++ rest) ≡ None
 unfolding after

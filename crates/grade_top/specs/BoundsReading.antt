@@ -4,9 +4,8 @@ use Rattle.mpy_tree.specs.Values.{same_bytes}
 use Rattle.grade_top.specs.declared.bounds_form.Lines.{Lines}
 use Rattle.grade_top.specs.declared.bounds_form.BoundsRead.{BoundsRead}
 use Rattle.grade_top.specs.declared.bounds_form.BoundsRead.TheVariants.{Bounds, OutOfRange, NotYet}
-use Rattle.grade_top.specs.Names.{is_plain_name}
 use Rattle.grade_top.specs.BoundsForm.{BoundsLines, is_param_range, IsBounds, IsOutOfRange, HaveNoBounds}
-use Rattle.grade_top.specs.Scanning.{◌>>=◌, after, word_at, number_at}
+use Rattle.grade_top.specs.Scanning.{◌>>=◌, after, number_at, name_after}
 use Rattle.grade_top.specs.Views.{bounds_of}
 
 -- a number behind a minus, which isn't 0
@@ -32,12 +31,6 @@ unfoldable pub signed_after : List ℕ → List ℕ → Option (ℤ × List ℕ)
 signed_after mark text = do
   rest ← after mark text
   signed_at rest
-
--- the name behind the mark, and the rest
-unfoldable pub name_after : List ℕ → List ℕ → Option (List ℕ × List ℕ)
-name_after mark text = do
-  rest ← after mark text
-  if is_plain_name (word_at rest).0 then Some (word_at rest) else None
 
 -- what the six lines say
 unfoldable pub bounds_lines : List ℕ → Option BoundsLines

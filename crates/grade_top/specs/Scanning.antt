@@ -3,7 +3,7 @@ use Rattle.std.specs.Prelude.{ℕ, ◌+◌, ◌-◌, ◌*◌, Bool, false, ◌&&
 use Rattle.std.specs.Char.{is_ascii_digit}
 use Rattle.std.specs.List.{prefix_len, list_all}
 use Rattle.mpy_tree.specs.Values.{same_bytes}
-use Rattle.grade_top.specs.Names.{is_name_byte, is_short_name, is_plain_name}
+use Rattle.grade_top.specs.Names.{is_name_byte, is_plain_name}
 
 -- goes on with what was read, or ends with nothing
 infixl 10 ◌>>=◌
@@ -41,3 +41,9 @@ unfoldable pub number_at : ℕ → List ℕ → Option (ℕ × List ℕ)
 number_at limit text = do
   n ← number_of limit (word_at text).0
   Some (n, (word_at text).1)
+
+-- the name behind the mark, and the rest
+unfoldable pub name_after : List ℕ → List ℕ → Option (List ℕ × List ℕ)
+name_after mark text = do
+  rest ← after mark text
+  if is_plain_name (word_at rest).0 then Some (word_at rest) else None

@@ -2,10 +2,10 @@
 ghost use Rattle.std.specs.Prelude.{◌≡◌, ◌≤◌, option_map, nat_abs, IfOk, None};
 ghost use Rattle.mpy_tree.specs.Operations.{fits_width};
 ghost use Rattle.grade_top.specs.BoundsForm.{is_from_to, is_param_range, range_fault, lines_of};
-ghost use Rattle.grade_top.specs.BoundsReading.{signed_at, signed_after, name_after, bounds_lines, lines_view, IsNatural, AreInRange, IsBoundsRead};
+ghost use Rattle.grade_top.specs.BoundsReading.{signed_at, signed_after, bounds_lines, lines_view, IsNatural, AreInRange, IsBoundsRead};
 ghost use Rattle.grade_top.specs.Views.{bounds_of};
 
-use crate::scan::{after, is_plain_name, number_at, word_at};
+use crate::scan::{after, name_after, number_at};
 use crate::task::Bounds;
 use mpy_tree::{Limits, Name, NoMemory};
 use std::alloc::Global;
@@ -60,18 +60,6 @@ fn signed_after<'a>(mark: &[u8], text: &'a [u8]) -> Option<(i32, &'a [u8])>
     ensures { option_map (λ x. (x.0, x.1.now)) result ≡ signed_after mark.now text.now }
 {
     signed_at(after(mark, text)?)
-}
-
-#[tactic(auto, unfolding(crate::specs::BoundsReading::name_after))]
-fn name_after<'a>(mark: &[u8], text: &'a [u8]) -> Option<(&'a [u8], &'a [u8])>
-    ensures { option_map (λ x. (x.0.now, x.1.now)) result ≡ name_after mark.now text.now }
-{
-    let (word, rest) = word_at(after(mark, text)?);
-    if is_plain_name(word) {
-        Some((word, rest))
-    } else {
-        None
-    }
 }
 
 #[tactic(auto, unfolding(crate::specs::BoundsReading::bounds_lines))]

@@ -4,13 +4,19 @@
 mod alternatives;
 mod answer;
 mod bounds_form;
+mod chain;
+mod decide;
 mod evaluation;
 mod failure;
+mod fetch;
 mod formula;
 mod formula_text;
+mod grouping;
+mod laws;
 mod least;
 mod numbers;
 mod program;
+mod program_form;
 #[cfg(test)]
 mod reading_tests;
 mod report;
@@ -18,6 +24,9 @@ mod rewritings;
 mod rules_form;
 mod scan;
 mod search;
+mod shallow;
 mod tables;
 mod task;
 mod words;
+
+pub use laws::one_task;

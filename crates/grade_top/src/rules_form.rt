@@ -6,13 +6,10 @@ ghost use Rattle.grade_top.specs.RulesForm.{are_distinct, HaveNoRules, IsRules};
 ghost use Rattle.grade_top.specs.RulesReading.{literals_at, head_at, rule_at, rules_at, rules_read};
 ghost use Rattle.grade_top.specs.Views.{rule_of, rules_of};
 
-use crate::scan::{after, is_short_name, number_at, word_at};
+use crate::scan::{LARGEST, after, is_short_name, number_at, word_at};
 use crate::task::Rule;
 use mpy_tree::{Name, NoMemory};
 use std::alloc::Global;
-
-/// The largest number that a program may write.
-const LARGEST: u32 = 2_147_483_647;
 
 /// How many rules a file may have, and how many literals a rule.
 const MOST: u32 = 64;

@@ -5,7 +5,10 @@ ghost use Rattle.std.specs.List.{prefix_len, list_any, list_all};
 ghost use Rattle.std.specs.Option.{option_copied};
 ghost use Rattle.mpy_tree.specs.Values.{same_bytes};
 ghost use Rattle.grade_top.specs.Names.{is_name_start, is_name_byte, is_name, is_short_name, is_plain_name, is_in, reserved_words, builtins};
-ghost use Rattle.grade_top.specs.Scanning.{after, word_len, word_at, value_after, is_numeral, number_of, number_at};
+ghost use Rattle.grade_top.specs.Scanning.{after, word_len, word_at, value_after, is_numeral, number_of, number_at, name_after};
+
+/// The largest number that a program may write.
+pub(crate) const LARGEST: u32 = 2_147_483_647;
 
 /// What follows the mark, where the text begins with it.
 #[tactic(auto, unfolding(crate::specs::Scanning::after))]
@@ -185,4 +188,17 @@ pub(crate) fn number_at(limit: u32, text: &[u8]) -> Option<(u32, &[u8])>
     let (word, rest) = word_at(text);
     let number = number_of(limit, word)?;
     Some((number, rest))
+}
+
+/// The name behind the mark, and the rest.
+#[tactic(auto, unfolding(crate::specs::Scanning::name_after))]
+pub(crate) fn name_after<'a>(mark: &[u8], text: &'a [u8]) -> Option<(&'a [u8], &'a [u8])>
+    ensures { option_map (λ x. (x.0.now, x.1.now)) result ≡ name_after mark.now text.now }
+{
+    let (word, rest) = word_at(after(mark, text)?);
+    if is_plain_name(word) {
+        Some((word, rest))
+    } else {
+        None
+    }
 }

@@ -1,6 +1,4 @@
-use Rattle.std.proofs.Common.{rules, ◌≡◌, Some, None, sym, ap, ◌∙◌, subst}
-use Rattle.std.specs.Prelude.{option_map}
-use Rattle.std.specs.Result.{IfOk}
+use Rattle.std.proofs.Common.{◌≡◌, None, sym, ap, ◌∙◌, subst}
 use Rattle.grade_top.specs.BoundsForm.{BoundsLines, SpellsBounds, range_fault}
 use Rattle.grade_top.specs.BoundsReading.{bounds_lines, lines_view}
 use Rattle.grade_top.proofs.BoundsRanges.{in_range}

@@ -1,5 +1,4 @@
-use Rattle.std.proofs.Common.{◌≡◌, Bool, true, false, sym, ap, ◌∙◌}
-use Rattle.std.specs.Prelude.{not, ◌&&◌}
+use Rattle.std.proofs.Common.{true, false, sym, ◌∙◌}
 use Rattle.std.proofs.lemmas.List.{take_rest}
 use Rattle.grade_top.proofs.RuleNames.{names_step}
 use Rattle.grade_top.proofs.rules_form.have_names_apart.Goals as goal

@@ -1,4 +1,4 @@
-use Rattle.std.proofs.Common.{◌≡◌, ◌≤◌, ◌<◌, ◌+◌, ◌*◌, ◌-◌, ◌^◌, length, get_or, drop, sym, ◌∙◌, add-one, pow-suc, arith}
+use Rattle.std.proofs.Common.{◌≡◌, ◌-◌, get_or, sym, ◌∙◌, add-one, pow-suc, arith}
 use Rattle.std.proofs.lemmas.List.{at_drop_more}
 use Rattle.grade_top.specs.Scanning.{value_after}
 use Rattle.grade_top.proofs.Digits.{digit_within}

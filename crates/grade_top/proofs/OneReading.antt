@@ -1,13 +1,17 @@
 -- A text spells one task at most.
-use Rattle.std.proofs.Common.{◌≡◌, ◌≤◌, ℕ, List, Some, refl, sym, ap, subst, ◌∙◌, ℤ, pos}
+use Rattle.std.proofs.Common.{◌≡◌, ◌≤◌, ℕ, List, sym, ap, subst, ◌∙◌}
 use Rattle.std.specs.Prelude.{nat_abs}
 use Rattle.std.proofs.Math.Bridge.{le_prop}
 use Rattle.std.proofs.lemmas.Option.{same_Some}
 use Rattle.mpy_tree.specs.declared.limits.Limits.{Limits}
 use Rattle.grade_top.specs.BoundsForm.{BoundsLines, Bounds, IsBounds, lines_of}
-use Rattle.grade_top.specs.BoundsReading.{bounds_lines}
+use Rattle.grade_top.specs.ProgramForm.{Function, IsProgram}
 use Rattle.grade_top.specs.RulesForm.{Rule, IsRules}
+use Rattle.grade_top.specs.Agreement.{Task}
+use Rattle.grade_top.specs.Decisions.{IsTask}
+use Rattle.grade_top.specs.Texts.{Texts}
 use Rattle.grade_top.proofs.BoundsLaws.{lines_again}
+use Rattle.grade_top.proofs.ProgramLaws.{program_is_read}
 use Rattle.grade_top.proofs.RulesLaws.{rules_are_read}
 
 -- a range, and its one proof
@@ -53,3 +57,15 @@ one_bounds bytes k other is also =
 
 pub one_rules : (bytes : List ℕ) (rules others : List Rule) → IsRules bytes rules → IsRules bytes others → rules ≡ others
 one_rules bytes rules others is also = same_Some rules others (sym (rules_are_read bytes rules is) ∙ rules_are_read bytes others also)
+
+pub one_program : (bytes entry : List ℕ) (f other : Function) → IsProgram bytes entry f → IsProgram bytes entry other → f ≡ other
+one_program bytes entry f other is also = same_Some f other (sym (program_is_read entry bytes f is) ∙ program_is_read entry bytes other also)
+
+pub one_task : (t : Texts) (k other : Task) → IsTask t k → IsTask t other → k ≡ other
+one_task t k other is also =
+    let bounds = one_bounds t.bounds k.bounds other.bounds is.bounds also.bounds in
+    let entry : k.bounds.entry ≡ other.bounds.entry = ap (λ (b : Bounds). b.entry) bounds in
+    let reference = one_program t.reference k.bounds.entry k.reference other.reference is.reference (rw entry also.reference) in
+    let submission = one_program t.submission k.bounds.entry k.submission other.submission is.submission (rw entry also.submission) in
+    let rules = one_rules t.rules k.rules other.rules is.rules also.rules in
+    λ i. record { bounds = bounds i; reference = reference i; submission = submission i; rules = rules i }
