@@ -1,5 +1,5 @@
 -- Division that rounds towards minus infinity, by what std's methods give.
-use Rattle.std.proofs.Common.{◌≡◌, ℕ, zero, suc, refl, Bool, false, arith, ℤ, pos, negsuc, ◌-ℤ◌, ◌*ℤ◌, neg_ℤ}
+use Rattle.std.proofs.Common.{◌≡◌, ℕ, zero, suc, refl, false, arith, ℤ, pos, negsuc, ◌-ℤ◌, ◌*ℤ◌, neg_ℤ}
 use Rattle.std.proofs.lemmas.Int.{ints}
 use Rattle.std.specs.Prelude.{int_lt}
 use Rattle.std.specs.Int.{int_rem_euclid}

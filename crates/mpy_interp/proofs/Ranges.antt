@@ -1,5 +1,5 @@
 -- The numbers of a range.
-use Rattle.std.proofs.Common.{◌≡◌, ℕ, zero, suc, ◌-◌, ◌^◌, ◌<◌, ◌≤◌, Bool, true, false, List, [], ◌∷◌, ◌++◌, length, get_or, Err, if◌then◌else◌, ℤ, pos, negsuc, ◌+ℤ◌, neg_ℤ, ◌<ℤ◌, ◌≤ℤ◌, w32, refl, sym, ap, ◌∙◌, arith, append_assoc, length-append}
+use Rattle.std.proofs.Common.{◌≡◌, ℕ, zero, suc, ◌-◌, ◌^◌, ◌<◌, ◌≤◌, true, false, List, [], ◌∷◌, ◌++◌, length, get_or, Err, if◌then◌else◌, ℤ, pos, negsuc, ◌+ℤ◌, neg_ℤ, ◌≤ℤ◌, w32, refl, sym, ap, ◌∙◌, arith, append_assoc, length-append}
 use Rattle.std.specs.Int.{saturate_signed}
 use Rattle.std.specs.Prelude.{FitsSigned}
 use Rattle.std.proofs.lemmas.Int.{ints, by_lt_z}
@@ -30,14 +30,14 @@ past_down n m z b h = steps_end n z b (negsuc m) (grind (arith, ints))
 saturated_up : (n m : ℕ) (a b : ℤ) → FitsSigned w32 a → FitsSigned w32 b → steps n (saturate_signed w32 (a +ℤ pos m)) b (pos m) ≡ steps n (a +ℤ pos m) b (pos m)
 saturated_up n m a b f g =
     by_lt_z (a +ℤ pos m) (pos (2 ^ 31))
-      (λ h. let e : saturate_signed w32 (a +ℤ pos m) ≡ a +ℤ pos m = grind (arith, ints) in ap (λ z. steps n z b (pos m)) e)
-      (λ h. past_up n m (saturate_signed w32 (a +ℤ pos m)) b (grind (arith, ints)) ∙ sym (past_up n m (a +ℤ pos m) b (omega (arith, ints))))
+    (λ h. let e : saturate_signed w32 (a +ℤ pos m) ≡ a +ℤ pos m = grind (arith, ints) in ap (λ z. steps n z b (pos m)) e)
+    (λ h. past_up n m (saturate_signed w32 (a +ℤ pos m)) b (grind (arith, ints)) ∙ sym (past_up n m (a +ℤ pos m) b (omega (arith, ints))))
 
 saturated_down : (n m : ℕ) (a b : ℤ) → FitsSigned w32 a → FitsSigned w32 b → steps n (saturate_signed w32 (a +ℤ negsuc m)) b (negsuc m) ≡ steps n (a +ℤ negsuc m) b (negsuc m)
 saturated_down n m a b f g =
     by_lt_z (a +ℤ negsuc m) (neg_ℤ (pos (2 ^ 31)))
-      (λ h. past_down n m (saturate_signed w32 (a +ℤ negsuc m)) b (grind (arith, ints)) ∙ sym (past_down n m (a +ℤ negsuc m) b (omega (arith, ints))))
-      (λ h. let e : saturate_signed w32 (a +ℤ negsuc m) ≡ a +ℤ negsuc m = grind (arith, ints) in ap (λ z. steps n z b (negsuc m)) e)
+    (λ h. past_down n m (saturate_signed w32 (a +ℤ negsuc m)) b (grind (arith, ints)) ∙ sym (past_down n m (a +ℤ negsuc m) b (omega (arith, ints))))
+    (λ h. let e : saturate_signed w32 (a +ℤ negsuc m) ≡ a +ℤ negsuc m = grind (arith, ints) in ap (λ z. steps n z b (negsuc m)) e)
 
 -- a number outside 32 bits isn't before the end, nor is the last one inside
 pub steps_saturated : (n : ℕ) (a b c : ℤ) → FitsSigned w32 a → FitsSigned w32 b → steps n (saturate_signed w32 (a +ℤ c)) b c ≡ steps n (a +ℤ c) b c

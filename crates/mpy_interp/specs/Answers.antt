@@ -1,5 +1,5 @@
 -- What the interpreter's answers say.
-use Rattle.std.specs.Prelude.{◌≡◌, ⊤, List, ◌++◌, ℕ}
+use Rattle.std.specs.Prelude.{◌≡◌, ⊤, List, ◌++◌}
 use Rattle.std.specs.declared.result.Result.{Result}
 use Rattle.std.specs.declared.result.Result.TheVariants.{Ok, Err}
 use Rattle.mpy_tree.specs.declared.value.Value.{Value}

@@ -96,7 +96,6 @@ fn contains_number(xs: &[i32], z: i32) -> bool
 }
 
 // Whether a text stands somewhere in another.
-
 fn contains_text(text: &[u8], part: &[u8]) -> bool
     ensures { result ≡ is_part part.now text.now }
 {

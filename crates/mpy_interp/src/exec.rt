@@ -206,9 +206,9 @@ fn exec_for<C: Calls>(
 {
     let list = eval(alloc, l, calls, frame, line, e)?;
     let values = members_of(alloc, line, &list)?;
-    let mut left = l.turns;
+    let mut turns = l.turns;
     for v in &values {
-        if left == 0 {
+        if turns == 0 {
             return Err(faulted(FaultKind::Turns, line));
         }
         frame.set(x, v.copy()?)?;
@@ -218,7 +218,7 @@ fn exec_for<C: Calls>(
             Flow::Broke => return Ok(Flow::Next),
             Flow::Returned(v) => return Ok(Flow::Returned(v)),
         }
-        left -= 1;
+        turns -= 1;
     }
     Ok(Flow::Next)
 }

@@ -13,5 +13,7 @@ mod numbers;
 mod operators;
 mod program;
 mod stop;
+#[cfg(test)]
+mod tests;
 
 pub use program::run;

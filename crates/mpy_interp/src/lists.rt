@@ -40,12 +40,7 @@ pub fn text_literal(l: &Limits, line: u32, cs: &Chars) -> Result<Value, Stop>
 }
 
 /// The value of a list literal of these elements.
-pub fn list_literal(
-    alloc: Global,
-    l: &Limits,
-    line: u32,
-    elements: &[Value],
-) -> Result<Value, Stop>
+pub fn list_literal(alloc: Global, l: &Limits, line: u32, elements: &[Value]) -> Result<Value, Stop>
     ensures { Meets result (on_line line (list_of l.now elements.now)) }
 {
     let numbers = numbers_of(alloc, line, elements)?;
@@ -67,13 +62,7 @@ pub fn numbers_of(alloc: Global, line: u32, values: &[Value]) -> Result<Vec<i32>
 }
 
 /// `xs + ys` of lists.
-pub fn join_lists(
-    alloc: Global,
-    l: &Limits,
-    line: u32,
-    xs: &Ints,
-    ys: &Ints,
-) -> Result<Value, Stop>
+pub fn join_lists(alloc: Global, l: &Limits, line: u32, xs: &Ints, ys: &Ints) -> Result<Value, Stop>
     ensures { Meets result (on_line line (list_within l.now (xs.now ++ ys.now))) }
 {
     list_within_cap(l, line, xs.concat(alloc, ys)?)

@@ -2,8 +2,8 @@
 
 use crate::run;
 use mpy_tree::{
-    Act, ArithOp, Arm, Arms, Chars, CmpOp, Expr, Exprs, Facts, FaultKind, Func, Funcs, Limits, Name,
-    Names, NoMemory, Outcome, Prog, Stmt, Stmts, Types, Value, Values,
+    Act, ArithOp, Arm, Arms, Chars, CmpOp, Expr, Exprs, Facts, FaultKind, Func, Funcs, Limits,
+    Name, Names, NoMemory, Outcome, Prog, Stmt, Stmts, Types, Value, Values,
 };
 use std::alloc::Global;
 
@@ -22,10 +22,6 @@ enum Want {
 struct Case {
     code: &'static [u8],
     want: Want,
-}
-
-const fn case(code: &'static [u8], want: Want) -> Case {
-    Case { code, want }
 }
 
 fn gives(outcome: &Outcome, want: Want) -> bool {
@@ -59,12 +55,7 @@ fn last(alloc: Global, stack: &mut Vec<Expr>, count: usize) -> Result<Exprs, NoM
     Ok(Exprs { items })
 }
 
-fn call(
-    alloc: Global,
-    stack: &mut Vec<Expr>,
-    f: &[u8],
-    count: usize,
-) -> Result<Expr, NoMemory> {
+fn call(alloc: Global, stack: &mut Vec<Expr>, f: &[u8], count: usize) -> Result<Expr, NoMemory> {
     let args = last(alloc, stack, count)?;
     Ok(Expr::Call(name(alloc, f)?, args))
 }
@@ -204,42 +195,150 @@ fn outcome(alloc: Global, p: &Prog) -> Result<Outcome, NoMemory> {
 }
 
 static CASES: [Case; 36] = [
-    case(b"5", Want::Int(5)),
-    case(b"T", Want::Bool(true)),
-    case(b"\"", Want::Text(b"ab")),
-    case(b"x", Want::Int(3)),
-    case(b"y", Want::Fault(FaultKind::Unset, 2)),
-    case(b"x1#", Want::List(&[3, 1])),
-    case(b"x~", Want::Int(-3)),
-    case(b"x!", Want::Bool(false)),
-    case(b"x2+", Want::Int(5)),
-    case(b"x5-", Want::Int(-2)),
-    case(b"x2*", Want::Int(6)),
-    case(b"x~2/", Want::Int(-2)),
-    case(b"x~2%", Want::Int(1)),
-    case(b"x2^", Want::Int(9)),
-    case(b"x4^", Want::Fault(FaultKind::Overflow, 2)),
-    case(b"x1#x2#+", Want::List(&[3, 1, 3, 2])),
-    case(b"\"2*", Want::Text(b"abab")),
-    case(b"\"3*", Want::Fault(FaultKind::Length, 2)),
-    case(b"x3=", Want::Bool(true)),
-    case(b"x1#x1#N", Want::Bool(false)),
-    case(b"x3<", Want::Bool(false)),
-    case(b"x3L", Want::Bool(true)),
-    case(b"x2>", Want::Bool(true)),
-    case(b"x4G", Want::Bool(false)),
-    case(b"xx1#M", Want::Bool(true)),
-    case(b"\"\"2*O", Want::Bool(false)),
-    case(b"x0=y&", Want::Bool(false)),
-    case(b"Ty|", Want::Bool(true)),
-    case(b"5x7?", Want::Int(5)),
-    case(b"\"1@", Want::Text(b"b")),
-    case(b"1xR1~@", Want::Int(2)),
-    case(b"1xR1x:", Want::List(&[2])),
-    case(b"\".S", Want::Int(2)),
-    case(b"x~A2I", Want::Int(2)),
-    case(b"x5XC", Want::Int(6)),
-    case(b"xC", Want::Int(4)),
+    Case {
+        code: b"5",
+        want: Want::Int(5),
+    },
+    Case {
+        code: b"T",
+        want: Want::Bool(true),
+    },
+    Case {
+        code: b"\"",
+        want: Want::Text(b"ab"),
+    },
+    Case {
+        code: b"x",
+        want: Want::Int(3),
+    },
+    Case {
+        code: b"y",
+        want: Want::Fault(FaultKind::Unset, 2),
+    },
+    Case {
+        code: b"x1#",
+        want: Want::List(&[3, 1]),
+    },
+    Case {
+        code: b"x~",
+        want: Want::Int(-3),
+    },
+    Case {
+        code: b"x!",
+        want: Want::Bool(false),
+    },
+    Case {
+        code: b"x2+",
+        want: Want::Int(5),
+    },
+    Case {
+        code: b"x5-",
+        want: Want::Int(-2),
+    },
+    Case {
+        code: b"x2*",
+        want: Want::Int(6),
+    },
+    Case {
+        code: b"x~2/",
+        want: Want::Int(-2),
+    },
+    Case {
+        code: b"x~2%",
+        want: Want::Int(1),
+    },
+    Case {
+        code: b"x2^",
+        want: Want::Int(9),
+    },
+    Case {
+        code: b"x4^",
+        want: Want::Fault(FaultKind::Overflow, 2),
+    },
+    Case {
+        code: b"x1#x2#+",
+        want: Want::List(&[3, 1, 3, 2]),
+    },
+    Case {
+        code: b"\"2*",
+        want: Want::Text(b"abab"),
+    },
+    Case {
+        code: b"\"3*",
+        want: Want::Fault(FaultKind::Length, 2),
+    },
+    Case {
+        code: b"x3=",
+        want: Want::Bool(true),
+    },
+    Case {
+        code: b"x1#x1#N",
+        want: Want::Bool(false),
+    },
+    Case {
+        code: b"x3<",
+        want: Want::Bool(false),
+    },
+    Case {
+        code: b"x3L",
+        want: Want::Bool(true),
+    },
+    Case {
+        code: b"x2>",
+        want: Want::Bool(true),
+    },
+    Case {
+        code: b"x4G",
+        want: Want::Bool(false),
+    },
+    Case {
+        code: b"xx1#M",
+        want: Want::Bool(true),
+    },
+    Case {
+        code: b"\"\"2*O",
+        want: Want::Bool(false),
+    },
+    Case {
+        code: b"x0=y&",
+        want: Want::Bool(false),
+    },
+    Case {
+        code: b"Ty|",
+        want: Want::Bool(true),
+    },
+    Case {
+        code: b"5x7?",
+        want: Want::Int(5),
+    },
+    Case {
+        code: b"\"1@",
+        want: Want::Text(b"b"),
+    },
+    Case {
+        code: b"1xR1~@",
+        want: Want::Int(2),
+    },
+    Case {
+        code: b"1xR1x:",
+        want: Want::List(&[2]),
+    },
+    Case {
+        code: b"\".S",
+        want: Want::Int(2),
+    },
+    Case {
+        code: b"x~A2I",
+        want: Want::Int(2),
+    },
+    Case {
+        code: b"x5XC",
+        want: Want::Int(6),
+    },
+    Case {
+        code: b"xC",
+        want: Want::Int(4),
+    },
 ];
 
 #[test]
@@ -254,11 +353,11 @@ fn expressions_give_their_values(rt: HostRuntime) -> Result<(), NoMemory> {
     Ok(())
 }
 
-// `if k == 3: continue`, `elif k == 5: break`, `else: pass`.
+// `if k == 6: continue`, `elif k == 5: break`, `else: pass`.
 fn branches(alloc: Global) -> Result<Act, NoMemory> {
     let first = Arm {
         line: 8,
-        test: expr(alloc, b"k3=")?,
+        test: expr(alloc, b"k6=")?,
         body: body(alloc, 9, Act::Continue)?,
     };
     let second = Arm {
@@ -287,7 +386,12 @@ fn list_of_members(alloc: Global) -> Result<Vec<Stmt>, NoMemory> {
     items.push(Stmt { line: 2, act })?;
     let act = Act::Put(name(alloc, b"v")?, expr(alloc, b"0")?, expr(alloc, b"4")?);
     items.push(Stmt { line: 3, act })?;
-    let act = Act::AugmentAt(name(alloc, b"v")?, expr(alloc, b"1")?, ArithOp::Mul, expr(alloc, b"2")?);
+    let act = Act::AugmentAt(
+        name(alloc, b"v")?,
+        expr(alloc, b"1")?,
+        ArithOp::Mul,
+        expr(alloc, b"2")?,
+    );
     items.push(Stmt { line: 4, act })?;
     let act = Act::Append(name(alloc, b"v")?, expr(alloc, b"5")?);
     items.push(Stmt { line: 5, act })?;

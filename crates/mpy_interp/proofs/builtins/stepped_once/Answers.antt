@@ -1,4 +1,4 @@
-use Rattle.std.proofs.Common.{◌≡◌, arith}
+use Rattle.std.proofs.Common.{arith}
 use Rattle.std.proofs.lemmas.Int.{to_z-of_z}
 use Rattle.mpy_interp.proofs.Ranges.{steps_saturated}
 use Rattle.mpy_interp.proofs.builtins.stepped_once.Goals as goal

@@ -1,5 +1,5 @@
 use Rattle.std.proofs.Common.{◌≡◌, map, drop}
-use Rattle.mpy_tree.specs.View.{term_of, statement_of, branch_of, block, branches, block_of, branches_of, block_or_none}
+use Rattle.mpy_tree.specs.View.{term_of, statement_of, branch_of, block, branches, block_of, branches_of}
 use Rattle.mpy_interp.specs.Frames.{state_of}
 use Rattle.mpy_tree.specs.Expressions.{value_of}
 use Rattle.mpy_tree.specs.Statements.{run_block, run_arms, while_turns, for_turns}
@@ -31,4 +31,4 @@ decreases-exec_while-turns g l = l.left
 abbrev pub invariant-exec_for-loop-v : goal.invariant-exec_for-loop-v
 invariant-exec_for-loop-v g l =
     for_turns l.v-items l.l.turns l.x (run_block l.l (g.C.Calls.gives l.calls) (block_of l.body)) l.line (state_of l.fn.frame)
-    ≡ for_turns (drop l.v-index l.v-items) l.left l.x (run_block l.l (g.C.Calls.gives l.calls) (block_of l.body)) l.line (state_of l.frame)
+    ≡ for_turns (drop l.v-index l.v-items) l.turns l.x (run_block l.l (g.C.Calls.gives l.calls) (block_of l.body)) l.line (state_of l.frame)
