@@ -4,9 +4,11 @@ pub mod BoundsLaws
 pub mod BoundsRanges
 pub mod ChainLaws
 pub mod ChainLoop
+pub mod Claims
 pub mod Counting
 pub mod Decimals
 pub mod Digits
+pub mod Endings
 pub mod FormulaMeaning
 pub mod Fronts
 pub mod GroupingLaws
@@ -14,7 +16,6 @@ pub mod GroupingSteps
 pub mod Keeping
 pub mod Leasts
 pub mod OneReading
-pub mod OneTask
 pub mod ProgramLaws
 pub mod Ranges
 pub mod RuleNames
@@ -22,5 +23,6 @@ pub mod RulesLaws
 pub mod RulesLoops
 pub mod SelectionLaws
 pub mod SevenItems
+pub mod Soundness
 pub mod VerdictLaws
 pub mod WrittenFormulas

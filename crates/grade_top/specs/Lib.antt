@@ -13,6 +13,7 @@ pub mod FormulaValues
 pub mod GroupingView
 pub mod Names
 pub mod OneTask
+pub mod Outcomes
 pub mod ProgramForm
 pub mod ProgramReading
 pub mod Reports

@@ -49,6 +49,7 @@ pub(crate) fn fetch_sources<S: Shelf>(
     request: &GradeRequest<'_>,
     shelf: &mut S,
 ) -> Result<Sources, FetchStop>
+    ensures fit { IfOk result (λ sources. AllFit (texts_of sources)) }
     ensures told { (t : Texts) → Tells (S.seen shelf.old) (words_of request.now) t → IfOk result (λ sources. (texts_of sources ≡ t) × AllFit t) }
     ensures long { IfErr result (λ stop. OnLong stop (λ _. (S.seen shelf.new).taken ≡ source_limit + 1)) }
     ensures first { (t : Texts) → Tells (S.seen shelf.old) (words_of request.now) t → IfErr result (λ stop. OnLong stop (IsFirstLong t)) }

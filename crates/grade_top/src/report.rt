@@ -150,6 +150,24 @@ fn edits_by(alloc: Global, task: &Task, selection: u64) -> Result<Vec<Edit>, NoM
     Ok(edits)
 }
 
+/// The text of the program that a selection makes.
+fn corrected_text(alloc: Global, task: &Task, selection: u64) -> Result<Vec<u8>, NoMemory>
+    ensures { IfOk result (λ v. v.items ≡ text_of_program (program (task_of task.now).bounds.entry (function_by (task_of task.now) selection))) }
+{
+    let function = corrected(alloc, task, selection)?;
+    let text = program_text(alloc, &task.bounds.entry, &function)?;
+    Ok(text)
+}
+
+/// The lines for the edits by which a selection makes it.
+fn correction_lines(alloc: Global, task: &Task, selection: u64) -> Result<Vec<u8>, NoMemory>
+    ensures { IfOk result (λ v. v.items ≡ text_of_edits (task_of task.now).rules (edits_of (alternatives (task_of task.now).rules) 2 (task_of task.now).submission.body selection)) }
+{
+    let edits = edits_by(alloc, task, selection)?;
+    let text = edit_lines(alloc, &task.rules, &edits)?;
+    Ok(text)
+}
+
 /// The report of a correction.
 fn correction_report(
     alloc: Global,
@@ -160,16 +178,13 @@ fn correction_report(
 ) -> Result<Vec<u8>, NoMemory>
     ensures { IfOk result (λ v. v.items ≡ report_of (task_of task.now) (Corrected cost (failure_of fails.now) (edits_of (alternatives (task_of task.now).rules) 2 (task_of task.now).submission.body selection) (function_by (task_of task.now) selection))) }
 {
-    let entry = &task.bounds.entry;
-    let edits = edits_by(alloc, task, selection)?;
-    let function = corrected(alloc, task, selection)?;
     let mut text = b"cost ".to_vec(alloc)?;
     push_number(alloc, &mut text, cost)?;
     text.extend_from_slice(b"\n")?;
-    text.extend_from_slice(fails_line(alloc, entry, fails)?.as_slice())?;
-    text.extend_from_slice(edit_lines(alloc, &task.rules, &edits)?.as_slice())?;
+    text.extend_from_slice(fails_line(alloc, &task.bounds.entry, fails)?.as_slice())?;
+    text.extend_from_slice(correction_lines(alloc, task, selection)?.as_slice())?;
     text.extend_from_slice(b"program\n")?;
-    text.extend_from_slice(program_text(alloc, entry, &function)?.as_slice())?;
+    text.extend_from_slice(corrected_text(alloc, task, selection)?.as_slice())?;
     Ok(text)
 }
 
