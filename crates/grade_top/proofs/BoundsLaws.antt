@@ -65,6 +65,20 @@ signed_after_again mark z rest short stops = rw (after_again mark (signed_decima
 joined : {text rest more : List ℕ} (mark part : List ℕ) → text ≡ mark ++ (part ++ rest) → rest ≡ more → text ≡ mark ++ (part ++ more)
 joined mark part front same = front ∙ ap (λ (t : List ℕ). mark ++ (part ++ t)) same
 
+lines_text : (b : BoundsLines) (bytes width turns depth cap entry param low high : List ℕ)
+    → bytes ≡ codes "width " ++ (signed_decimal b.width ++ width) → width ≡ codes "\nturns " ++ (signed_decimal b.turns ++ turns) → turns ≡ codes "\ndepth " ++ (signed_decimal b.depth ++ depth)
+    → depth ≡ codes "\ncap " ++ (signed_decimal b.cap ++ cap) → cap ≡ codes "\nentry " ++ (b.entry ++ entry) → entry ≡ codes "\nparam " ++ (b.param ++ param)
+    → param ≡ codes " int " ++ (signed_decimal b.low ++ low) → low ≡ codes ".." ++ (signed_decimal b.high ++ high) → high ≡ codes "\n" → bytes ≡ bounds_text b
+lines_text b bytes width turns depth cap entry param low high t0 t1 t2 t3 t4 t5 t6 t7 last =
+    joined (codes "width ") (signed_decimal b.width) t0
+    (joined (codes "\nturns ") (signed_decimal b.turns) t1
+    (joined (codes "\ndepth ") (signed_decimal b.depth) t2
+    (joined (codes "\ncap ") (signed_decimal b.cap) t3
+    (joined (codes "\nentry ") b.entry t4
+    (joined (codes "\nparam ") b.param t5
+    (joined (codes " int ") (signed_decimal b.low) t6
+    (joined (codes "..") (signed_decimal b.high) t7 last)))))))
+
 pub lines_take : (bytes : List ℕ) (b : BoundsLines) → bounds_lines bytes ≡ Some b → SpellsBounds bytes b
 unfolding bounds_lines
 lines_take bytes b e =
@@ -87,15 +101,7 @@ lines_take bytes b e =
     let t5 = name_after_takes (codes "\nparam ") entry.0.1 param.0 param.1 in
     let t6 = signed_after_takes (codes " int ") param.0.1 low.0 low.1 in
     let t7 = signed_after_takes (codes "..") low.0.1 high.0 high.1 in
-    let text : bytes ≡ bounds_text lines =
-    joined (codes "width ") (signed_decimal width.0.0) t0.0
-    (joined (codes "\nturns ") (signed_decimal turns.0.0) t1.0
-    (joined (codes "\ndepth ") (signed_decimal depth.0.0) t2.0
-    (joined (codes "\ncap ") (signed_decimal cap.0.0) t3.0
-    (joined (codes "\nentry ") entry.0.0 t4.0
-    (joined (codes "\nparam ") param.0.0 t5.0
-    (joined (codes " int ") (signed_decimal low.0.0) t6.0
-    (joined (codes "..") (signed_decimal high.0.0) t7.0 last))))))) in
+    let text : bytes ≡ bounds_text lines = lines_text lines bytes width.0.1 turns.0.1 depth.0.1 cap.0.1 entry.0.1 param.0.1 low.0.1 high.0.1 t0.0 t1.0 t2.0 t3.0 t4.0 t5.0 t6.0 t7.0 last in
     subst (λ (l : BoundsLines). SpellsBounds bytes l) {x = lines} end.1
     (record { text = text; width = t0.1; turns = t1.1; depth = t2.1; cap = t3.1; entry = t4.1; param = t5.1; low = t6.1; high = t7.1 })
 

@@ -19,9 +19,21 @@ use Rattle.grade_top.specs.declared.chain.Link.{Link}
 use Rattle.grade_top.specs.Names.{is_between, is_name_start, is_name_byte, is_name, is_short_name, is_plain_name}
 use Rattle.grade_top.specs.Scanning.{◌>>=◌, after, word_at, number_of}
 use Rattle.grade_top.specs.Views.{operator_of}
-use Rattle.grade_top.specs.ChainReading.{Written, atom_of, atom_at, operation_at, links_at, written_at, atom_text, links_text, written_text}
+use Rattle.grade_top.specs.ChainReading.{Written, atom_of, atom_at, operation_at, links_at, written_at}
 use Rattle.grade_top.proofs.Digits.{number_takes, number_again, decimal_in_word, decimal_digits}
 use Rattle.grade_top.proofs.Fronts.{bind_some, one_way, after_takes, Stops, word_again, word_takes, name_in_word}
+
+-- the text of a chain
+abbrev pub atom_text : List ℕ → Atom → List ℕ
+atom_text param (Number n) = decimal n
+atom_text param Param = param
+
+abbrev pub links_text : List ℕ → List Link → List ℕ
+links_text param [] = []
+links_text param (l ∷ links) = spaced (arith_text (operator_of l.operation)) ++ (atom_text param l.atom ++ links_text param links)
+
+abbrev pub written_text : List ℕ → Written → List ℕ
+written_text param w = atom_text param w.first ++ links_text param w.links
 
 -- a number that programs may write
 abbrev pub IsSmall : Atom → Type 0

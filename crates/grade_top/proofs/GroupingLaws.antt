@@ -12,9 +12,9 @@ use Rattle.grade_top.specs.declared.chain.Atom.TheVariants as atom
 use Rattle.grade_top.specs.declared.chain.Link.{Link}
 use Rattle.grade_top.specs.ProgramForm.{IsSumOrProduct, IsFormula, IsBare, depth_of}
 use Rattle.grade_top.specs.Views.{operator_of}
-use Rattle.grade_top.specs.ChainReading.{Written, atom_text, links_text, written_text}
+use Rattle.grade_top.specs.ChainReading.{Written}
 use Rattle.grade_top.specs.ChainGrouping.{leaf, closed, next_sum, next_product, grouped, term_written}
-use Rattle.grade_top.proofs.ChainLaws.{IsSmall, AreSmall}
+use Rattle.grade_top.proofs.ChainLaws.{atom_text, links_text, written_text, IsSmall, AreSmall}
 
 -- ---- what grouping gives
 

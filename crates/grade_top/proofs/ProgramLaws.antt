@@ -11,11 +11,11 @@ use Rattle.mpy_tree.specs.Values.{same_bytes}
 use Rattle.grade_top.specs.Names.{is_in, builtins, is_plain_name}
 use Rattle.grade_top.specs.ProgramForm.{Function, program, IsFormula, IsBare, depth_of, IsProgram, HaveNoProgram}
 use Rattle.grade_top.specs.Scanning.{after, name_after}
-use Rattle.grade_top.specs.ChainReading.{written_at, written_text}
+use Rattle.grade_top.specs.ChainReading.{written_at}
 use Rattle.grade_top.specs.ChainGrouping.{term_written, shallow}
 use Rattle.grade_top.specs.ProgramReading.{heading_at, formula_read, function_read}
 use Rattle.grade_top.proofs.Fronts.{bind_some, when_some, unless_some, after_again, after_takes, name_after_takes, name_after_again}
-use Rattle.grade_top.proofs.ChainLaws.{written_take, written_again, no_operation}
+use Rattle.grade_top.proofs.ChainLaws.{written_text, written_take, written_again, no_operation}
 use Rattle.grade_top.proofs.GroupingLaws.{written_is_formula, written_is_text}
 use Rattle.grade_top.proofs.GroupingSteps.{shallow_is, shallow_value, is_shallow}
 use Rattle.grade_top.proofs.WrittenFormulas.{written_of, written_is_small, written_again_is, formula_text}

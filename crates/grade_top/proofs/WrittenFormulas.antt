@@ -11,9 +11,9 @@ use Rattle.grade_top.specs.declared.chain.Atom.{Atom}
 use Rattle.grade_top.specs.declared.chain.Atom.TheVariants as atom
 use Rattle.grade_top.specs.declared.chain.Link.{Link}
 use Rattle.grade_top.specs.ProgramForm.{IsFormula, IsBare}
-use Rattle.grade_top.specs.ChainReading.{Written, written_text}
+use Rattle.grade_top.specs.ChainReading.{Written}
 use Rattle.grade_top.specs.ChainGrouping.{leaf, closed, grouped, term_written}
-use Rattle.grade_top.proofs.ChainLaws.{IsSmall, AreSmall}
+use Rattle.grade_top.proofs.ChainLaws.{written_text, IsSmall, AreSmall}
 use Rattle.grade_top.proofs.GroupingLaws.{written_is_text}
 
 abbrev operation_of : ArithOp → Operation

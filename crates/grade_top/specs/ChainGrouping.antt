@@ -30,10 +30,12 @@ next_product Mul product operand = Binary (operator_of Mul) product operand
 next_product Add product operand = operand
 next_product Sub product operand = operand
 
+-- the formula once these links are grouped too
 unfoldable pub grouped : List ℕ → Option (Term × Operation) → Term → List Link → Term
 grouped param sum product [] = closed sum product
 grouped param sum product (l ∷ links) = grouped param (next_sum l.operation sum product) (next_product l.operation product (leaf param l.atom)) links
 
+-- the formula of a chain
 abbrev pub term_written : List ℕ → Written → Term
 term_written param w = grouped param None (leaf param w.first) w.links
 

@@ -23,6 +23,7 @@ formula_read param text = do
   written ← written_at param text
   if same_bytes written.1 (codes "\n") then shallow (term_written param written.0) else None
 
+-- the function of this name, which is no builtin's
 unfoldable pub function_read : List ℕ → List ℕ → Option Function
 function_read entry bytes = do
   heading ← if is_in entry builtins then None else heading_at entry bytes

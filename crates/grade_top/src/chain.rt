@@ -62,7 +62,8 @@ pub(crate) fn links_at<'a>(
     param: &[u8],
     text: &'a [u8],
 ) -> Result<Option<(Vec<Link>, &'a [u8])>, NoMemory>
-    ensures { IfOk result (λ o. option_map (λ x. (x.0.items, x.1.now)) o ≡ links_at (length text.now) param.now text.now) }
+    ensures { IfOk result (λ o. option_map (λ x. (x.0.items, x.1.now)) o
+        ≡ links_at (length text.now) param.now text.now) }
 {
     let mut links = Vec::new(alloc);
     let mut rest = text;

@@ -23,7 +23,8 @@ fn close(
     sum: Option<(Shallow, Operation)>,
     product: Shallow,
 ) -> Result<Option<Shallow>, NoMemory>
-    ensures { IfOk result (λ o. (param : List ℕ) → option_map (tree_term param) o ≡ shallow (closed (sum_terms param sum) (tree_term param product))) }
+    ensures { IfOk result (λ o. (param : List ℕ) → option_map (tree_term param) o
+        ≡ shallow (closed (sum_terms param sum) (tree_term param product))) }
 {
     match sum {
         None => Ok(Some(product)),
@@ -32,7 +33,8 @@ fn close(
 }
 
 fn next(alloc: Global, grouping: Grouping, link: Link) -> Result<Option<Grouping>, NoMemory>
-    ensures { IfOk result (λ o. (param : List ℕ) (links : List Link) → option_and_then (finished param links) o ≡ finished param (link ∷ links) grouping) }
+    ensures { IfOk result (λ o. (param : List ℕ) (links : List Link) → option_and_then (finished param links) o
+        ≡ finished param (link ∷ links) grouping) }
 {
     let Grouping { sum, product } = grouping;
     let operand = leaf(link.atom);
@@ -57,7 +59,8 @@ fn next(alloc: Global, grouping: Grouping, link: Link) -> Result<Option<Grouping
 
 /// The formula of the chain, if it isn't too deep.
 pub(crate) fn group(alloc: Global, first: Atom, links: &[Link]) -> Result<Option<Formula>, NoMemory>
-    ensures { IfOk result (λ o. (param : List ℕ) → option_map (term_of param) o ≡ shallow (grouped param None (leaf param first) links.now)) }
+    ensures { IfOk result (λ o. (param : List ℕ) → option_map (term_of param) o
+        ≡ shallow (grouped param None (leaf param first) links.now)) }
 {
     let mut grouping = Grouping {
         sum: None,

@@ -63,7 +63,9 @@ pub(crate) fn read_program(
     bytes: &[u8],
     entry: &Name,
 ) -> Result<Option<Function>, NoMemory>
-    ensures { IfOk result (λ o. MatchOption o (HaveNoProgram bytes.now entry.now) (λ f. IsProgram bytes.now entry.now (function_of f))) }
+    ensures { IfOk result (λ o. MatchOption o
+        (HaveNoProgram bytes.now entry.now)
+        (λ f. IsProgram bytes.now entry.now (function_of f))) }
 {
     function_read(alloc, entry.bytes(), bytes)
 }

@@ -94,17 +94,17 @@ fn rules_at(alloc: Global, bytes: &[u8]) -> Result<Option<Vec<Rule>>, NoMemory>
     }
 }
 
-fn is_name_of_one(name: &Name, rules: &[Rule]) -> bool
+fn is_taken(name: &Name, rules: &[Rule]) -> bool
     ensures { result ≡ list_any (λ rule. same_bytes name.now rule.name) rules.now }
 {
     rules.iter().any(|rule| name.is(&rule.name))
 }
 
-fn have_names_apart(rules: &[Rule]) -> bool
+fn have_distinct_names(rules: &[Rule]) -> bool
     ensures { result ≡ are_distinct (map (λ r. r.name) (rules_of rules.now)) }
 {
     for (i, rule) in rules.iter().enumerate() {
-        if is_name_of_one(&rule.name, &rules[i + 1..]) {
+        if is_taken(&rule.name, &rules[i + 1..]) {
             return false;
         }
     }
@@ -118,7 +118,7 @@ fn rules_read(alloc: Global, bytes: &[u8]) -> Result<Option<Vec<Rule>>, NoMemory
     let Some(rules) = rules_at(alloc, bytes)? else {
         return Ok(None);
     };
-    if have_names_apart(&rules) {
+    if have_distinct_names(&rules) {
         Ok(Some(rules))
     } else {
         Ok(None)
@@ -127,7 +127,9 @@ fn rules_read(alloc: Global, bytes: &[u8]) -> Result<Option<Vec<Rule>>, NoMemory
 
 /// The rules that the bytes spell, if they spell any.
 pub(crate) fn read_rules(alloc: Global, bytes: &[u8]) -> Result<Option<Vec<Rule>>, NoMemory>
-    ensures { IfOk result (λ o. MatchOption o (HaveNoRules bytes.now) (λ rules. IsRules bytes.now (rules_of rules.items))) }
+    ensures { IfOk result (λ o. MatchOption o
+        (HaveNoRules bytes.now)
+        (λ rules. IsRules bytes.now (rules_of rules.items))) }
 {
     rules_read(alloc, bytes)
 }

@@ -12,7 +12,7 @@ use std::alloc::Global;
 
 const DEEPEST: u32 = 32;
 
-/// A formula, with its depth.
+/// A formula, with its depth. A deeper one is never built: to drop it would take a call for each level.
 #[derive(Drop)]
 pub(crate) struct Shallow {
     pub(crate) formula: Formula,
@@ -38,7 +38,8 @@ fn binary(
     left: Formula,
     right: Formula,
 ) -> Result<Formula, NoMemory>
-    ensures { IfOk result (λ f. (param : List ℕ) → term_of param f ≡ Binary (operator_of operation) (term_of param left) (term_of param right)) }
+    ensures { IfOk result (λ f. (param : List ℕ) → term_of param f
+        ≡ Binary (operator_of operation) (term_of param left) (term_of param right)) }
 {
     let first = Box::new(alloc, left)?;
     let second = Box::new(alloc, right)?;
@@ -52,7 +53,8 @@ pub(crate) fn join(
     left: Shallow,
     right: Shallow,
 ) -> Result<Option<Shallow>, NoMemory>
-    ensures { IfOk result (λ o. (param : List ℕ) → option_map (λ tree. term_of param tree.formula) o ≡ shallow (Binary (operator_of operation) (term_of param left.formula) (term_of param right.formula))) }
+    ensures { IfOk result (λ o. (param : List ℕ) → option_map (λ tree. term_of param tree.formula) o
+        ≡ shallow (Binary (operator_of operation) (term_of param left.formula) (term_of param right.formula))) }
 {
     let depth = 1 + left.depth.max(right.depth);
     if depth > DEEPEST {
