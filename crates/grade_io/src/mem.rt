@@ -48,8 +48,9 @@ impl MemShelf {
         ensures others { OthersKept name.now (⟦<MemShelf as Shelf>⟧.seen self.old) (⟦<MemShelf as Shelf>⟧.seen self.new) }
         ensures err { OnErr result ((other : List ℕ)
             → (⟦<MemShelf as Shelf>⟧.seen self.new).holds other ≡ (⟦<MemShelf as Shelf>⟧.seen self.old).holds other) }
-        ensures calls { (⟦<MemShelf as Shelf>⟧.seen self.new).calls ≡ (⟦<MemShelf as Shelf>⟧.seen self.old).calls }
-        ensures faults { (⟦<MemShelf as Shelf>⟧.seen self.new).faults ≡ (⟦<MemShelf as Shelf>⟧.seen self.old).faults }
+        // Nothing but the files changes.
+        ensures rest { ⟦<MemShelf as Shelf>⟧.seen self.new
+            ≡ record (⟦<MemShelf as Shelf>⟧.seen self.old) { holds = (⟦<MemShelf as Shelf>⟧.seen self.new).holds } }
     {
         files::replace(self.alloc, &mut self.texts, name, bytes)
     }

@@ -39,6 +39,9 @@ impl SureShelf {
         ensures others { OthersKept name.now (⟦<SureShelf as Shelf>⟧.seen self.old) (⟦<SureShelf as Shelf>⟧.seen self.new) }
         ensures err { OnErr result ((other : List ℕ)
             → (⟦<SureShelf as Shelf>⟧.seen self.new).holds other ≡ (⟦<SureShelf as Shelf>⟧.seen self.old).holds other) }
+        // Nothing but the files changes.
+        ensures rest { ⟦<SureShelf as Shelf>⟧.seen self.new
+            ≡ record (⟦<SureShelf as Shelf>⟧.seen self.old) { holds = (⟦<SureShelf as Shelf>⟧.seen self.new).holds } }
     {
         files::replace(self.alloc, &mut self.texts, name, bytes)
     }

@@ -10,9 +10,9 @@ use std::test::Fail;
 fn shelf_in_memory(rt: HostRuntime) -> Result<(), Fail> {
     let alloc = rt.alloc();
     let mut shelf = MemShelf::new(alloc, vec![in alloc; 3u64, 6u64]?);
-    shelf.add("held", b"12345")?;
     let other = b"67".to_vec(alloc)?;
     shelf.store("other", &other)?;
+    shelf.add("held", b"12345")?;
     // Each row: the name, the limit and what the fetch gives. The second row is the third call.
     let fetches: [(&str, u64, Result<&[u8], FetchError>); 4] = [
         ("other", 2, Ok(b"67")),

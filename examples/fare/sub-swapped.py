@@ -1,0 +1,2 @@
+def fare(km):
+    return 3 + 5 * km

@@ -1,0 +1,2 @@
+def fare(distance):
+    return distance * 3 + 5

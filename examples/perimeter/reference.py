@@ -1,0 +1,2 @@
+def perimeter(side):
+    return 4 * side
