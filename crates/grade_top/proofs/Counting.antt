@@ -1,16 +1,19 @@
 -- Products and powers of the number of choices, and the digits of a selection.
-use Rattle.std.proofs.Common.{◌≡◌, ◌≢◌, ◌⊎◌, ℕ, zero, suc, ◌+◌, ◌-◌, ◌*◌, ◌^◌, ◌%◌, ◌<◌, ◌≤◌, List, length, refl, sym, ap, ◌∙◌, arith, slice_get, map, IfSome, IfNone, Some, None}
+use Rattle.std.proofs.Common.{◌≡◌, ◌≢◌, ◌⊎◌, ℕ, zero, suc, ◌+◌, ◌-◌, ◌*◌, ◌^◌, ◌%◌, ◌/◌, ◌<◌, ◌≤◌, List, length, refl, sym, ap, ◌∙◌, arith, slice_get, map, MatchOption, Some, None}
 use Rattle.std.specs.Prelude.{Option}
 use Rattle.std.specs.Option.{option_map}
 use Rattle.std.proofs.lemmas.Nat.{pow-add}
 use Rattle.std.proofs.lemmas.Option.{slice_get-map}
-use Rattle.std.proofs.Math.Nat.{pow-suc, pow-zero, mul-le-mul_left, one-le-pow}
+use Rattle.std.proofs.Math.Nat.{pow-suc, pow-zero, mul-le-mul_left, one-le-pow, le-div_iff_mul-le}
 use Rattle.grade_top.specs.Rewriting.{Alternative}
 use Rattle.std.proofs.Common.{inl, inr}
 use Rattle.std.proofs.lemmas.Bool.{le-leb, cases_lt}
 use Rattle.std.proofs.lemmas.Bool.Decides.{nat_tests}
 use Rattle.mpy_tree.specs.Syntax.{Term, Number, Binary}
 use Rattle.grade_top.specs.Rewriting.{literals_in}
+use Rattle.grade_top.specs.Rewriting.{selections_of}
+use Rattle.grade_top.specs.Agreement.{Task, IsTooLarge, inputs_count}
+use Rattle.grade_top.specs.Verdicts.{IsTried}
 use Rattle.grade_top.specs.Selections.{at_most, choices_of, counted, next_digit, taken, times_at_most}
 
 -- what a digit above 0 takes
@@ -55,3 +58,29 @@ counted_all most w e some room = ap (counted most w e) (sym (small most 1 room))
 
 pub none_at_all : (w k : ℕ) → 0 < w → at_most 0 (w ^ k) ≡ None
 none_at_all w k some = large 0 (w ^ k) (one-le-pow k w some)
+
+no_room : (n inputs count : ℕ) → 0 < inputs → n ≤ 1000000 / inputs → inputs ≡ count → 1000000 < n * count → ⊥
+no_room n inputs count some low is large =
+    let fits : n * inputs ≤ 1000000 = (le-div_iff_mul-le {k = inputs} {x = n} {y = 1000000} some).0 low in
+    let same : n * inputs ≡ n * count = ap (λ m. n * m) is in
+    omega arith
+
+too_many : (n inputs count : ℕ) → 0 < inputs → 1000000 / inputs < n → inputs ≡ count → 1000000 < n * count
+too_many n inputs count some high is =
+    elim (cases_le (n * count) 1000000) [
+      | inl fits ↦
+          let same : n * inputs ≡ n * count = ap (λ m. n * m) is in
+          let low : n ≤ 1000000 / inputs = (le-div_iff_mul-le {k = inputs} {x = n} {y = 1000000} some).1 (omega arith) in
+          absurd (omega arith)
+      | inr large ↦ large
+    ]
+
+-- so many are tried, unless with the inputs there are more than the limit
+pub tried : (k : Task) (o : Option ℕ) (inputs : ℕ) → o ≡ at_most (1000000 / inputs) (selections_of k.rules k.submission.body) → inputs ≡ inputs_count k.bounds → MatchOption o (IsTooLarge k) (IsTried k)
+tried k o inputs is count =
+    let n = selections_of k.rules k.submission.body in
+    let some : 0 < inputs = omega (arith, count) in
+    elim (cases_le n (1000000 / inputs)) [
+      | inl low ↦ rw (is, small (1000000 / inputs) n low) (record { all = refl; small = λ large. no_room n inputs (inputs_count k.bounds) some low count large })
+      | inr high ↦ rw (is, large (1000000 / inputs) n high) (too_many n inputs (inputs_count k.bounds) some high count)
+    ]

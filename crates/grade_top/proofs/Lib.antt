@@ -1,4 +1,17 @@
+pub mod AgreementLaws
+pub mod Appending
+pub mod BoundsLaws
+pub mod BoundsRanges
 pub mod Counting
+pub mod Digits
 pub mod FormulaMeaning
+pub mod Fronts
+pub mod Keeping
 pub mod Leasts
+pub mod OneTask
+pub mod Ranges
+pub mod RuleNames
+pub mod RulesLaws
+pub mod RulesLoops
 pub mod SelectionLaws
+pub mod VerdictLaws

@@ -1,6 +1,7 @@
 pub mod Agreement
 pub mod Answers
 pub mod BoundsForm
+pub mod BoundsReading
 pub mod Decisions
 pub mod FormulaValues
 pub mod Names
@@ -9,7 +10,11 @@ pub mod Reports
 pub mod Rewriting
 pub mod RewritingViews
 pub mod RulesForm
+pub mod RulesReading
+pub mod Scanning
 pub mod Searches
 pub mod Selections
+pub mod Tables
 pub mod Texts
+pub mod Verdicts
 pub mod Views

@@ -7,6 +7,7 @@ mod names;
 mod operators;
 mod outcome;
 mod refusal;
+mod sequences;
 mod tree;
 mod typing;
 mod value;

@@ -1,0 +1,8 @@
+pub mod Kept
+pub mod Pushes
+pub mod Naturals
+pub mod Integers
+pub mod Signs
+pub mod Products
+pub mod Quotients
+pub mod Floors

@@ -1,0 +1,23 @@
+use Rattle.std.proofs.Common.{◌≡◌, ◌∙◌, ap, sym, arith, length, length-append}
+use Rattle.bit_words.specs.Logic.{extends_trans}
+use Rattle.bit_words.proofs.Kept.{owns_push, owns_kept, owns_read, take_read, reads_kept}
+use Rattle.bit_words.proofs.Pushes.{push_read, choose_more}
+use Rattle.bit_words.proofs.bitwise.choose_word.Goals as goal
+
+pub loop-i-preserved : goal.loop-i-preserved
+loop-i-preserved g c =
+    let reads = g.L.Logic.reads in
+    let before = c.loop-i.invariant in
+    let step = c.choose.ensures.extends in
+    record {
+      extends = extends_trans before.extends step;
+      owned = owns_push (owns_kept step before.owned) c.in_ok-digit.ensures.owned c.in_ok-push.ensures.ok;
+      width = ap length c.in_ok-push.ensures.ok ∙ simp (length-append) (omega arith);
+      value = λ vs.
+          let first = reads c.args.g.now vs in
+          let test = before.extends.same _ c.requires.test vs in
+          let left = before.extends.same _ (owns_read _ c.requires.yes c.at-first.ensures) vs in
+          let right = before.extends.same _ (owns_read _ c.requires.no c.at-second.ensures) vs in
+          push_read (reads c.loop-i.g vs) (reads c.choose.new.self vs) _ _ _ _ _ (reads_kept step before.owned vs) (before.value vs) (rw (test, left, right) at (c.in_ok-digit.ensures.value vs)) c.in_ok-push.ensures.ok
+          ∙ sym (choose_more (first c.args.test) first _ _ _ _ _ _ (take_read c.args.yes.now c.loop-i.i c.at-first.result c.at-first.ensures) (take_read c.args.no.now c.loop-i.i c.at-second.result c.at-second.ensures));
+    }

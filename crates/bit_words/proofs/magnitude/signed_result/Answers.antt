@@ -1,0 +1,33 @@
+use Rattle.std.proofs.Common.{◌≡◌, ◌∙◌, ◌+◌, ◌-◌, ◌^◌, ◌||◌, ℕ, ap, sym, length, map, arith, Bool, List, true, not}
+use Rattle.bit_words.specs.Words.{nat_of, nat_read, int_read, is_within, signed, IsUnsigned}
+use Rattle.bit_words.proofs.Kept.{reads_kept}
+use Rattle.bit_words.proofs.Signs.{signed_number}
+use Rattle.bit_words.specs.Words.{int_of}
+use Rattle.bit_words.proofs.magnitude.signed_result.Given as given
+use Rattle.bit_words.proofs.magnitude.signed_result.Goals as goal
+
+both : (g : given.Over) (c : goal.After-drop-wide-inside-2 g) (vs : List Bool) (number : ℕ) →
+    IsUnsigned (length c.args.size.now) number (nat_read g.L.Logic.reads c.args.g.now vs c.args.size.now) (g.L.Logic.reads c.args.g.now vs c.args.over) →
+    let z = signed (g.L.Logic.reads c.args.g.now vs c.args.sign) number in
+    (g.L.Logic.reads c.or.new.g vs c.in_ok-spilled.spilled ≡ not (is_within (2 ^ (length c.args.size.now - 1)) z))
+    × (is_within (2 ^ (length c.args.size.now - 1)) z ≡ true → int_read g.L.Logic.reads c.or.new.g vs c.in_ok-number.number ≡ z)
+both g c vs number u =
+    let reads = g.L.Logic.reads in
+    let first = reads c.args.g.now vs in
+    let one = c.with_sign.ensures.extends in
+    let two = c.narrow.ensures.extends in
+    let three = c.or.ensures.extends in
+    let size : c.len-width.result ≡ length c.args.size.now = omega arith in
+    let over = two.same _ (one.kept _ c.requires.over) vs ∙ one.same _ c.requires.over vs in
+    let spilled = rw over at (c.in_ok-spilled.ensures.value vs) in
+    let kept = ap int_of (reads_kept three c.in_ok-number.ensures.owned vs) in
+    let wide = c.in_ok-wide.ensures.value vs in
+    let fit = signed_number (length c.args.size.now) number (nat_of (map first c.args.size.now)) (first c.args.sign) (first c.args.over) (reads c.narrow.new.g vs c.in_ok-number.left) (int_of (map (reads c.narrow.new.g vs) c.in_ok-number.number)) c.requires.some u
+        (rw (wide, size) at (c.in_ok-number.ensures.over vs)) (rw (wide, size) at (c.in_ok-number.ensures.value vs)) in
+    rw (spilled, kept) fit
+
+pub returns-clause-over : goal.returns-clause-over
+returns-clause-over g c vs number u = (both g c vs number u).0
+
+pub returns-clause-value : goal.returns-clause-value
+returns-clause-value g c vs number u = (both g c vs number u).1

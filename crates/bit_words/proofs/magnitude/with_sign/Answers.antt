@@ -1,0 +1,31 @@
+use Rattle.std.proofs.Common.{◌≡◌, ◌<◌, ◌∙◌, ◌+◌, ◌-◌, ◌*◌, ◌^◌, ℕ, ap, sym, length, map, take, arith, subst, cond, ◌++◌, ◌∷◌, [], length-append, true, false}
+use Rattle.std.specs.Prelude.{ℤ, pos, ◌+ℤ◌, neg_ℤ}
+use Rattle.std.proofs.lemmas.Int.{ints}
+use Rattle.std.proofs.lemmas.List.{length-map, map_push}
+use Rattle.bit_words.specs.Bits.{differ}
+use Rattle.bit_words.specs.Words.{bit_value, nat_of, int_of, is_within, fits, signed}
+use Rattle.bit_words.proofs.Integers.{int_zeros}
+use Rattle.bit_words.proofs.Signs.{unsigned_int, signed_fits, flipped_int, cond_signed}
+use Rattle.bit_words.proofs.magnitude.with_sign.Goals as goal
+
+drop_zero : (x y : ℤ) → x +ℤ pos 0 +ℤ y ≡ x +ℤ y
+drop_zero x y = omega (arith, ints)
+
+pub returns-clause-value : goal.returns-clause-value
+returns-clause-value g c vs =
+    let reads = g.L.Logic.reads in
+    let first = reads c.args.g.now vs in
+    let bits = map first c.args.size.now in
+    let sign = first c.args.sign in
+    let wide = ap (map first) (c.in_ok-push.ensures.ok ∙ ap (λ w. w ++ c.constant-no.result ∷ []) c.in_ok-wide.ensures) ∙ map_push first c.args.size.now c.constant-no.result ∙ ap (λ b. bits ++ b ∷ []) (c.constant-no.ensures.value vs) in
+    let same = ap int_of wide ∙ unsigned_int bits in
+    let long : 0 < length (map first c.push.new.self) = simp length-map (rw c.in_ok-push.ensures.ok (simp length-append (omega arith))) in
+    let kept = c.flip_where.ensures.extends.same _ c.requires.sign vs in
+    let flipped = ap int_of (c.in_ok-flipped.ensures.value vs) in
+    let nothing = ap int_of (c.in_ok-nothing.ensures.value vs) ∙ int_zeros c.len-width.result in
+    let turned = flipped_int sign (map first c.push.new.self) long in
+    let z : int_of (map (reads c.flip_where.new.g vs) c.in_ok-flipped.flipped) +ℤ int_of (map (reads c.flip_where.new.g vs) c.in_ok-nothing.nothing) +ℤ pos (bit_value (reads c.flip_where.new.g vs c.args.sign)) ≡ signed sign (nat_of bits)
+        = rw (kept, flipped, nothing) (drop_zero (int_of (map (differ sign) (map first c.push.new.self))) (pos (bit_value sign)) ∙ turned ∙ ap (λ (y : ℤ). cond sign (neg_ℤ y) y) same ∙ cond_signed sign (nat_of bits)) in
+    let width : length c.in_ok-flipped.flipped - 1 ≡ length bits = simp length-map (omega (arith, c.in_ok-flipped.ensures.width, ap length c.in_ok-push.ensures.ok, ap length c.in_ok-wide.ensures, length-append c.in_ok-wide.wide (c.constant-no.result ∷ []))) in
+    let fit = signed_fits bits sign in
+    c.in_ok-number.ensures.value vs (rw (width, z) fit) ∙ z

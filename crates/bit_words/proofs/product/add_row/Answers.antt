@@ -1,0 +1,35 @@
+use Rattle.std.proofs.Common.{◌≡◌, ◌∙◌, ◌+◌, ◌-◌, ◌*◌, ◌^◌, ◌<◌, ◌||◌, ◌&&◌, ℕ, ap, sym, length, map, take, arith, subst, Bool}
+use Rattle.bit_words.specs.Logic.{extends_trans}
+use Rattle.bit_words.specs.Words.{bit_value, nat_of, IsUnsigned}
+use Rattle.bit_words.proofs.Kept.{owns_read, reads_kept}
+use Rattle.bit_words.proofs.Naturals.{nat_more}
+use Rattle.bit_words.proofs.Integers.{nat_read_below}
+use Rattle.bit_words.proofs.Products.{row_more}
+use Rattle.bit_words.proofs.product.add_row.Goals as goal
+
+pub returns-clause-value : goal.returns-clause-value
+returns-clause-value g c vs digits some higher =
+    let reads = g.L.Logic.reads in
+    let first = reads c.args.g.now vs in
+    let summed = reads c.row_sum.new.g vs in
+    let w = c.args.width - 1 in
+    let width : c.args.width ≡ w + 1 = omega arith in
+    let one = c.row_sum.ensures.extends in
+    let two = c.and.ensures.extends in
+    let three = c.or.ensures.extends in
+    let four = c.or-2.ensures.extends in
+    let top_owned = owns_read _ c.requires.factor c.at-top.ensures in
+    let top = one.same _ top_owned vs in
+    let some_kept = one.same _ c.requires.some vs in
+    let over_kept = two.same _ (one.kept _ c.requires.over) vs ∙ one.same _ c.requires.over vs in
+    let carry_kept = two.same _ c.in_ok-sum.ensures.owned_carry vs in
+    let lost_kept = three.same _ c.in_ok-lost.ensures.owned vs in
+    let lost = lost_kept ∙ rw (some_kept, top) at (c.in_ok-lost.ensures.value vs) in
+    let carried = rw (over_kept, carry_kept) at (c.in_ok-carried.ensures.value vs) in
+    let spilled = rw (carried, lost) at (c.in_ok-spilled.ensures.value vs) in
+    let sum_kept = ap nat_of (reads_kept (extends_trans two (extends_trans three four)) c.in_ok-sum.ensures.owned vs) in
+    let split = ap (λ k. nat_of (map first (take k c.args.a.now))) width ∙ nat_more first c.args.a.now w c.at-top.result c.at-top.ensures in
+    let more = row_more c.args.width w (nat_of (map first (take c.args.width c.args.a.now))) (nat_of (map first (take w c.args.a.now))) (nat_of (map first c.args.higher.now)) (nat_of (map summed c.in_ok-sum.sum)) digits
+        (first c.at-top.result) (first c.args.digit) (first c.args.over) (summed c.in_ok-sum.carry) (first c.args.some)
+        width split (nat_read_below summed c.in_ok-sum.sum c.args.width c.in_ok-sum.ensures.width) some higher (c.in_ok-sum.ensures.total vs) in
+    rw (sum_kept, spilled) more

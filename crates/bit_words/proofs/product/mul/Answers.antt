@@ -1,0 +1,44 @@
+use Rattle.std.proofs.Common.{◌≡◌, ◌∙◌, ◌*◌, ℕ, ap, sym, length, map, subst, List, Bool}
+use Rattle.std.specs.Prelude.{ℤ, ◌*ℤ◌}
+use Rattle.std.specs.Int.RustNames.{unsigned_abs}
+use Rattle.bit_words.specs.Bits.{differ}
+use Rattle.bit_words.specs.Logic.{extends_trans}
+use Rattle.bit_words.specs.Words.{nat_of, int_of, nat_read, int_read, is_negative, signed, IsUnsigned, OverflowsAs, Holds}
+use Rattle.bit_words.proofs.Kept.{reads_kept}
+use Rattle.bit_words.proofs.Signs.{product_signed}
+use Rattle.bit_words.proofs.product.mul.Given as given
+use Rattle.bit_words.proofs.product.mul.Goals as goal
+
+size_is : (g : given.Over) (c : goal.After-drop-left-inside-2 g) (vs : List Bool) →
+    IsUnsigned (length c.in_ok-size.size) (unsigned_abs (int_read g.L.Logic.reads c.args.g.now vs c.args.a.now) * unsigned_abs (int_read g.L.Logic.reads c.args.g.now vs c.args.b.now))
+    (nat_read g.L.Logic.reads c.xor.new.g vs c.in_ok-size.size) (g.L.Logic.reads c.xor.new.g vs c.in_ok-size.spilled)
+size_is g c vs =
+    let one = c.magnitude.ensures.extends in
+    let two = c.magnitude-2.ensures.extends in
+    let four = c.xor.ensures.extends in
+    let left = ap nat_of (reads_kept two c.in_ok-left.ensures.owned vs) ∙ c.in_ok-left.ensures.value vs in
+    let right = c.in_ok-right.ensures.value vs ∙ ap (λ v. unsigned_abs (int_of v)) (reads_kept one c.requires.right vs) in
+    let kept = ap nat_of (reads_kept four c.in_ok-size.ensures.owned vs) in
+    let spilled = four.same _ c.in_ok-size.ensures.owned_over vs in
+    rw (kept, spilled, c.in_ok-size.ensures.width) (rw (left, right) at (c.in_ok-size.ensures.value vs))
+
+number_is : (g : given.Over) (c : goal.After-drop-left-inside-2 g) (vs : List Bool) →
+    signed (g.L.Logic.reads c.xor.new.g vs c.in_ok-sign.sign) (unsigned_abs (int_read g.L.Logic.reads c.args.g.now vs c.args.a.now) * unsigned_abs (int_read g.L.Logic.reads c.args.g.now vs c.args.b.now))
+    ≡ int_read g.L.Logic.reads c.args.g.now vs c.args.a.now *ℤ int_read g.L.Logic.reads c.args.g.now vs c.args.b.now
+number_is g c vs =
+    let steps = extends_trans c.magnitude.ensures.extends (extends_trans c.magnitude-2.ensures.extends c.product.ensures.extends) in
+    let left = steps.same _ c.sign_of-left_sign.ensures.owned vs ∙ c.sign_of-left_sign.ensures.value vs in
+    let right = steps.same _ c.sign_of-right_sign.ensures.owned vs ∙ c.sign_of-right_sign.ensures.value vs in
+    rw (c.in_ok-sign.ensures.value vs, left, right) (sym (product_signed (int_read g.L.Logic.reads c.args.g.now vs c.args.a.now) (int_read g.L.Logic.reads c.args.g.now vs c.args.b.now)))
+
+pub returns-clause-over : goal.returns-clause-over
+returns-clause-over g c vs =
+    let width = c.in_ok-size.ensures.width ∙ c.in_ok-left.ensures.width in
+    subst (λ (z : ℤ). OverflowsAs (g.L.Logic.reads c.signed_result.new.g vs c.in_ok-number.over) (length c.args.a.now) z) (number_is g c vs)
+    (rw width at (c.in_ok-number.ensures.over vs _ (size_is g c vs)))
+
+pub returns-clause-value : goal.returns-clause-value
+returns-clause-value g c vs =
+    let width = c.in_ok-size.ensures.width ∙ c.in_ok-left.ensures.width in
+    subst (λ (z : ℤ). Holds (int_read g.L.Logic.reads c.signed_result.new.g vs c.in_ok-number.number) (length c.args.a.now) z) (number_is g c vs)
+    (rw width at (c.in_ok-number.ensures.value vs _ (size_is g c vs)))

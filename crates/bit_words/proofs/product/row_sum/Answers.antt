@@ -1,0 +1,22 @@
+use Rattle.std.proofs.Common.{◌≡◌, ◌∙◌, ◌+◌, ◌*◌, ◌^◌, ℕ, ap, sym, length, map, take, arith, subst, length-take, cond, true, false, ◌∷◌, List, Bool}
+use Rattle.std.proofs.lemmas.List.{length-map, take_all}
+use Rattle.bit_words.specs.Words.{bit_value, nat_of}
+use Rattle.bit_words.proofs.Kept.{reads_kept}
+use Rattle.bit_words.proofs.Products.{nat_masked}
+use Rattle.bit_words.proofs.product.row_sum.Goals as goal
+
+pub returns-clause-total : goal.returns-clause-total
+returns-clause-total g c vs =
+    let reads = g.L.Logic.reads in
+    let first = reads c.args.g.now vs in
+    let next = reads c.mask.new.g vs in
+    let left = take_all c.args.width c.in_ok-row.row (omega (arith, c.in_ok-row.ensures.width, ap length c.in_ok-low.ensures, length-take c.args.width c.args.a.now)) in
+    let doubled = c.in_ok-push_low.ensures.ok in
+    let right = take_all c.args.width c.push_low.new.self (omega (arith, ap length doubled, ap length c.in_ok-doubled.ensures)) in
+    let row = ap nat_of (c.in_ok-row.ensures.value vs) ∙ nat_masked (first c.args.digit) (map first c.in_ok-low.low) ∙ ap (λ w. cond (first c.args.digit) (nat_of (map first w)) 0) c.in_ok-low.ensures in
+    let no = c.constant-no.ensures.value vs in
+    let twice : nat_of (map next c.push_low.new.self) ≡ nat_of (map first c.args.higher.now) + nat_of (map first c.args.higher.now)
+        = ap (λ w. nat_of (map next w)) doubled ∙ ap (λ (b : Bool). bit_value b + (nat_of (map next c.in_ok-doubled.doubled) + nat_of (map next c.in_ok-doubled.doubled))) no
+        ∙ ap (λ w. 0 + (nat_of (map next w) + nat_of (map next w))) c.in_ok-doubled.ensures
+        ∙ ap (λ (v : List Bool). 0 + (nat_of v + nat_of v)) (reads_kept c.mask.ensures.extends c.requires.higher vs) ∙ omega arith in
+    rw (left, right, row, twice, no) at (c.in_ok-sum.ensures.total vs) ∙ omega arith

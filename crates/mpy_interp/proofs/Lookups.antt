@@ -1,0 +1,141 @@
+-- A frame after a local is set.
+use Rattle.std.proofs.Common.{◌≡◌, ◌≢◌, ℕ, zero, suc, ◌+◌, ◌<◌, ◌≤◌, List, [], ◌∷◌, ◌++◌, length, get_or, set, Option, Some, None, Bool, true, false, cond, if◌then◌else◌, refl, sym, ap, ◌∙◌, arith, rules, get_or-set_same, get_or-set_other, length-append}
+use Rattle.std.specs.Prelude.{slice_get, nat_eq, nat_lt}
+use Rattle.std.specs.List.{position, position_or_len, find}
+use Rattle.std.specs.Cmp.Lexicographic.{pointwise}
+use Rattle.std.proofs.lemmas.List.{length-set}
+use Rattle.std.proofs.lemmas.List.Folds.{position_or_len-set, find_at}
+use Rattle.std.proofs.lemmas.List.Quantifiers.{position-Some}
+use Rattle.std.proofs.lemmas.Option.{slice_get-get_or, slice_get_past}
+use Rattle.std.proofs.lemmas.Bool.Decides.{nat_tests}
+use Rattle.std.proofs.lemmas.Slice.Eq.{bytes_eq-Decides}
+use Rattle.mpy_tree.specs.declared.value.Value.{Value}
+use Rattle.mpy_interp.specs.declared.frame.Binding.{Binding}
+use Rattle.mpy_tree.specs.Values.{State, same_bytes, assign}
+use Rattle.mpy_interp.specs.Frames.{looked, place_of, value_in, or_value, over}
+
+abbrev is_of : List ℕ → Binding → Bool
+is_of y b = same_bytes y b.name
+
+abbrev value_at : List Binding → Option ℕ → Option Value
+value_at bs None = None
+value_at bs (Some k) = value_in (slice_get bs k)
+
+-- a lookup by the place of the name
+abbrev looked_at : List Binding → State
+looked_at bs y = value_at bs (place_of bs y)
+
+-- a binding of the same name, at another's place, leaves the places as they are
+place-set : (bs : List Binding) (k : ℕ) (b n : Binding) (y : List ℕ) → b ≡ get_or bs k b → n.name ≡ b.name → place_of (set bs k n) y ≡ place_of bs y
+place-set bs k b n y is e =
+    let p : is_of y n ≡ is_of y (get_or bs k b) = ap (same_bytes y) e ∙ ap (is_of y) is in
+    let q = position_or_len-set (is_of y) bs k n b p in
+    ap (λ m. cond (nat_lt m (length (set bs k n))) (Some m) None) q
+    ∙ ap (λ m. cond (nat_lt (position_or_len (is_of y) bs) m) (Some (position_or_len (is_of y) bs)) None) (length-set bs k n)
+
+-- what stands at the place itself, and at others
+at_place : (bs : List Binding) (k : ℕ) (n : Binding) → k < length bs → slice_get (set bs k n) k ≡ Some n
+at_place bs k n h =
+    let w : k < length (set bs k n) = omega (arith, length-set bs k n) in
+    slice_get-get_or (set bs k n) k n w ∙ ap Some (get_or-set_same bs k n n h)
+
+at_others : (bs : List Binding) (k j : ℕ) (n b : Binding) → j ≢ k → j < length bs → slice_get (set bs k n) j ≡ slice_get bs j
+at_others bs k j n b ne h =
+    let w : j < length (set bs k n) = omega (arith, length-set bs k n) in
+    slice_get-get_or (set bs k n) j b w ∙ ap Some (rw get_or-set_other refl) ∙ sym (slice_get-get_or bs j b h)
+
+same-is : (x y : List ℕ) → same_bytes x y ≡ true → x ≡ y
+same-is x y = (bytes_eq-Decides x y).0
+
+is-same : (x y : List ℕ) → x ≡ y → same_bytes x y ≡ true
+is-same x y = (bytes_eq-Decides x y).1
+
+-- another name is looked up as before
+others : (bs : List Binding) (k : ℕ) (b n : Binding) (x y : List ℕ) (o : Option ℕ) → place_of bs x ≡ Some k → b ≡ get_or bs k b → same_bytes y x ≡ false → place_of bs y ≡ o → value_at (set bs k n) o ≡ value_at bs o
+others bs k b n x y None at is ne e = refl
+others bs k b n x y (Some j) at is ne e =
+    let p = position-Some (is_of x) bs k b at in
+    let q = position-Some (is_of y) bs j b e in
+    let apart : j ≢ k = λ m.
+    let yb : same_bytes y (get_or bs k b).name ≡ true = ap (λ i. same_bytes y (get_or bs i b).name) (sym m) ∙ q.1 in
+    let yx : y ≡ x = same-is y _ yb ∙ sym (same-is x _ p.1) in
+    let t = is-same y x yx in
+    cc in
+    ap value_in (at_others bs k j n b apart q.0)
+
+at_name : (bs : List Binding) (k : ℕ) (b n : Binding) (x y : List ℕ) (v : Value) (t : Bool) → place_of bs x ≡ Some k → b ≡ get_or bs k b → n.name ≡ b.name → n.value ≡ v → same_bytes y x ≡ t → looked_at (set bs k n) y ≡ (if t then Some v else looked_at bs y)
+at_name bs k b n x y v true at is e f s =
+    let p = position-Some (is_of x) bs k b at in
+    ap (value_at (set bs k n)) (place-set bs k b n y is e ∙ ap (place_of bs) (same-is y x s) ∙ at)
+    ∙ ap value_in (at_place bs k n p.0)
+    ∙ ap Some f
+at_name bs k b n x y v false at is e f s =
+    ap (value_at (set bs k n)) (place-set bs k b n y is e) ∙ others bs k b n x y (place_of bs y) at is s refl
+
+-- a lookup finds the first binding of the name
+by_find : (bs : List Binding) (y : List ℕ) (t : Bool) → nat_lt (position_or_len (is_of y) bs) (length bs) ≡ t → value_at bs (cond t (Some (position_or_len (is_of y) bs)) None) ≡ value_in (find (is_of y) bs)
+by_find bs y true e = ap value_in (sym (find_at (is_of y) bs))
+by_find bs y false e =
+    let past : length bs ≤ position_or_len (is_of y) bs = grind (arith, nat_tests) in
+    ap value_in (sym (find_at (is_of y) bs ∙ slice_get_past bs (position_or_len (is_of y) bs) past))
+
+looked_is : (bs : List Binding) (y : List ℕ) → looked_at bs y ≡ looked bs y
+looked_is bs y = by_find bs y (nat_lt (position_or_len (is_of y) bs) (length bs)) refl
+
+past_head : (t : Bool) (c : Binding) (o q r : Option Binding) → cond t (Some c) o ≡ None → (o ≡ None → q ≡ r) → cond t (Some c) q ≡ r
+past_head true c o q r e h = cc
+past_head false c o q r e h = h e
+
+push_past : (p : Binding → Bool) (bs : List Binding) (n : Binding) → find p bs ≡ None → find p (bs ++ n ∷ []) ≡ find p (n ∷ [])
+push_past p [] n e = refl
+push_past p (c ∷ bs) n e = past_head (p c) c (find p bs) (find p (bs ++ n ∷ [])) (find p (n ∷ [])) e (push_past p bs n)
+
+kept_head : (t : Bool) (c b : Binding) (o q : Option Binding) → cond t (Some c) o ≡ Some b → (o ≡ Some b → q ≡ Some b) → cond t (Some c) q ≡ Some b
+kept_head true c b o q e h = e
+kept_head false c b o q e h = h e
+
+push_kept : (p : Binding → Bool) (bs : List Binding) (n b : Binding) → find p bs ≡ Some b → find p (bs ++ n ∷ []) ≡ Some b
+push_kept p [] n b e = cc
+push_kept p (c ∷ bs) n b e = kept_head (p c) c b (find p bs) (find p (bs ++ n ∷ [])) e (push_kept p bs n b)
+
+none_found : (bs : List Binding) (x : List ℕ) (t : Bool) → nat_lt (position_or_len (is_of x) bs) (length bs) ≡ t → cond t (Some (position_or_len (is_of x) bs)) None ≡ None → find (is_of x) bs ≡ None
+none_found bs x true e h = cc
+none_found bs x false e h =
+    let past : length bs ≤ position_or_len (is_of x) bs = grind (arith, nat_tests) in
+    find_at (is_of x) bs ∙ slice_get_past bs (position_or_len (is_of x) bs) past
+
+other_pushed : (bs : List Binding) (n : Binding) (y : List ℕ) (o : Option Binding) → is_of y n ≡ false → find (is_of y) bs ≡ o → value_in (find (is_of y) (bs ++ n ∷ [])) ≡ value_in o
+other_pushed bs n y None s e = ap value_in (push_past (is_of y) bs n e) ∙ ap (λ t. value_in (cond t (Some n) None)) s
+other_pushed bs n y (Some b) s e = ap value_in (push_kept (is_of y) bs n b e)
+
+-- what is looked up after a new name
+unknown : (bs : List Binding) (n : Binding) (x y : List ℕ) (v : Value) (t : Bool) → place_of bs x ≡ None → n.name ≡ x → n.value ≡ v → same_bytes y x ≡ t → looked (bs ++ n ∷ []) y ≡ (if t then Some v else looked bs y)
+unknown bs n x y v true none e f s =
+    let gone = none_found bs x (nat_lt (position_or_len (is_of x) bs) (length bs)) refl none in
+    ap (λ z. value_in (find (is_of z) (bs ++ n ∷ []))) (same-is y x s)
+    ∙ ap value_in (push_past (is_of x) bs n gone)
+    ∙ ap (λ t. value_in (cond t (Some n) None)) (is-same x n.name (sym e))
+    ∙ ap Some f
+unknown bs n x y v false none e f s =
+    other_pushed bs n y (find (is_of y) bs) (ap (same_bytes y) e ∙ s) refl
+
+-- what is looked up after a value is written at the place of its name
+known : (bs : List Binding) (k : ℕ) (b n : Binding) (x y : List ℕ) (v : Value) → place_of bs x ≡ Some k → b ≡ get_or bs k b → n.name ≡ b.name → n.value ≡ v → looked (set bs k n) y ≡ (if same_bytes y x then Some v else looked bs y)
+known bs k b n x y v at is e f =
+    sym (looked_is (set bs k n) y)
+    ∙ at_name bs k b n x y v (same_bytes y x) at is e f refl
+    ∙ ap (λ o. if same_bytes y x then Some v else o) (looked_is bs y)
+
+over_case : (t : Bool) (v : Value) (o w : Option Value) → or_value (if t then Some v else o) w ≡ (if t then Some v else or_value o w)
+over_case true v o w = refl
+over_case false v o w = refl
+
+-- the state after a new name
+pub set_unknown : (bs : List Binding) (n : Binding) (x : List ℕ) (v : Value) (t : State) → place_of bs x ≡ None → n.name ≡ x → n.value ≡ v → over (looked (bs ++ n ∷ [])) t ≡ assign (over (looked bs) t) x v
+set_unknown bs n x v t none e f =
+    λ i y. (ap (λ o. or_value o (t y)) (unknown bs n x y v (same_bytes y x) none e f refl) ∙ over_case (same_bytes y x) v (looked bs y) (t y)) i
+
+-- the state after a value is written at the place of its name
+pub set_known : (bs : List Binding) (k : ℕ) (b n : Binding) (x : List ℕ) (v : Value) (t : State) → place_of bs x ≡ Some k → b ≡ get_or bs k b → n.name ≡ b.name → n.value ≡ v → over (looked (set bs k n)) t ≡ assign (over (looked bs) t) x v
+set_known bs k b n x v t at is e f =
+    λ i y. (ap (λ o. or_value o (t y)) (known bs k b n x y v at is e f) ∙ over_case (same_bytes y x) v (looked bs y) (t y)) i

@@ -1,0 +1,18 @@
+//! Calls of the program's functions.
+ghost use Rattle.std.specs.Prelude.{◌≡◌, ℕ, List};
+ghost use Rattle.std.specs.declared.result.Result.{Result};
+ghost use Rattle.mpy_tree.specs.declared.value.Value.{Value};
+ghost use Rattle.mpy_tree.specs.declared.outcome.Fault.{Fault};
+ghost use Rattle.mpy_interp.specs.Answers.{Meets};
+
+use crate::stop::Stop;
+use mpy_tree::{Name, Value};
+use std::alloc::Global;
+
+/// What calls of the program's functions give.
+pub trait Calls {
+    ghost gives: { Self → List ℕ → List Value → ℕ → Result Value Fault };
+
+    fn call(&self, alloc: Global, f: &Name, args: &[Value], line: u32) -> Result<Value, Stop>
+        ensures { Meets result (gives self.now f.now args.now line) };
+}

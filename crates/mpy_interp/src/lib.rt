@@ -1,0 +1,17 @@
+//! What a program gives on its arguments.
+#![tactic(auto)]
+
+mod assignments;
+mod builtins;
+mod calls;
+mod comparisons;
+mod eval;
+mod exec;
+mod frame;
+mod lists;
+mod numbers;
+mod operators;
+mod program;
+mod stop;
+
+pub use program::run;

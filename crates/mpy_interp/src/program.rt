@@ -1,0 +1,150 @@
+//! What a program gives on its arguments.
+ghost use Rattle.std.specs.Prelude.{◌≡◌, IfOk};
+ghost use Rattle.mpy_tree.specs.View.{routine_of, routines_of};
+ghost use Rattle.mpy_interp.specs.Answers.{Meets};
+ghost use Rattle.mpy_tree.specs.Running.{no_calls, found, enter, entered, evaluated};
+ghost use Rattle.mpy_tree.specs.Outcomes.{run_outcome};
+
+use crate::calls::Calls;
+use crate::exec::{Flow, exec_block};
+use crate::frame::Frame;
+use crate::stop::{Stop, WRONG_TYPE, faulted};
+use mpy_tree::{FaultKind, Func, Limits, Name, NoMemory, Outcome, Prog, Types, Value, Values};
+use std::alloc::{AllocError, Global};
+
+/// How a run of the program ends on these arguments, of which the function `entry` is called.
+///
+/// The program needn't be typed: an operator whose operands it doesn't take gives a fault. So the types
+/// aren't looked at.
+pub fn run(
+    alloc: Global,
+    p: &Prog,
+    _t: &Types,
+    l: &Limits,
+    entry: &Name,
+    args: &Values,
+) -> Result<Outcome, NoMemory>
+    ensures { IfOk result (λ o. o ≡ run_outcome l.now (routines_of p.now) entry.now args.now) }
+{
+    match evaluate(alloc, p, l, entry, args.items()) {
+        Ok(v) => Ok(Outcome::Value(v)),
+        Err(Stop::Fault(f)) => Ok(Outcome::Fault {
+            kind: f.kind,
+            line: f.line,
+        }),
+        Err(Stop::NoMemory) => Err(AllocError),
+    }
+}
+
+/// No call goes deeper.
+#[derive(Clone, Copy, Drop)]
+struct NoCalls;
+
+impl Calls for NoCalls {
+    ghost gives = { λ _. no_calls };
+
+    fn call(&self, _alloc: Global, _f: &Name, _args: &[Value], line: u32) -> Result<Value, Stop> {
+        Err(faulted(FaultKind::Depth, line))
+    }
+}
+
+/// Calls of a program's functions, whose own calls are those of `below`.
+#[derive(Clone, Copy, Drop)]
+struct Deeper<'a, C: Calls> {
+    limits: &'a Limits,
+    program: &'a Prog,
+    below: C,
+}
+
+impl<C: Calls> Calls for Deeper<'_, C> {
+    ghost gives = { λ d f vs line. enter d.limits.now (C.gives d.below) (found (routines_of d.program.now) f) vs line };
+
+    fn call(&self, alloc: Global, f: &Name, args: &[Value], line: u32) -> Result<Value, Stop> {
+        for func in &self.program.funcs.items {
+            if f.is(&func.name) {
+                return enter_func(alloc, self.limits, &self.below, func, args);
+            }
+        }
+        Err(faulted(WRONG_TYPE, line))
+    }
+}
+
+// Runs a function's body.
+fn enter_func<C: Calls>(
+    alloc: Global,
+    l: &Limits,
+    calls: &C,
+    func: &Func,
+    args: &[Value],
+) -> Result<Value, Stop>
+    ensures { Meets result (entered l.now (C.gives calls.now) (routine_of func.now) args.now) }
+{
+    let mut frame = Frame::new(alloc, &func.params, args);
+    match exec_block(alloc, l, calls, &mut frame, &func.body)? {
+        Flow::Returned(v) => Ok(v),
+        _ => Err(faulted(FaultKind::NoValue, func.line)),
+    }
+}
+
+// The value that the program gives, or its fault. A level of calls is a type of its own, so that the
+// interpreter of each is proved to end by the program's tree alone.
+fn evaluate(
+    alloc: Global,
+    p: &Prog,
+    l: &Limits,
+    entry: &Name,
+    args: &[Value],
+) -> Result<Value, Stop>
+    ensures { Meets result (evaluated l.now (routines_of p.now) entry.now args.now) }
+{
+    let one = Deeper {
+        limits: l,
+        program: p,
+        below: NoCalls,
+    };
+    let two = Deeper {
+        limits: l,
+        program: p,
+        below: one,
+    };
+    let three = Deeper {
+        limits: l,
+        program: p,
+        below: two,
+    };
+    let four = Deeper {
+        limits: l,
+        program: p,
+        below: three,
+    };
+    let five = Deeper {
+        limits: l,
+        program: p,
+        below: four,
+    };
+    let six = Deeper {
+        limits: l,
+        program: p,
+        below: five,
+    };
+    let seven = Deeper {
+        limits: l,
+        program: p,
+        below: six,
+    };
+    let eight = Deeper {
+        limits: l,
+        program: p,
+        below: seven,
+    };
+    match l.depth {
+        1 => one.call(alloc, entry, args, 1),
+        2 => two.call(alloc, entry, args, 1),
+        3 => three.call(alloc, entry, args, 1),
+        4 => four.call(alloc, entry, args, 1),
+        5 => five.call(alloc, entry, args, 1),
+        6 => six.call(alloc, entry, args, 1),
+        7 => seven.call(alloc, entry, args, 1),
+        _ => eight.call(alloc, entry, args, 1),
+    }
+}
