@@ -38,6 +38,8 @@ mod search;
 mod shallow;
 mod tables;
 mod task;
+#[cfg(test)]
+mod tests;
 mod words;
 
 pub use grade_io::{Status, status_number};
