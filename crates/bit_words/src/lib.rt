@@ -9,6 +9,7 @@ pub mod gates;
 pub mod logic;
 pub mod magnitude;
 pub mod narrow;
+pub mod power;
 pub mod product;
 pub mod quotient;
 pub mod sums;
