@@ -13,6 +13,8 @@ pub mod power;
 pub mod product;
 pub mod quotient;
 pub mod sums;
+#[cfg(test)]
+mod tests;
 pub mod word;
 pub mod words;
 

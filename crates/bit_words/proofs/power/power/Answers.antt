@@ -35,7 +35,7 @@ number_is g c vs =
     let sign = rw (below, odd) at (c.in_ok-sign.ensures.value vs) in
     let digits : map masked exponent ≡ masked c.at-odd.result ∷ drop 1 (map masked exponent) = drop_read masked exponent zero c.at-odd.result c.at-odd.ensures in
     let raised : signed (is_negative a && masked c.at-odd.result) (unsigned_abs a ^ nat_of (map masked exponent)) ≡ int_power a (nat_of (map masked exponent))
-        = subst (λ (v : List Bool). signed (is_negative a && masked c.at-odd.result) (unsigned_abs a ^ nat_of v) ≡ int_power a (nat_of v)) (sym digits) (sym (power_is a (masked c.at-odd.result) (drop 1 (map masked exponent)))) in
+    = subst (λ (v : List Bool). signed (is_negative a && masked c.at-odd.result) (unsigned_abs a ^ nat_of v) ≡ int_power a (nat_of v)) (sym digits) (sym (power_is a (masked c.at-odd.result) (drop 1 (map masked exponent)))) in
     rw sign (raised ∙ ap (int_power a) (exponent_read g c vs))
 
 size_is : (g : given.Over) (c : goal.After-drop-size-inside-2 g) (vs : List Bool) →
