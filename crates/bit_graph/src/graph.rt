@@ -1,10 +1,11 @@
 //! The graph: a logic with variables, whose gates are shared.
 
-ghost use Rattle.std.specs.Prelude.{◌≡◌, ◌+◌, [], MatchOption, Bool, List, ◌≢◌, IfSome, IfNone, IfOk, length, slice_get, Some, ◌<◌};
-ghost use Rattle.bit_graph.specs.Gates.{AreGates, Gates, Owns, reading, source_of};
+ghost use Rattle.std.specs.Prelude.{◌≡◌, ◌≢◌, ◌+◌, ◌<◌, ◌&&◌, false, [], Bool, List, IfSome, IfNone, IfOk, IsTrue, length, slice_get, Some};
+ghost use Rattle.bit_graph.specs.Gates.{AreGates, Gates, Owns, gate_reads, reading, source_of, source_reads, values_after};
 
 use crate::fold::fold;
 use crate::gate::{Gate, GraphBit, Source};
+use crate::rules::{fold_by_both, fold_by_parts, in_order};
 use crate::share::share;
 use bit_words::NoMemory;
 use bit_words::logic::{Logic, Variables};
@@ -64,6 +65,91 @@ impl Graph {
     }
 }
 
+impl Graph {
+    /// The parts of the gate that a bit or its opposite comes from.
+    fn parts(&self, a: GraphBit) -> Option<Gate>
+        requires { Owns self.now a }
+        ensures owned_left { IfSome result (λ x. Owns self.now x.left) }
+        ensures owned_right { IfSome result (λ x. Owns self.now x.right) }
+        ensures value { IfSome result (λ x. (vs : List Bool) → source_reads vs (values_after vs [] self.now.gates) (source_of a) ≡ gate_reads vs (values_after vs [] self.now.gates) x) }
+    {
+        match a.source {
+            Source::Made(k) => Some(self.gates[k as usize]),
+            _ => None,
+        }
+    }
+
+    /// The bit that two bits both are, where the graph has it: by the bits themselves, or by the
+    /// parts of one or of both.
+    fn simplify(&self, a: GraphBit, b: GraphBit) -> Option<GraphBit>
+        requires left { Owns self.now a }
+        requires right { Owns self.now b }
+        ensures owned { IfSome result (λ r. Owns self.now r) }
+        ensures value { IfSome result (λ r. (vs : List Bool) → reading self.now vs r ≡ (reading self.now vs a && reading self.now vs b)) }
+        ensures left_open { IfNone result (source_of a ≢ Source.Constant) }
+        ensures right_open { IfNone result (source_of b ≢ Source.Constant) }
+        ensures differ { IfNone result (source_of a ≢ source_of b) }
+    {
+        if let Some(bit) = fold(a, b) {
+            return Some(bit);
+        }
+        let x = self.parts(a);
+        let y = self.parts(b);
+        if let Some(x) = x
+            && let Some(bit) = fold_by_parts(a, x, b)
+        {
+            return Some(bit);
+        }
+        if let Some(y) = y
+            && let Some(bit) = fold_by_parts(b, y, a)
+        {
+            return Some(bit);
+        }
+        match (x, y) {
+            (Some(x), Some(y)) => fold_by_both(a, x, b, y),
+            _ => None,
+        }
+    }
+
+    /// Whether the graph shows that two bits are never both true.
+    fn is_never(&self, a: GraphBit, b: GraphBit) -> bool
+        requires left { Owns self.now a }
+        requires right { Owns self.now b }
+        ensures { IsTrue result → (vs : List Bool) → (reading self.now vs a && reading self.now vs b) ≡ false }
+    {
+        match self.simplify(a, b) {
+            Some(bit) => bit.source == Source::Constant && !bit.positive,
+            None => false,
+        }
+    }
+
+    /// A bit in place of the second one that is with the first one what that is: of a gate's
+    /// opposite, which is the opposite of the one part or of the other, the one that the first bit
+    /// leaves.
+    fn shorten(&self, a: GraphBit, b: GraphBit) -> GraphBit
+        requires left { Owns self.now a }
+        requires right { Owns self.now b }
+        ensures owned { Owns self.now result }
+        ensures value { (vs : List Bool) → (reading self.now vs a && reading self.now vs result) ≡ (reading self.now vs a && reading self.now vs b) }
+    {
+        if b.positive {
+            return b;
+        }
+        let Some(x) = self.parts(b) else {
+            return b;
+        };
+        let left = self.not(x.left);
+        let right = self.not(x.right);
+        if self.is_never(a, left) {
+            return right;
+        }
+        if self.is_never(a, right) {
+            return left;
+        }
+        b
+    }
+}
+
 impl Logic for Graph {
     type Bit = GraphBit;
 
@@ -88,10 +174,16 @@ impl Logic for Graph {
     }
 
     fn and(&mut self, a: GraphBit, b: GraphBit) -> Result<GraphBit, NoMemory> {
-        if let Some(bit) = fold(a, b) {
+        if let Some(bit) = self.simplify(a, b) {
             return Ok(bit);
         }
-        let made = share(&mut self.gates, Gate { left: a, right: b })?;
+        let right = self.shorten(a, b);
+        let left = self.shorten(right, a);
+        if let Some(bit) = self.simplify(left, right) {
+            return Ok(bit);
+        }
+        let gate = in_order(left, right);
+        let made = share(&mut self.gates, gate)?;
         Ok(GraphBit {
             source: Source::Made(made),
             positive: true,

@@ -6,3 +6,4 @@ pub mod Signs
 pub mod Products
 pub mod Quotients
 pub mod Floors
+pub mod Powers

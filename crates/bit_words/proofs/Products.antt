@@ -15,7 +15,7 @@ nat_masked false (b ∷ bs) = let rest : nat_of (map (λ c. false && c) bs) ≡ 
 unfoldable pub Fit : ℕ → ℕ → ℕ → Bool → Type 0
 Fit q n s over = (over ≡ not (ltb n q)) × (ltb n q ≡ true → s ≡ n)
 
-exceeds : (q n s : ℕ) → q ≤ n → Fit q n s true
+pub exceeds : (q n s : ℕ) → q ≤ n → Fit q n s true
 unfolding Fit
 exceeds q n s h = let e : ltb n q ≡ false = le-ltb n q h in (ap not (sym e), λ (k : ltb n q ≡ true). cc)
 
@@ -28,11 +28,11 @@ by_carry : (p x q n s : ℕ) (c : Bool) → s < p + p → n ≡ x + (q + q) → 
 by_carry p x q n s true b e total = exceeds (p + p) n s (omega arith)
 by_carry p x q n s false b e total = holds (p + p) n s (omega arith) (omega arith)
 
-or_false : (c : Bool) → (c || false) ≡ c
+pub or_false : (c : Bool) → (c || false) ≡ c
 or_false true = refl
 or_false false = refl
 
-or_true : (c : Bool) → (c || true) ≡ true
+pub or_true : (c : Bool) → (c || true) ≡ true
 or_true true = refl
 or_true false = refl
 
@@ -70,11 +70,11 @@ row_cases p e x q r h n s false false c some b k l z f w total =
     let same : h ≡ q = w.1 (turn _ w.0) in
     subst (λ (o : Bool). Fit (p + p) n s o) (sym (ap (λ (o : Bool). c || o) (and_false some) ∙ or_false c)) (by_carry p x q n s c b (omega arith) (rw same at total))
 
-to_fit : (w n s : ℕ) (over : Bool) → IsUnsigned w n s over → Fit (2 ^ w) n s over
+pub to_fit : (w n s : ℕ) (over : Bool) → IsUnsigned w n s over → Fit (2 ^ w) n s over
 unfolding Fit
 to_fit w n s over u = (u.leaves, u.reads)
 
-of_fit : (w q n s : ℕ) (over : Bool) → 2 ^ w ≡ q → Fit q n s over → IsUnsigned w n s over
+pub of_fit : (w q n s : ℕ) (over : Bool) → 2 ^ w ≡ q → Fit q n s over → IsUnsigned w n s over
 unfolding Fit
 of_fit w q n s over e f = record { leaves = rw e f.0; reads = rw e f.1 }
 

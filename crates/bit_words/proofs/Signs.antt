@@ -138,7 +138,7 @@ left_over : (p : ℕ) (z y : ℤ) (left : Bool) → left ≡ not (is_within p z)
 unfolding Sum
 left_over p z y left e f = (e, f)
 
-power_positive : (n : ℕ) → 0 < 2 ^ n
+pub power_positive : (n : ℕ) → 0 < 2 ^ n
 power_positive zero = omega arith
 power_positive (suc n) = let rest = power_positive n in rw (power_double n) (omega arith)
 

@@ -39,3 +39,8 @@ unfolded true m = negsuc m
 abbrev pub by_positive : ℤ → ℤ → ℤ
 by_positive a (pos n) = a
 by_positive a (negsuc n) = neg_ℤ a
+
+-- an exponent, which below zero counts as 0
+abbrev pub exponent_of : ℤ → ℕ
+exponent_of (pos n) = n
+exponent_of (negsuc n) = 0

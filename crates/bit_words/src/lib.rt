@@ -9,9 +9,12 @@ pub mod gates;
 pub mod logic;
 pub mod magnitude;
 pub mod narrow;
+pub mod power;
 pub mod product;
 pub mod quotient;
 pub mod sums;
+#[cfg(test)]
+mod tests;
 pub mod word;
 pub mod words;
 

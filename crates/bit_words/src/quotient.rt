@@ -17,11 +17,7 @@ use std::alloc::Global;
 ///
 /// A division's steps over leading zeros make the same gates.
 #[tactic(auto, using(crate::proofs::Kept::steps))]
-pub fn is_zero<L: Logic>(
-    alloc: Global,
-    g: &mut L,
-    b: &Word<L::Bit>,
-) -> Result<L::Bit, NoMemory>
+pub fn is_zero<L: Logic>(alloc: Global, g: &mut L, b: &Word<L::Bit>) -> Result<L::Bit, NoMemory>
     requires word { OwnsAll L.owns g.old b.now }
     ensures extends { Extends L.owns L.reads L.count g.old g.new }
     ensures owned { IfOk result (λ r. L.owns g.new r) }

@@ -63,6 +63,6 @@ returns-clause-value g c vs nonzero =
     let flipped = ap int_of (rw (turn_kept, rest_kept) at (c.in_ok-flipped.ensures.value vs)) ∙ complemented (differ (is_negative (by_positive a b)) (is_negative b)) rest (nat_of rest) (rw long c.requires.long) number in
     let below_kept = (extends_trans two (extends_trans three four)).same _ c.sign_of-below.ensures.owned vs ∙ below in
     let z : int_read reads c.flip_where.new.g vs c.in_ok-part.part +ℤ int_read reads c.flip_where.new.g vs c.in_ok-flipped.flipped +ℤ pos (bit_value (reads c.flip_where.new.g vs c.sign_of-below.result)) ≡ floor_remainder a b
-        = rw (part_kept, flipped, below_kept) (remainder_is a b (nat_of (map (reads c.divide_folded.new.g vs) divided.quotient)) (nat_of rest) (more.quotient vs) d) in
+    = rw (part_kept, flipped, below_kept) (remainder_is a b (nat_of (map (reads c.divide_folded.new.g vs) divided.quotient)) (nat_of rest) (more.quotient vs) d) in
     let size : length c.in_ok-part.part ≡ length c.args.a.now = c.in_ok-part.ensures.width ∙ c.requires.alike in
     c.in_ok-number.ensures.value vs (rw (size, z) (fits_width g c vs)) ∙ z

@@ -26,7 +26,7 @@ returns-clause-value g c vs =
     let nothing = ap int_of (c.in_ok-nothing.ensures.value vs) ∙ int_zeros c.len-width.result in
     let turned = flipped_int test (map first c.push.new.self) long in
     let z : int_of (map (reads c.flip_where.new.g vs) c.in_ok-flipped.flipped) +ℤ int_of (map (reads c.flip_where.new.g vs) c.in_ok-nothing.nothing) +ℤ pos (bit_value (reads c.flip_where.new.g vs c.args.test)) ≡ cond test (neg_ℤ (int_of bits)) (int_of bits)
-        = rw (kept, flipped, nothing) (drop_zero (int_of (map (differ test) (map first c.push.new.self))) (pos (bit_value test)) ∙ turned ∙ ap (λ (y : ℤ). cond test (neg_ℤ y) y) same) in
+    = rw (kept, flipped, nothing) (drop_zero (int_of (map (differ test) (map first c.push.new.self))) (pos (bit_value test)) ∙ turned ∙ ap (λ (y : ℤ). cond test (neg_ℤ y) y) same) in
     let width : length c.in_ok-flipped.flipped - 1 ≡ length bits = simp length-map (omega (arith, c.in_ok-flipped.ensures.width, ap length c.in_ok-push.ensures.ok, ap length c.in_ok-wide.ensures, length-append c.in_ok-wide.wide (c.sign_of-sign.result ∷ []))) in
     let fit = negated_fits bits test some in
     c.in_ok-negated.ensures.value vs (rw (width, z) fit) ∙ z

@@ -23,7 +23,7 @@ both g c vs number u =
     let kept = ap int_of (reads_kept three c.in_ok-number.ensures.owned vs) in
     let wide = c.in_ok-wide.ensures.value vs in
     let fit = signed_number (length c.args.size.now) number (nat_of (map first c.args.size.now)) (first c.args.sign) (first c.args.over) (reads c.narrow.new.g vs c.in_ok-number.left) (int_of (map (reads c.narrow.new.g vs) c.in_ok-number.number)) c.requires.some u
-        (rw (wide, size) at (c.in_ok-number.ensures.over vs)) (rw (wide, size) at (c.in_ok-number.ensures.value vs)) in
+    (rw (wide, size) at (c.in_ok-number.ensures.over vs)) (rw (wide, size) at (c.in_ok-number.ensures.value vs)) in
     rw (spilled, kept) fit
 
 pub returns-clause-over : goal.returns-clause-over

@@ -25,7 +25,7 @@ returns-clause-value g c vs =
     let nothing = ap int_of (c.in_ok-nothing.ensures.value vs) ∙ int_zeros c.len-width.result in
     let turned = flipped_int sign (map first c.push.new.self) long in
     let z : int_of (map (reads c.flip_where.new.g vs) c.in_ok-flipped.flipped) +ℤ int_of (map (reads c.flip_where.new.g vs) c.in_ok-nothing.nothing) +ℤ pos (bit_value (reads c.flip_where.new.g vs c.args.sign)) ≡ signed sign (nat_of bits)
-        = rw (kept, flipped, nothing) (drop_zero (int_of (map (differ sign) (map first c.push.new.self))) (pos (bit_value sign)) ∙ turned ∙ ap (λ (y : ℤ). cond sign (neg_ℤ y) y) same ∙ cond_signed sign (nat_of bits)) in
+    = rw (kept, flipped, nothing) (drop_zero (int_of (map (differ sign) (map first c.push.new.self))) (pos (bit_value sign)) ∙ turned ∙ ap (λ (y : ℤ). cond sign (neg_ℤ y) y) same ∙ cond_signed sign (nat_of bits)) in
     let width : length c.in_ok-flipped.flipped - 1 ≡ length bits = simp length-map (omega (arith, c.in_ok-flipped.ensures.width, ap length c.in_ok-push.ensures.ok, ap length c.in_ok-wide.ensures, length-append c.in_ok-wide.wide (c.constant-no.result ∷ []))) in
     let fit = signed_fits bits sign in
     c.in_ok-number.ensures.value vs (rw (width, z) fit) ∙ z

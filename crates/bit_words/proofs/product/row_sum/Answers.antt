@@ -16,7 +16,7 @@ returns-clause-total g c vs =
     let row = ap nat_of (c.in_ok-row.ensures.value vs) ∙ nat_masked (first c.args.digit) (map first c.in_ok-low.low) ∙ ap (λ w. cond (first c.args.digit) (nat_of (map first w)) 0) c.in_ok-low.ensures in
     let no = c.constant-no.ensures.value vs in
     let twice : nat_of (map next c.push_low.new.self) ≡ nat_of (map first c.args.higher.now) + nat_of (map first c.args.higher.now)
-        = ap (λ w. nat_of (map next w)) doubled ∙ ap (λ (b : Bool). bit_value b + (nat_of (map next c.in_ok-doubled.doubled) + nat_of (map next c.in_ok-doubled.doubled))) no
-        ∙ ap (λ w. 0 + (nat_of (map next w) + nat_of (map next w))) c.in_ok-doubled.ensures
-        ∙ ap (λ (v : List Bool). 0 + (nat_of v + nat_of v)) (reads_kept c.mask.ensures.extends c.requires.higher vs) ∙ omega arith in
+    = ap (λ w. nat_of (map next w)) doubled ∙ ap (λ (b : Bool). bit_value b + (nat_of (map next c.in_ok-doubled.doubled) + nat_of (map next c.in_ok-doubled.doubled))) no
+    ∙ ap (λ w. 0 + (nat_of (map next w) + nat_of (map next w))) c.in_ok-doubled.ensures
+    ∙ ap (λ (v : List Bool). 0 + (nat_of v + nat_of v)) (reads_kept c.mask.ensures.extends c.requires.higher vs) ∙ omega arith in
     rw (left, right, row, twice, no) at (c.in_ok-sum.ensures.total vs) ∙ omega arith

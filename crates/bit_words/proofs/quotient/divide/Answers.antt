@@ -39,8 +39,8 @@ loop-k-preserved g c =
     let digit_owned = owns_read _ c.requires.left c.at-digit.ensures in
     let pushed = c.in_ok-push_low.ensures.ok in
     let quotient : (vs : List Bool) → nat_of (map (reads c.divide_digit.new.g vs) c.push_low.new.self) ≡ bit_value (reads c.divide_digit.new.g vs c.in_ok-left.taken) + (nat_of (map (reads c.loop-k.g vs) c.loop-k.quotient) + nat_of (map (reads c.loop-k.g vs) c.loop-k.quotient))
-        = λ vs. ap (λ w. nat_of (map (reads c.divide_digit.new.g vs) w)) pushed
-          ∙ ap (λ (w : List Bool). bit_value (reads c.divide_digit.new.g vs c.in_ok-left.taken) + (nat_of w + nat_of w)) (reads_kept step before.owned vs) in
+    = λ vs. ap (λ w. nat_of (map (reads c.divide_digit.new.g vs) w)) pushed
+    ∙ ap (λ (w : List Bool). bit_value (reads c.divide_digit.new.g vs c.in_ok-left.taken) + (nat_of w + nat_of w)) (reads_kept step before.owned vs) in
     let divisor : (vs : List Bool) → nat_of (map (reads c.loop-k.g vs) c.args.b.now) ≡ nat_of (map (reads c.args.g.now vs) c.args.b.now) = λ vs. ap nat_of (reads_kept before.extends c.requires.right vs) in
     record {
       extends = extends_trans before.extends step;

@@ -36,7 +36,7 @@ returns-clause-value g c vs some half below =
     let small : nat_of rest < 2 ^ (width - 1) = omega (arith, subst (λ (k : ℕ). nat_of bits ≤ 2 ^ (k - 1)) (sym c.len-width.ensures) half) in
     let low : nat_of (map first (take (width - 1) c.args.rest.now)) ≡ nat_of rest = ap nat_of (sym (take-map first (width - 1) c.args.rest.now)) ∙ low_same rest (width - 1) whole_rest small in
     let x : nat_of (map first c.push_low.new.self) ≡ bit_value (first c.args.digit) + (nat_of rest + nat_of rest)
-        = ap (λ w. nat_of (map first w)) shifted_is ∙ ap (λ (n : ℕ). bit_value (first c.args.digit) + (n + n)) low in
+    = ap (λ w. nat_of (map first w)) shifted_is ∙ ap (λ (n : ℕ). bit_value (first c.args.digit) + (n + n)) low in
     let x_small : nat_of (map first c.push_low.new.self) < nat_of bits + nat_of bits = omega (arith, x, below, bit_small (first c.args.digit)) in
     let taken = c.in_ok-taken.ensures.value vs ∙ and_true _ _ (one.same _ c.requires.some vs ∙ some) in
     let kept = c.choose_word.ensures.extends.same _ c.in_ok-taken.ensures.owned vs ∙ taken in
@@ -45,5 +45,5 @@ returns-clause-value g c vs some half below =
     let shifted_kept = reads_kept (extends_trans one two) shifted_owned vs in
     let chosen = ap nat_of (rw (taken, difference_kept, shifted_kept) at (c.in_ok-left.ensures.value vs)) ∙ cond_nat (sums c.in_ok-difference.carry) _ _ in
     let digit = digit_cases (2 ^ width) (nat_of bits) (nat_of (map not bits)) (nat_of (map first c.push_low.new.self)) (nat_of (map sums c.in_ok-difference.difference)) (sums c.in_ok-difference.carry) turned
-        (nat_read_below sums c.in_ok-difference.difference width c.in_ok-difference.ensures.width) x_small total in
+    (nat_read_below sums c.in_ok-difference.difference width c.in_ok-difference.ensures.width) x_small total in
     rw (kept, chosen, sym x) digit
