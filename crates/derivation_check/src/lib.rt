@@ -2,7 +2,7 @@
 #![tactic(auto)]
 
 pub mod checker;
-pub mod marks;
+mod marks;
 pub mod soundness;
 #[cfg(test)]
 mod tests;
