@@ -1,0 +1,4 @@
+pub mod Literals
+pub mod Formulas
+pub mod Follows
+pub mod Logs

@@ -1,0 +1,32 @@
+//! A clause: literals, one of which is to be true.
+
+ghost use Rattle.std.specs.Prelude.{◌≡◌, true, IfOk};
+ghost use Rattle.clause_base.specs.Literals.{has_no_variable_twice};
+
+use crate::NoMemory;
+use crate::lits::Lits;
+
+/// A disjunction of literals, in which no variable stands twice.
+#[derive(Drop)]
+pub struct Clause {
+    pub lits: Lits,
+    pub ghost distinct: { has_no_variable_twice lits ≡ true },
+}
+
+impl Clause {
+    /// The clause of these literals.
+    pub fn new(lits: Lits) -> Clause
+        requires { has_no_variable_twice lits ≡ true }
+        ensures { result.lits ≡ lits }
+    {
+        Clause { lits }
+    }
+
+    /// An equal clause.
+    pub fn copy(&self) -> Result<Clause, NoMemory>
+        ensures { IfOk result (λ r. r ≡ self.now) }
+    {
+        let lits = self.lits.copy()?;
+        Ok(Clause { lits })
+    }
+}

@@ -1,0 +1,69 @@
+//! Each call that takes memory gives something else where memory is ample.
+
+ghost use Rattle.std.specs.Prelude.{◌≡◌, ◌≢◌, [], ◌∷◌, IfOk};
+ghost use Rattle.clause_base.specs.declared.lit.Lit.{Lit};
+
+use crate::NoMemory;
+use crate::clause::Clause;
+use crate::formula::{Clauses, Formula};
+use crate::hints::Hints;
+use crate::lit::Lit;
+use crate::lits::Lits;
+use crate::log::{Log, Step, Steps};
+use crate::truths::{Truths, clause_holds};
+use std::alloc::Global;
+use std::test::Fail;
+
+fn clause_of_two(alloc: Global, a: Lit, b: Lit) -> Result<Clause, NoMemory>
+    requires { b.var ≢ a.var }
+    ensures { IfOk result (λ c. c.lits ≡ a ∷ b ∷ []) }
+{
+    let mut lits = Lits::new(alloc);
+    lits.push(a)?;
+    lits.push(b)?;
+    Ok(Clause::new(lits))
+}
+
+fn empty_step(alloc: Global, hints: &[u32]) -> Result<Step, NoMemory> {
+    let lits = Lits::from_slice(alloc, &[])?;
+    let hints = Hints::from_slice(alloc, hints)?;
+    Ok(Step {
+        clause: Clause::new(lits),
+        hints,
+    })
+}
+
+#[test]
+fn clauses_hold_and_logs_refute(rt: HostRuntime) -> Result<(), Fail> {
+    let alloc = rt.alloc();
+    let first = Lit {
+        var: 1,
+        positive: true,
+    };
+    let second = Lit {
+        var: 2,
+        positive: false,
+    };
+    let clause = clause_of_two(alloc, first, second)?;
+    let mut truths = Truths::new(alloc);
+    truths.push(false)?;
+    truths.push(true)?;
+    assert!(rt; !clause_holds(&clause, &truths.copy()?), "both are false");
+    let other = clause_of_two(alloc, first.opposite(), second)?;
+    assert!(rt; clause_holds(&other.copy()?, &truths), "the first is true");
+
+    let mut clauses = Clauses::new(alloc);
+    clauses.push(clause)?;
+    let formula = Formula { vars: 2, clauses };
+    assert_eq!(rt; formula.copy()?.clauses.len(), 1);
+
+    let mut steps = Steps::new(alloc);
+    let log = Log {
+        steps: steps.copy()?,
+    };
+    assert!(rt; !log.refutes(), "no clause is empty");
+    steps.push(empty_step(alloc, &[1, 2])?)?;
+    let log = Log { steps };
+    assert!(rt; log.copy()?.refutes(), "the last clause is empty");
+    Ok(())
+}

@@ -1,0 +1,6 @@
+//! The formula of a graph of gates and a goal.
+#![tactic(auto)]
+
+pub mod build;
+#[cfg(test)]
+mod tests;
