@@ -1,5 +1,5 @@
 -- The whole formula: its clauses in order, its variables, and the values that make it true.
-use Rattle.std.proofs.Common.{◌≡◌, ◌≢◌, All, ℕ, zero, suc, ◌≤◌, ◌+◌, Bool, true, false, ◌&&◌, List, [], ◌∷◌, ◌++◌, take, drop, slice_get, Some, length, refl, sym, ap, ◌∙◌, subst, arith, length-take, length-drop, take-append-drop}
+use Rattle.std.proofs.Common.{◌≡◌, ◌≢◌, ◌*◌, All, ℕ, zero, suc, ◌≤◌, ◌+◌, Bool, true, false, ◌&&◌, List, [], ◌∷◌, ◌++◌, take, drop, slice_get, Some, length, refl, sym, ap, ◌∙◌, subst, arith, length-take, length-drop, take-append-drop}
 use Rattle.std.specs.List.{list_all}
 use Rattle.std.proofs.lemmas.Bool.{and_from, lt-ltb, le-leb}
 use Rattle.bit_graph.specs.declared.gate.Source.{Source}
@@ -51,6 +51,23 @@ gates_not_empty n at (x ∷ xs) l =
 pub none_empty : (n : ℕ) (xs : List Gate) (l : Lit) → All (λ (lits : List Lit). lits ≢ []) ((record { var = 1; positive = true } ∷ []) ∷ (clauses_from n 0 xs ++ (l ∷ []) ∷ []))
 unfolding NoneEmpty
 none_empty n xs l = one_more (record { var = 1; positive = true }) [] (clauses_from n 0 xs ++ (l ∷ []) ∷ []) (gates_not_empty n 0 xs l)
+
+count_clauses : (n at : ℕ) (xs : List Gate) (l : Lit) → length (clauses_from n at xs ++ (l ∷ []) ∷ []) ≡ 3 * length xs + 1
+count_clauses n at [] l = omega arith
+count_clauses n at (x ∷ xs) l =
+    let rest : length (clauses_from n (at + 1) xs ++ (l ∷ []) ∷ []) ≡ 3 * length xs + 1 = count_clauses n (at + 1) xs l in
+    omega arith
+
+literals_length : (clauses : List Clause) → length (literals clauses) ≡ length clauses
+literals_length [] = refl
+literals_length (c ∷ cs) = ap suc (literals_length cs)
+
+pub few_clauses : (n : ℕ) (first : List Lit) (xs : List Gate) (l : Lit) (clauses : List Clause) → literals clauses ≡ first ∷ (clauses_from n 0 xs ++ (l ∷ []) ∷ [])
+    → length xs ≤ 715827881 → length clauses ≤ 2147483647
+few_clauses n first xs l clauses e few =
+    let long : length clauses ≡ suc (length (clauses_from n 0 xs ++ (l ∷ []) ∷ [])) = sym (literals_length clauses) ∙ ap length e in
+    let count : length (clauses_from n 0 xs ++ (l ∷ []) ∷ []) ≡ 3 * length xs + 1 = count_clauses n 0 xs l in
+    omega arith
 
 number_in : (n m vars : ℕ) (s : Source) (p : Bool) → m + (n + 1) ≤ vars → IsBelow n m s → in_range vars (record { var = number_of n s; positive = p }) ≡ true
 number_in n m vars Constant p room b = and_from _ _ (lt-ltb 0 1 (omega arith)) (le-leb 1 vars (omega arith))

@@ -107,11 +107,13 @@ pub fn to_formula(alloc: Global, g: &Graph, goal: GraphBit) -> Result<Formula, N
     ensures clauses { IfOk result (λ f. literals f.clauses ≡ formula_of g.now goal) }
     ensures vars { IfOk result (λ f. f.vars ≡ g.now.variables + 1 + length g.now.gates) }
     ensures exact { IfOk result (λ f. (values : List Bool) → length values ≡ f.vars → (satisfies values f.clauses ≡ true) ↔ AreValues g.now goal values) }
+    ensures few { IfOk result (λ f. length f.clauses ≤ 2147483647) }
     ensures none_empty { IfOk result (λ f. All (λ lits. lits ≢ []) (literals f.clauses)) }
 {
     let variables = g.variables();
     let count = g.gate_count();
-    if variables > 2147483645 || count > 2147483645 - variables as usize {
+    // three clauses a gate and two more are to be at most 2147483647
+    if variables > 2147483645 || count > 715827881 || count > 2147483645 - variables as usize {
         return Err(AllocError);
     }
     let made = count as u32;

@@ -7,7 +7,7 @@ use Rattle.clause_base.specs.declared.lit.Lit.{Lit}
 use Rattle.clause_base.specs.Literals.{clause_true}
 use Rattle.clause_base.specs.Formulas.{in_range}
 use Rattle.cnf_build.specs.Gates.{clauses_from, gate_clauses, formula_of, literal_of, literals}
-use Rattle.cnf_build.proofs.Whole.{clauses_push, none_empty, range_literals, satisfies_literals, formula_in, exact_from, exact_to}
+use Rattle.cnf_build.proofs.Whole.{clauses_push, few_clauses, none_empty, range_literals, satisfies_literals, formula_in, exact_from, exact_to}
 use Rattle.cnf_build.proofs.build.to_formula.Goals as goal
 
 pub loop-k-preserved : goal.loop-k-preserved
@@ -38,6 +38,15 @@ returns-clause-exact c values long =
       λ h. exact_from c.args.g.now c.args.goal values c.gate_count-count.ensures.gates c.requires (omega arith) (ap (list_all (clause_true values)) (sym whole) ∙ satisfies_literals values c.push_one-2.new.clauses ∙ h),
       λ are. sym (satisfies_literals values c.push_one-2.new.clauses) ∙ ap (list_all (clause_true values)) whole ∙ exact_to c.args.g.now c.args.goal values c.gate_count-count.ensures.gates c.requires are,
     )
+
+pub returns-clause-few : goal.returns-clause-few
+returns-clause-few c =
+    let gates = c.args.g.now.gates in
+    let n = c.variables-variables.result in
+    let first : List Lit = record { var = 1; positive = true } ∷ [] in
+    let whole : literals c.push_one-2.new.clauses ≡ first ∷ (clauses_from n 0 (take c.loop-k.k gates) ++ (c.literal.result ∷ []) ∷ []) =
+    c.in_ok-push_one-2.ensures ∙ ap (λ (w : List (List Lit)). w ++ (c.literal.result ∷ []) ∷ []) c.loop-k.invariant in
+    few_clauses n first (take c.loop-k.k gates) c.literal.result c.push_one-2.new.clauses whole (omega (arith, length-take {A = Gate}))
 
 pub returns-clause-none_empty : goal.returns-clause-none_empty
 returns-clause-none_empty c =
