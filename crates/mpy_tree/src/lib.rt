@@ -1,6 +1,7 @@
 //! The syntax of mPy programs, their values, types and refusals, and, in `specs/`, what programs mean.
 #![tactic(auto)]
 
+mod copying;
 mod limits;
 mod lists;
 mod names;
@@ -12,6 +13,7 @@ mod tree;
 mod typing;
 mod value;
 
+pub use copying::{copy_expr, copy_prog, copy_stmts};
 pub use limits::Limits;
 pub use lists::{Chars, Ints};
 pub use names::{Name, Names};

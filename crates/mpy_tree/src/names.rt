@@ -92,10 +92,10 @@ impl Names {
     }
 
     /// An equal list.
-    pub fn copy(&self, alloc: Global) -> Result<Names, NoMemory>
+    pub fn copy(&self) -> Result<Names, NoMemory>
         ensures { IfOk result (λ n. n ≡ self.now) }
     {
-        let mut copies = Vec::new(alloc);
+        let mut copies = Vec::new(*self.items.allocator());
         for x in &self.items {
             copies.push(x.copy()?)?;
         }

@@ -65,10 +65,10 @@ impl Values {
     }
 
     /// An equal list.
-    pub fn copy(&self, alloc: Global) -> Result<Values, NoMemory>
+    pub fn copy(&self) -> Result<Values, NoMemory>
         ensures { IfOk result (λ n. n ≡ self.now) }
     {
-        let mut copies = Vec::new(alloc);
+        let mut copies = Vec::new(*self.items.allocator());
         for v in &self.items {
             copies.push(v.copy()?)?;
         }
