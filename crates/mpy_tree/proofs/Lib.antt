@@ -1,3 +1,5 @@
+pub mod ListTests
 pub mod Opening
 pub mod Repetition
+pub mod Sameness
 mod WorkedExamples

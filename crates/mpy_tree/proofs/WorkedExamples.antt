@@ -1,13 +1,13 @@
 -- Worked runs and texts, each closed by computing it.
-use Rattle.std.proofs.Common.{◌≡◌, ℕ, ◌≤◌, List, [], ◌∷◌, refl, ℤ, pos, negsuc, true, false, codes, arith, lit≤}
+use Rattle.std.proofs.Common.{◌≡◌, ℕ, List, [], ◌∷◌, refl, pos, negsuc, false, codes, lit≤}
 use Rattle.std.specs.declared.result.Result.{Result}
 use Rattle.std.specs.declared.result.Result.TheVariants.{Ok, Err}
 use Rattle.mpy_tree.specs.declared.limits.Limits.{Limits}
 use Rattle.mpy_tree.specs.declared.value.Value.{Value}
 use Rattle.mpy_tree.specs.declared.value.Value.TheVariants.{Int, Bool as Truth, List as Items, Text}
 use Rattle.mpy_tree.specs.declared.operators.ArithOp.TheVariants.{Add, Sub, Mul, Floor, Rem, Power}
-use Rattle.mpy_tree.specs.declared.operators.CmpOp.TheVariants.{Eq, Ne, Lt, Le, Gt, Ge, Member, NotMember}
-use Rattle.mpy_tree.specs.Syntax.{Term, Terms, MaybeTerm, Number, Var, Minus, Binary, Compare, Both, At, Cut, Apply, no_terms, term_and, no_term, a_term, at, SetTo, Give, Loop, Block, end, step, Routine}
+use Rattle.mpy_tree.specs.declared.operators.CmpOp.TheVariants.{Eq, Lt}
+use Rattle.mpy_tree.specs.Syntax.{Term, Number, Var, Minus, Binary, Compare, Both, At, Cut, Apply, no_terms, term_and, a_term, at, SetTo, Give, Loop, end, step, Routine}
 use Rattle.mpy_tree.specs.declared.outcome.FaultKind.TheVariants.{Overflow, Divisor, Index, Turns}
 use Rattle.mpy_tree.specs.declared.outcome.Fault.{Fault}
 use Rattle.mpy_tree.specs.Values.{fault}

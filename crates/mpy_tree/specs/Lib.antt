@@ -1,3 +1,5 @@
+pub mod Comparing
+pub mod Equality
 pub mod Expressions
 pub mod Operations
 pub mod Outcomes

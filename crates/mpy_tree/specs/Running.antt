@@ -1,10 +1,10 @@
 -- What a program gives.
-use Rattle.std.specs.Prelude.{ℕ, zero, suc, ◌-◌, List, [], ◌∷◌, Option, Some, None, if◌then◌else◌}
+use Rattle.std.specs.Prelude.{ℕ, zero, suc, List, [], ◌∷◌, Option, Some, None, if◌then◌else◌}
 use Rattle.std.specs.declared.result.Result.{Result}
 use Rattle.std.specs.declared.result.Result.TheVariants.{Ok, Err}
 use Rattle.mpy_tree.specs.declared.limits.Limits.{Limits}
 use Rattle.mpy_tree.specs.declared.value.Value.{Value}
-use Rattle.mpy_tree.specs.Syntax.{Block, Routine}
+use Rattle.mpy_tree.specs.Syntax.{Routine}
 use Rattle.mpy_tree.specs.declared.outcome.FaultKind.TheVariants.{Depth, NoValue}
 use Rattle.mpy_tree.specs.declared.outcome.Fault.{Fault}
 use Rattle.mpy_tree.specs.Values.{fault, wrong_type, same_bytes, State, nothing_set, assign}

@@ -1,6 +1,6 @@
 -- The syntax of programs as mathematics: what a program's tree is, without memory.
 -- A name and a text are lists of bytes.
-use Rattle.std.specs.Prelude.{ℕ, Bool, List, Option}
+use Rattle.std.specs.Prelude.{ℕ, Bool, List}
 use Rattle.mpy_tree.specs.declared.operators.ArithOp.{ArithOp}
 use Rattle.mpy_tree.specs.declared.operators.CmpOp.{CmpOp}
 

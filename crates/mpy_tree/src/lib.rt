@@ -2,6 +2,7 @@
 #![tactic(auto)]
 
 mod copying;
+mod equality;
 mod limits;
 mod lists;
 mod names;
@@ -9,11 +10,14 @@ mod operators;
 mod outcome;
 mod refusal;
 mod sequences;
+#[cfg(test)]
+mod tests;
 mod tree;
 mod typing;
 mod value;
 
 pub use copying::{copy_expr, copy_prog, copy_stmts};
+pub use equality::{same, same_expr};
 pub use limits::Limits;
 pub use lists::{Chars, Ints};
 pub use names::{Name, Names};
