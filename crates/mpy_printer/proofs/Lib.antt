@@ -1,0 +1,2 @@
+pub mod Indentation
+pub mod Joining
