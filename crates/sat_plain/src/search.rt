@@ -18,6 +18,9 @@ use clause_base::log::{Log, Steps};
 use clause_base::solved::Solved;
 use std::alloc::{AllocError, Global};
 
+/// How many clauses a formula and a log have together at most.
+const MOST_CLAUSES: usize = 2147483647;
+
 /// Takes the newest literals away, up to the newest decision and with it.
 fn undo(trail: &mut Trail) -> Option<Lit>
     ensures vars { trail.new.vars ≡ trail.old.vars }
@@ -50,7 +53,7 @@ fn take_back(
     ensures answer { IfOk result (λ o. MatchOption o (Refutes steps.new) (λ place. IsSearch f.now.vars f.now.clauses steps.new trail.new)) }
 {
     let number = f.clauses.len() + steps.len() + 1;
-    if number > 2147483647 {
+    if number > MOST_CLAUSES {
         return Err(AllocError);
     }
     let step = explanation(alloc, &f.clauses, steps, f.vars, trail.entries(), conflict)?;
@@ -66,6 +69,7 @@ fn take_back(
     Ok(Some(place))
 }
 
+/// Looks once at each clause, and then goes on to the first conflict, if there is one.
 fn first_conflict(
     trail: &mut Trail,
     f: &Formula,
@@ -85,6 +89,7 @@ fn first_conflict(
     Ok(number)
 }
 
+/// As `solve`, where memory may lack.
 fn search(alloc: Global, f: &Formula, budget: u32) -> Result<Solved, NoMemory>
     requires { length f.now.clauses ≤ 2147483647 }
     ensures log { IfOk result (λ s. IfLog s (λ steps. IsLog f.now.vars f.now.clauses budget steps)) }
@@ -98,7 +103,7 @@ fn search(alloc: Global, f: &Formula, budget: u32) -> Result<Solved, NoMemory>
     let mut trail = Trail::new(alloc, f.vars)?;
     let mut steps = Steps::new(alloc);
     let mut conflict = first_conflict(&mut trail, f, &occurrences)?;
-    for count in 0..budget {
+    for _count in 0..budget {
         let Some(number) = conflict else {
             break;
         };

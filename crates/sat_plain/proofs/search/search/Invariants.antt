@@ -6,6 +6,6 @@ use Rattle.sat_plain.proofs.search.search.Given as goal
 abbrev pub invariant-loop-count : goal.invariant-loop-count
 invariant-loop-count l = record {
   search : IsSearch l.f.vars l.f.clauses l.steps l.trail;
-  many : length l.steps ≡ l.count;
+  many : length l.steps ≡ l._count;
   conflict : MatchOption l.conflict (IsFull l.f.vars l.f.clauses l.trail.entries) (λ n. IsConflict (known_of l.f.clauses l.steps) l.trail.entries n);
 }
