@@ -2,3 +2,4 @@ pub mod Literals
 pub mod Formulas
 pub mod Follows
 pub mod Logs
+pub mod Solving

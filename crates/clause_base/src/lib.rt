@@ -8,6 +8,7 @@ pub mod hints;
 pub mod lit;
 pub mod lits;
 pub mod log;
+pub mod solved;
 #[cfg(test)]
 mod tests;
 pub mod truths;
