@@ -10,18 +10,14 @@ use Rattle.bit_words.proofs.floor.floor.Given as given
 use Rattle.bit_words.proofs.floor.floor.Goals as goal
 
 quotient_is : (g : given.Over) (c : goal.After-drop-divided-3 g) (vs : List Bool) →
-    int_read g.L.Logic.reads c.flip_where.new.g vs c.in_ok-unfolded.unfolded ≡ floor_quotient (int_read g.L.Logic.reads c.args.g.now vs c.args.a.now) (int_read g.L.Logic.reads c.args.g.now vs c.args.b.now)
+    int_read g.L.Logic.reads c.unfold.new.g vs c.in_ok-unfolded.unfolded ≡ floor_quotient (int_read g.L.Logic.reads c.args.g.now vs c.args.a.now) (int_read g.L.Logic.reads c.args.g.now vs c.args.b.now)
 quotient_is g c vs =
-    let f = g.L.Logic.reads c.divide_folded.new.g vs in
-    let divided = c.in_ok-divided.divided in
     let more = c.in_ok-divided.ensures in
-    let wide = ap (map f) (c.in_ok-push.ensures.ok ∙ ap (λ w. w ++ c.constant-no.result ∷ []) c.in_ok-wide.ensures) ∙ map_push f divided.quotient c.constant-no.result ∙ ap (λ (b : Bool). map f divided.quotient ++ b ∷ []) (c.constant-no.ensures.value vs) in
-    ap int_of (c.in_ok-unfolded.ensures.value vs ∙ ap (map (differ (f divided.sign))) wide) ∙ unfolded_int (f divided.sign) (map f divided.quotient)
-    ∙ rw (more.sign vs, more.quotient vs) (floor_is (int_read g.L.Logic.reads c.args.g.now vs c.args.a.now) (int_read g.L.Logic.reads c.args.g.now vs c.args.b.now))
+    c.in_ok-unfolded.ensures.value vs ∙ rw (more.sign vs, more.quotient vs) (floor_is (int_read g.L.Logic.reads c.args.g.now vs c.args.a.now) (int_read g.L.Logic.reads c.args.g.now vs c.args.b.now))
 
 pub returns-clause-none : goal.returns-clause-none
 returns-clause-none g c vs =
-    let steps = extends_trans c.flip_where.ensures.extends c.narrow.ensures.extends in
+    let steps = extends_trans c.unfold.ensures.extends c.narrow.ensures.extends in
     steps.same _ c.in_ok-divided.ensures.owned_none vs ∙ c.in_ok-divided.ensures.none vs ∙ zero_tests (int_read g.L.Logic.reads c.args.g.now vs c.args.b.now)
 
 pub returns-clause-over : goal.returns-clause-over
