@@ -181,8 +181,8 @@ fn order_of(alloc: Global, x: i32, y: i32, width: usize) -> Result<u32, NoMemory
 }
 
 /// A digest with one result more.
-fn digest(before: u32, result: u32) -> u32 {
-    (before ^ result).wrapping_mul(16777619)
+fn digest(before: u32, reading: u32) -> u32 {
+    (before ^ reading).wrapping_mul(16777619)
 }
 
 /// A digest of all operations on a pair.
