@@ -1,4 +1,4 @@
-use Rattle.std.proofs.Common.{◌≡◌, ◌∙◌, ◌+◌, ◌-◌, ◌^◌, ap, sym, length, map, take, arith}
+use Rattle.std.proofs.Common.{◌≡◌, ◌∙◌, ◌-◌, ◌^◌, arith}
 use Rattle.bit_words.specs.Logic.{extends_trans}
 use Rattle.bit_words.proofs.Kept.{owns_read}
 use Rattle.bit_words.proofs.Naturals.{nat_more}

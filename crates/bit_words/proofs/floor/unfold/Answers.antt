@@ -1,4 +1,4 @@
-use Rattle.std.proofs.Common.{◌≡◌, ◌∙◌, ◌++◌, ◌∷◌, [], ap, Bool, map}
+use Rattle.std.proofs.Common.{◌∙◌, ◌++◌, ◌∷◌, [], ap, Bool, map}
 use Rattle.std.proofs.lemmas.List.{map_push}
 use Rattle.bit_words.specs.Bits.{differ}
 use Rattle.bit_words.specs.Words.{int_of}

@@ -1,9 +1,9 @@
-use Rattle.std.proofs.Common.{◌≡◌, ◌<◌, ◌∙◌, ◌^◌, ◌&&◌, ◌∷◌, ℕ, zero, List, Bool, ap, sym, length, map, drop, not, arith, subst, refl, true}
+use Rattle.std.proofs.Common.{◌≡◌, ◌<◌, ◌∙◌, ◌^◌, ◌&&◌, ◌∷◌, zero, List, Bool, ap, sym, length, map, drop, not, arith, subst}
 use Rattle.std.specs.Prelude.{ℤ}
 use Rattle.std.specs.Int.RustNames.{unsigned_abs}
 use Rattle.std.proofs.lemmas.List.{length-map}
 use Rattle.bit_words.specs.Logic.{extends_trans}
-use Rattle.bit_words.specs.Words.{int_of, int_read, nat_of, nat_read, is_negative, signed, fits, IsUnsigned, OverflowsAs, Holds}
+use Rattle.bit_words.specs.Words.{int_of, int_read, nat_of, nat_read, is_negative, signed, IsUnsigned, OverflowsAs, Holds}
 use Rattle.bit_words.specs.Operations.{exponent_of, int_power}
 use Rattle.bit_words.proofs.Kept.{owns_read, reads_kept, drop_read}
 use Rattle.bit_words.proofs.Products.{nat_masked}

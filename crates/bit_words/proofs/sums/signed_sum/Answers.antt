@@ -1,4 +1,4 @@
-use Rattle.std.proofs.Common.{◌≡◌, ◌+◌, ◌-◌, ◌*◌, ◌^◌, ap, sym, List, Bool, true, not, length, map, take, arith}
+use Rattle.std.proofs.Common.{◌≡◌, ◌-◌, ◌^◌, List, Bool, true, not, length, arith}
 use Rattle.std.specs.Prelude.{pos, ◌+ℤ◌}
 use Rattle.bit_words.specs.Words.{bit_value, int_read, is_within}
 use Rattle.bit_words.proofs.Kept.{owns_read, reads_kept}
