@@ -1,6 +1,6 @@
 //! The graph: a logic with variables, whose gates are shared.
 
-ghost use Rattle.std.specs.Prelude.{◌≡◌, ◌≢◌, ◌+◌, ◌<◌, ◌&&◌, false, [], Bool, List, IfSome, IfNone, IfOk, IsTrue, length, slice_get, Some};
+ghost use Rattle.std.specs.Prelude.{◌≡◌, ◌≢◌, ◌+◌, ◌<◌, ◌&&◌, false, not, [], Bool, List, IfSome, IfNone, IfOk, IsTrue, length, slice_get, Some};
 ghost use Rattle.bit_graph.specs.Gates.{AreGates, Gates, Owns, gate_reads, reading, source_of, source_reads, values_after};
 
 use crate::fold::fold;
@@ -159,14 +159,23 @@ impl Logic for Graph {
 
     ghost count = { λ g. g.variables };
 
-    fn constant(&self, b: bool) -> GraphBit {
+    fn constant(&self, b: bool) -> GraphBit
+        ensures owned { Owns self.now result }
+        ensures value { (vs : List Bool) → reading self.now vs result ≡ b }
+        ensures constant { source_of result ≡ Source.Constant }
+    {
         GraphBit {
             source: Source::Constant,
             positive: b,
         }
     }
 
-    fn not(&self, a: GraphBit) -> GraphBit {
+    fn not(&self, a: GraphBit) -> GraphBit
+        requires { Owns self.now a }
+        ensures owned { Owns self.now result }
+        ensures value { (vs : List Bool) → reading self.now vs result ≡ not (reading self.now vs a) }
+        ensures source { source_of result ≡ source_of a }
+    {
         GraphBit {
             source: a.source,
             positive: !a.positive,

@@ -1,5 +1,5 @@
 -- Floor division by complements.
-use Rattle.std.proofs.Common.{◌≡◌, ◌≢◌, ℕ, zero, suc, ◌<◌, ◌≤◌, ◌+◌, ◌*◌, ◌^◌, ◌-◌, ◌/◌, eqb, Bool, true, false, not, ◌&&◌, List, [], ◌∷◌, ◌++◌, length, map, take, cond, refl, sym, ap, ◌∙◌, arith, subst, length-append}
+use Rattle.std.proofs.Common.{◌≡◌, ◌≢◌, ℕ, zero, suc, ◌<◌, ◌≤◌, ◌+◌, ◌*◌, ◌^◌, ◌-◌, ◌/◌, eqb, Bool, true, false, ◌&&◌, List, [], ◌∷◌, ◌++◌, length, map, take, cond, refl, ap, ◌∙◌, arith, subst, length-append}
 use Rattle.std.specs.Prelude.{ℤ, pos, negsuc, ◌+ℤ◌, ◌-ℤ◌, ◌*ℤ◌, neg_ℤ}
 use Rattle.std.specs.Int.RustNames.{unsigned_abs}
 use Rattle.std.specs.Ordering.{int_eq}
@@ -7,11 +7,10 @@ use Rattle.std.proofs.lemmas.Int.{ints}
 use Rattle.std.proofs.lemmas.List.{length-map}
 use Rattle.std.proofs.lemmas.Bool.Decides.{Decides-eqb, Decides-int_eq, Decides-like, same_from_decides}
 use Rattle.bit_words.specs.Bits.{differ}
-use Rattle.bit_words.specs.Words.{bit_value, nat_of, int_of, is_within, is_negative, signed}
-use Rattle.bit_words.specs.Operations.{IsDivided, by_positive, floor_by, floor_quotient, floor_remainder, folded, unfolded}
-use Rattle.bit_words.proofs.Naturals.{power_double}
-use Rattle.bit_words.proofs.Integers.{Parts, parts, within, int_cons}
-use Rattle.bit_words.proofs.Signs.{int_flipped, unflipped, unsigned_int, sign_is}
+use Rattle.bit_words.specs.Words.{bit_value, nat_of, int_of, is_within, is_negative}
+use Rattle.bit_words.specs.Operations.{IsDivided, by_positive, floor_quotient, floor_remainder, folded, unfolded}
+use Rattle.bit_words.proofs.Integers.{parts, within}
+use Rattle.bit_words.proofs.Signs.{int_flipped, unflipped, unsigned_int}
 use Rattle.bit_words.proofs.Quotients.{low_same}
 
 pub floor_is : (a b : ℤ) → unfolded (is_negative (by_positive a b)) (folded (by_positive a b) / unsigned_abs b) ≡ floor_quotient a b

@@ -1,14 +1,13 @@
 -- Two's complement: the highest digit counts below zero.
 use Rattle.std.proofs.Common.{◌≡◌, ℕ, zero, suc, ◌<◌, ◌≤◌, ◌+◌, ◌*◌, ◌^◌, ◌-◌, ltb, eqb, Bool, true, false, not, ◌&&◌, replicate, List, [], ◌∷◌, ◌++◌, length, map, take, Some, refl, sym, ap, ◌∙◌, arith, length-take, length-append, subst}
-use Rattle.std.specs.Prelude.{slice_get, ℤ, pos, negsuc, ◌+ℤ◌, ◌-ℤ◌, neg_ℤ}
+use Rattle.std.specs.Prelude.{slice_get, ℤ, pos, negsuc, ◌+ℤ◌}
 use Rattle.std.specs.Int.Signed.{lt_z}
 use Rattle.std.specs.Ordering.{int_eq}
 use Rattle.std.proofs.lemmas.Bool.Decides.{nat_tests, Decides-eqb, Decides-int_eq, Decides-like, same_from_decides}
 use Rattle.std.proofs.lemmas.Int.{ints}
 use Rattle.std.proofs.lemmas.List.{map_push, length-map, take_all}
-use Rattle.std.proofs.lemmas.Option.{slice_get_within}
 use Rattle.bit_words.specs.Bits.{differ, most_of, less_by}
-use Rattle.bit_words.specs.Words.{bit_value, nat_of, int_of, is_within, fits}
+use Rattle.bit_words.specs.Words.{bit_value, nat_of, int_of, is_within}
 use Rattle.bit_words.proofs.Kept.{take_read}
 use Rattle.bit_words.proofs.Naturals.{power_double}
 

@@ -7,3 +7,4 @@ pub mod Products
 pub mod Quotients
 pub mod Floors
 pub mod Powers
+mod WorkedExamples

@@ -1,19 +1,18 @@
 -- Powers, digit by digit.
-use Rattle.std.proofs.Common.{◌≡◌, ℕ, zero, suc, ◌<◌, ◌≤◌, ◌+◌, ◌*◌, ◌^◌, ◌-◌, ltb, Bool, true, false, not, ◌&&◌, ◌||◌, List, [], ◌∷◌, length, map, cond, refl, sym, ap, ◌∙◌, arith, subst}
-use Rattle.std.specs.Prelude.{ℤ, pos, negsuc, ◌+ℤ◌, ◌*ℤ◌, neg_ℤ}
+use Rattle.std.proofs.Common.{◌≡◌, ℕ, zero, suc, ◌<◌, ◌≤◌, ◌+◌, ◌*◌, ◌^◌, ◌-◌, ltb, Bool, true, false, not, ◌&&◌, ◌||◌, List, ◌∷◌, length, cond, refl, sym, ap, ◌∙◌, arith, subst}
+use Rattle.std.specs.Prelude.{ℤ, pos, negsuc, ◌+ℤ◌, ◌*ℤ◌}
 use Rattle.std.specs.Int.RustNames.{unsigned_abs}
 use Rattle.std.proofs.lemmas.Bool.Decides.{nat_tests}
-use Rattle.std.proofs.lemmas.Bool.{ltb-true}
 use Rattle.std.proofs.lemmas.Int.{ints}
 use Rattle.std.proofs.lemmas.Nat.{pow-add}
 use Rattle.std.proofs.Math.Nat.{pow-succ', pow-zero}
 use Rattle.bit_words.specs.Bits.{differ}
-use Rattle.bit_words.specs.Words.{bit_value, nat_of, int_of, is_within, is_negative, fits, signed, IsUnsigned}
+use Rattle.bit_words.specs.Words.{bit_value, nat_of, int_of, is_negative, fits, signed, IsUnsigned}
 use Rattle.bit_words.specs.Operations.{exponent_of, int_power}
 use Rattle.bit_words.proofs.Naturals.{power_double}
-use Rattle.bit_words.proofs.Integers.{Parts, parts}
-use Rattle.bit_words.proofs.Products.{Fit, exceeds, turn, not_below, to_fit, of_fit, or_true, or_false}
-use Rattle.bit_words.proofs.Signs.{sign_is, power_positive}
+use Rattle.bit_words.proofs.Integers.{parts}
+use Rattle.bit_words.proofs.Products.{Fit, exceeds, turn, not_below, to_fit, of_fit}
+use Rattle.bit_words.proofs.Signs.{power_positive}
 
 -- a base of a large power is at least 1, so a multiple of it is no smaller
 grows : (x y : ℕ) → 1 ≤ y → x ≤ x * y

@@ -1,5 +1,5 @@
 -- A word that is made bit by bit.
-use Rattle.std.proofs.Common.{◌≡◌, ℕ, Bool, true, false, List, [], ◌∷◌, ◌++◌, map, refl, sym, ap, ◌∙◌, cond}
+use Rattle.std.proofs.Common.{◌≡◌, Bool, true, false, List, [], ◌∷◌, ◌++◌, map, ap, ◌∙◌, cond}
 use Rattle.std.proofs.lemmas.List.{map_push}
 
 -- one bit more

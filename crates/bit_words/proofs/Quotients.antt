@@ -1,12 +1,12 @@
 -- Quotients, digit by digit.
-use Rattle.std.proofs.Common.{◌≡◌, ℕ, zero, suc, ◌<◌, ◌≤◌, ◌+◌, ◌*◌, ◌^◌, ◌-◌, ◌/◌, ltb, eqb, Bool, true, false, not, ◌&&◌, List, [], ◌∷◌, length, map, take, cond, refl, sym, ap, ◌∙◌, arith, subst}
+use Rattle.std.proofs.Common.{◌≡◌, ℕ, zero, suc, ◌<◌, ◌+◌, ◌*◌, ◌^◌, ◌/◌, ltb, eqb, Bool, true, false, not, ◌&&◌, List, [], ◌∷◌, length, map, take, cond, refl, sym, ap, ◌∙◌, arith}
 use Rattle.std.proofs.lemmas.Bool.Decides.{nat_tests}
 use Rattle.std.proofs.lemmas.Nat.{div-mul-add}
 use Rattle.std.proofs.Math.Nat.{div-zero}
 use Rattle.bit_words.specs.Words.{bit_value, nat_of}
 use Rattle.bit_words.specs.Operations.{IsDivided}
 use Rattle.bit_words.proofs.Naturals.{power_double}
-use Rattle.bit_words.proofs.Integers.{bit_not, bit_small}
+use Rattle.bit_words.proofs.Integers.{bit_not}
 
 pub nat_not : (bs : List Bool) → nat_of (map not bs) + nat_of bs + 1 ≡ 2 ^ length bs
 nat_not [] = refl

@@ -1,13 +1,12 @@
 -- Signs and magnitudes.
-use Rattle.std.proofs.Common.{◌≡◌, ℕ, zero, suc, ◌<◌, ◌≤◌, ◌+◌, ◌*◌, ◌^◌, ◌-◌, Bool, true, false, not, List, [], ◌∷◌, ◌++◌, length, map, replicate, cond, ltb, ◌||◌, refl, sym, ap, ◌∙◌, arith, length-append, subst}
-use Rattle.std.specs.Prelude.{ℤ, pos, negsuc, ◌+ℤ◌, ◌-ℤ◌, ◌*ℤ◌, neg_ℤ}
+use Rattle.std.proofs.Common.{◌≡◌, ℕ, zero, suc, ◌<◌, ◌≤◌, ◌+◌, ◌*◌, ◌^◌, ◌-◌, Bool, true, false, not, List, [], ◌∷◌, ◌++◌, length, map, replicate, cond, ltb, ◌||◌, refl, sym, ap, ◌∙◌, arith, subst}
+use Rattle.std.specs.Prelude.{ℤ, pos, negsuc, ◌+ℤ◌, ◌*ℤ◌, neg_ℤ}
 use Rattle.std.specs.Int.RustNames.{unsigned_abs}
 use Rattle.std.proofs.lemmas.Int.{ints}
-use Rattle.std.proofs.lemmas.List.{length-map}
 use Rattle.bit_words.specs.Bits.{differ}
-use Rattle.bit_words.specs.Words.{bit_value, nat_of, int_of, is_within, fits, is_negative, signed, IsUnsigned}
-use Rattle.bit_words.proofs.Naturals.{power_double, nat_push}
-use Rattle.bit_words.proofs.Integers.{Sum, inside, outside, within, above, beneath, Parts, parts, int_signed, int_cons, bit_not, nat_below}
+use Rattle.bit_words.specs.Words.{bit_value, nat_of, int_of, is_within, is_negative, signed, IsUnsigned}
+use Rattle.bit_words.proofs.Naturals.{power_double}
+use Rattle.bit_words.proofs.Integers.{Sum, inside, outside, within, above, beneath, parts, int_signed, int_cons, bit_not, nat_below}
 use Rattle.bit_words.proofs.Products.{turn, not_below}
 
 -- one bit less

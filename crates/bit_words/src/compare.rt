@@ -64,6 +64,23 @@ fn less_digit<L: Logic>(
     or(g, below, still)
 }
 
+/// The same of the highest digits, which change places, as they count below zero.
+fn less_sign<L: Logic>(
+    g: &mut L,
+    left: L::Bit,
+    right: L::Bit,
+    before: L::Bit,
+) -> Result<L::Bit, NoMemory>
+    requires left { L.owns g.old left }
+    requires right { L.owns g.old right }
+    requires before { L.owns g.old before }
+    ensures extends { Extends L.owns L.reads L.count g.old g.new }
+    ensures owned { IfOk result (λ r. L.owns g.new r) }
+    ensures value { IfOk result (λ r. (vs : List Bool) → L.reads g.new vs r ≡ less_by (L.reads g.old vs right) (L.reads g.old vs left) (L.reads g.old vs before)) }
+{
+    less_digit(g, right, left, before)
+}
+
 /// Whether one word is below another of its width.
 #[tactic(auto, using(crate::proofs::Kept::steps))]
 pub fn less<L: Logic>(
@@ -87,9 +104,8 @@ pub fn less<L: Logic>(
         let right = b.at(i);
         below = less_digit(g, left, right, below)?;
     }
-    // The highest digits count below zero, so they change places.
     let first = a.at(top);
     let second = b.at(top);
-    let lower = less_digit(g, second, first, below)?;
+    let lower = less_sign(g, first, second, below)?;
     Ok(lower)
 }

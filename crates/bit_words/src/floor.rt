@@ -1,11 +1,11 @@
 //! Floor division and its remainder.
 
-ghost use Rattle.std.specs.Prelude.{◌≡◌, ◌≢◌, ◌/◌, ◌<◌, pos, Bool, List, nat_eq, length, IfOk};
+ghost use Rattle.std.specs.Prelude.{◌≡◌, ◌≢◌, ◌+◌, ◌/◌, ◌<◌, pos, Bool, List, nat_eq, length, IfOk};
 ghost use Rattle.std.specs.Int.RustNames.{unsigned_abs};
 ghost use Rattle.std.specs.Ordering.{int_eq};
 ghost use Rattle.bit_words.specs.Logic.{Extends, OwnsAll};
 ghost use Rattle.bit_words.specs.Words.{int_read, nat_read, is_negative, Holds, OverflowsAs};
-ghost use Rattle.bit_words.specs.Operations.{IsDivided, by_positive, floor_quotient, floor_remainder, folded};
+ghost use Rattle.bit_words.specs.Operations.{IsDivided, by_positive, floor_quotient, floor_remainder, folded, unfolded};
 
 use crate::NoMemory;
 use crate::bitwise::{flip_where, mask};
@@ -72,9 +72,31 @@ fn divide_folded<L: Logic>(
     })
 }
 
+/// A number by its sign and its size or, below zero, that of its complement, in one bit more.
+#[tactic(auto, using(crate::proofs::Kept::steps))]
+fn unfold<L: Logic>(
+    alloc: Global,
+    g: &mut L,
+    sign: L::Bit,
+    size: &Word<L::Bit>,
+) -> Result<Word<L::Bit>, NoMemory>
+    requires sign { L.owns g.old sign }
+    requires word { OwnsAll L.owns g.old size.now }
+    ensures extends { Extends L.owns L.reads L.count g.old g.new }
+    ensures owned { IfOk result (λ r. OwnsAll L.owns g.new r) }
+    ensures width { IfOk result (λ r. length r ≡ length size.now + 1) }
+    ensures value { IfOk result (λ r. (vs : List Bool) → int_read L.reads g.new vs r ≡ unfolded (L.reads g.old vs sign) (nat_read L.reads g.old vs size.now)) }
+{
+    let no = g.constant(false);
+    let mut wide = size.copy()?;
+    wide.push(no)?;
+    let number = flip_where(alloc, g, sign, &wide)?;
+    Ok(number)
+}
+
 /// The quotient of two words of one width, rounded towards minus infinity, whether it leaves their
 /// width, and whether the divisor is 0.
-#[tactic(auto, using(crate::proofs::Kept::steps))]
+#[tactic(auto, using(crate::proofs::Kept::steps, crate::proofs::Floors::floor_is, crate::proofs::Floors::zero_tests))]
 pub fn floor<L: Logic>(
     alloc: Global,
     g: &mut L,
@@ -96,10 +118,7 @@ pub fn floor<L: Logic>(
 {
     let width = a.len();
     let divided = divide_folded(alloc, g, a, b)?;
-    let no = g.constant(false);
-    let mut wide = divided.quotient.copy()?;
-    wide.push(no)?;
-    let unfolded = flip_where(alloc, g, divided.sign, &wide)?;
+    let unfolded = unfold(alloc, g, divided.sign, &divided.quotient)?;
     let (number, over) = narrow(g, &unfolded, width)?;
     Ok((number, over, divided.none))
 }

@@ -89,6 +89,38 @@ pub fn unsigned_power<L: Logic>(
     Ok((power, over))
 }
 
+/// The power of one word by another of its width, where an exponent below zero counts as 0, and
+/// whether that exponent isn't below zero and the power leaves their width.
+#[tactic(auto, using(crate::proofs::Kept::steps))]
+fn power_by<L: Logic>(
+    alloc: Global,
+    g: &mut L,
+    a: &Word<L::Bit>,
+    b: &Word<L::Bit>,
+) -> Result<(Word<L::Bit>, L::Bit), NoMemory>
+    requires long { 1 < length a.now }
+    requires alike { length b.now ≡ length a.now }
+    requires left { OwnsAll L.owns g.old a.now }
+    requires right { OwnsAll L.owns g.old b.now }
+    ensures extends { Extends L.owns L.reads L.count g.old g.new }
+    ensures owned { IfOk result (λ r. OwnsAll L.owns g.new r.0) }
+    ensures owned_over { IfOk result (λ r. L.owns g.new r.1) }
+    ensures width { IfOk result (λ r. length r.0 ≡ length a.now) }
+    ensures over { IfOk result (λ r. (vs : List Bool) → L.reads g.new vs r.1 ≡ (not (is_negative (int_read L.reads g.old vs b.now)) && not (fits (length a.now) (int_power (int_read L.reads g.old vs a.now) (exponent_of (int_read L.reads g.old vs b.now)))))) }
+    ensures value { IfOk result (λ r. (vs : List Bool) → Holds (int_read L.reads g.new vs r.0) (length a.now) (int_power (int_read L.reads g.old vs a.now) (exponent_of (int_read L.reads g.old vs b.now)))) }
+{
+    let below = sign_of(g, a);
+    let negative = sign_of(g, b);
+    let positive = g.not(negative);
+    let size = magnitude(alloc, g, a)?;
+    let exponent = mask(alloc, g, positive, b)?;
+    let odd = exponent.at(0);
+    let (raised, spilled) = unsigned_power(alloc, g, &size, &exponent)?;
+    let sign = g.and(below, odd)?;
+    let (number, over) = signed_result(alloc, g, sign, &raised, spilled)?;
+    Ok((number, over))
+}
+
 /// The power of one word by another of its width, whether it leaves their width, and whether the
 /// exponent is below zero, where the power is read as 1.
 #[tactic(auto, using(crate::proofs::Kept::steps))]
@@ -111,14 +143,7 @@ pub fn power<L: Logic>(
     ensures over { IfOk result (λ r. (vs : List Bool) → L.reads g.new vs r.1 ≡ (not (is_negative (int_read L.reads g.old vs b.now)) && not (fits (length a.now) (int_power (int_read L.reads g.old vs a.now) (exponent_of (int_read L.reads g.old vs b.now)))))) }
     ensures value { IfOk result (λ r. (vs : List Bool) → Holds (int_read L.reads g.new vs r.0) (length a.now) (int_power (int_read L.reads g.old vs a.now) (exponent_of (int_read L.reads g.old vs b.now)))) }
 {
-    let below = sign_of(g, a);
     let negative = sign_of(g, b);
-    let positive = g.not(negative);
-    let size = magnitude(alloc, g, a)?;
-    let exponent = mask(alloc, g, positive, b)?;
-    let odd = exponent.at(0);
-    let (raised, spilled) = unsigned_power(alloc, g, &size, &exponent)?;
-    let sign = g.and(below, odd)?;
-    let (number, over) = signed_result(alloc, g, sign, &raised, spilled)?;
+    let (number, over) = power_by(alloc, g, a, b)?;
     Ok((number, over, negative))
 }

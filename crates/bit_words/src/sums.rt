@@ -1,6 +1,7 @@
 //! Sums and differences.
 
 ghost use Rattle.std.specs.Prelude.{◌≡◌, ◌+◌, ◌*◌, ◌^◌, ◌<◌, ◌≤◌, ◌+ℤ◌, ◌-ℤ◌, pos, neg_ℤ, Bool, List, length, map, take, IfOk};
+ghost use Rattle.bit_words.specs.Bits.{differ, most_of};
 ghost use Rattle.bit_words.specs.Logic.{Extends, OwnsAll};
 ghost use Rattle.bit_words.specs.Words.{bit_value, nat_read, int_read, Holds, OverflowsAs};
 
@@ -45,6 +46,28 @@ pub fn carry_sum<L: Logic>(
     Ok((sum, carried))
 }
 
+/// The highest digit of a sum, and whether the sum leaves its width: the carry into that digit isn't
+/// the carry out of it.
+fn top_digit<L: Logic>(
+    g: &mut L,
+    left: L::Bit,
+    right: L::Bit,
+    carry: L::Bit,
+) -> Result<(L::Bit, L::Bit), NoMemory>
+    requires left { L.owns g.old left }
+    requires right { L.owns g.old right }
+    requires carry { L.owns g.old carry }
+    ensures extends { Extends L.owns L.reads L.count g.old g.new }
+    ensures owned { IfOk result (λ r. L.owns g.new r.0) }
+    ensures owned_over { IfOk result (λ r. L.owns g.new r.1) }
+    ensures digit { IfOk result (λ r. (vs : List Bool) → L.reads g.new vs r.0 ≡ differ (differ (L.reads g.old vs left) (L.reads g.old vs right)) (L.reads g.old vs carry)) }
+    ensures over { IfOk result (λ r. (vs : List Bool) → L.reads g.new vs r.1 ≡ differ (L.reads g.old vs carry) (most_of (L.reads g.old vs left) (L.reads g.old vs right) (L.reads g.old vs carry))) }
+{
+    let (digit, out) = full_add(g, left, right, carry)?;
+    let over = xor(g, carry, out)?;
+    Ok((digit, over))
+}
+
 /// The sum of two words of one width and of a carry, and whether it leaves their width.
 #[tactic(auto, using(crate::proofs::Kept::steps))]
 pub fn signed_sum<L: Logic>(
@@ -70,9 +93,8 @@ pub fn signed_sum<L: Logic>(
     let first = a.at(top);
     let second = b.at(top);
     let (mut sum, into_top) = carry_sum(alloc, g, a, b, carry, top)?;
-    let (digit, out) = full_add(g, first, second, into_top)?;
+    let (digit, over) = top_digit(g, first, second, into_top)?;
     sum.push(digit)?;
-    let over = xor(g, into_top, out)?;
     Ok((sum, over))
 }
 

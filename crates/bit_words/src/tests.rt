@@ -77,96 +77,94 @@ fn number_of(word: &Word<bool>) -> i32 {
     number
 }
 
+/// What is digested of a result: its number, or else which of its two faults it has.
+fn outcome(word: &Word<bool>, over: bool, fault: bool) -> u32 {
+    match (over, fault) {
+        (false, false) => number_of(word).wrapping_add(40000).unsigned_abs(),
+        (true, false) => 1,
+        (false, true) => 2,
+        (true, true) => 3,
+    }
+}
+
 #[tactic(auto, using(crate::proofs::Kept::steps))]
-fn sum_of(alloc: Global, x: i32, y: i32, width: usize) -> Result<Option<i32>, NoMemory>
+fn sum_of(alloc: Global, x: i32, y: i32, width: usize) -> Result<u32, NoMemory>
     requires { 1 < width }
 {
     let mut g = Plain;
     let a = word_of(alloc, &g, x, width)?;
     let b = word_of(alloc, &g, y, width)?;
     let (word, over) = add(alloc, &mut g, &a, &b)?;
-    Ok(if over { None } else { Some(number_of(&word)) })
+    Ok(outcome(&word, over, false))
 }
 
 #[tactic(auto, using(crate::proofs::Kept::steps))]
-fn difference_of(alloc: Global, x: i32, y: i32, width: usize) -> Result<Option<i32>, NoMemory>
+fn difference_of(alloc: Global, x: i32, y: i32, width: usize) -> Result<u32, NoMemory>
     requires { 1 < width }
 {
     let mut g = Plain;
     let a = word_of(alloc, &g, x, width)?;
     let b = word_of(alloc, &g, y, width)?;
     let (word, over) = sub(alloc, &mut g, &a, &b)?;
-    Ok(if over { None } else { Some(number_of(&word)) })
+    Ok(outcome(&word, over, false))
 }
 
 #[tactic(auto, using(crate::proofs::Kept::steps))]
-fn opposite_of(alloc: Global, x: i32, width: usize) -> Result<Option<i32>, NoMemory>
+fn opposite_of(alloc: Global, x: i32, width: usize) -> Result<u32, NoMemory>
     requires { 1 < width }
 {
     let mut g = Plain;
     let a = word_of(alloc, &g, x, width)?;
     let (word, over) = neg(alloc, &mut g, &a)?;
-    Ok(if over { None } else { Some(number_of(&word)) })
+    Ok(outcome(&word, over, false))
 }
 
 #[tactic(auto, using(crate::proofs::Kept::steps))]
-fn product_of(alloc: Global, x: i32, y: i32, width: usize) -> Result<Option<i32>, NoMemory>
+fn product_of(alloc: Global, x: i32, y: i32, width: usize) -> Result<u32, NoMemory>
     requires { 1 < width }
 {
     let mut g = Plain;
     let a = word_of(alloc, &g, x, width)?;
     let b = word_of(alloc, &g, y, width)?;
     let (word, over) = mul(alloc, &mut g, &a, &b)?;
-    Ok(if over { None } else { Some(number_of(&word)) })
+    Ok(outcome(&word, over, false))
 }
 
 #[tactic(auto, using(crate::proofs::Kept::steps))]
-fn quotient_of(alloc: Global, x: i32, y: i32, width: usize) -> Result<Option<i32>, NoMemory>
+fn quotient_of(alloc: Global, x: i32, y: i32, width: usize) -> Result<u32, NoMemory>
     requires { 1 < width }
 {
     let mut g = Plain;
     let a = word_of(alloc, &g, x, width)?;
     let b = word_of(alloc, &g, y, width)?;
     let (word, over, fault) = floor(alloc, &mut g, &a, &b)?;
-    Ok(if over || fault {
-        None
-    } else {
-        Some(number_of(&word))
-    })
+    Ok(outcome(&word, over, fault))
 }
 
 #[tactic(auto, using(crate::proofs::Kept::steps))]
-fn remainder_of(alloc: Global, x: i32, y: i32, width: usize) -> Result<Option<i32>, NoMemory>
+fn remainder_of(alloc: Global, x: i32, y: i32, width: usize) -> Result<u32, NoMemory>
     requires { 1 < width }
 {
     let mut g = Plain;
     let a = word_of(alloc, &g, x, width)?;
     let b = word_of(alloc, &g, y, width)?;
     let (word, over, fault) = rem(alloc, &mut g, &a, &b)?;
-    Ok(if over || fault {
-        None
-    } else {
-        Some(number_of(&word))
-    })
+    Ok(outcome(&word, over, fault))
 }
 
 #[tactic(auto, using(crate::proofs::Kept::steps))]
-fn power_of(alloc: Global, x: i32, y: i32, width: usize) -> Result<Option<i32>, NoMemory>
+fn power_of(alloc: Global, x: i32, y: i32, width: usize) -> Result<u32, NoMemory>
     requires { 1 < width }
 {
     let mut g = Plain;
     let a = word_of(alloc, &g, x, width)?;
     let b = word_of(alloc, &g, y, width)?;
     let (word, over, fault) = power(alloc, &mut g, &a, &b)?;
-    Ok(if over || fault {
-        None
-    } else {
-        Some(number_of(&word))
-    })
+    Ok(outcome(&word, over, fault))
 }
 
 #[tactic(auto, using(crate::proofs::Kept::steps))]
-fn order_of(alloc: Global, x: i32, y: i32, width: usize) -> Result<Option<i32>, NoMemory>
+fn order_of(alloc: Global, x: i32, y: i32, width: usize) -> Result<u32, NoMemory>
     requires { 1 < width }
 {
     let mut g = Plain;
@@ -174,17 +172,17 @@ fn order_of(alloc: Global, x: i32, y: i32, width: usize) -> Result<Option<i32>, 
     let b = word_of(alloc, &g, y, width)?;
     let below = less(alloc, &mut g, &a, &b)?;
     let alike = equal(alloc, &mut g, &a, &b)?;
-    let number = if below { 1 } else { 0 };
-    Ok(if alike { None } else { Some(number) })
+    Ok(match (below, alike) {
+        (false, false) => 0,
+        (true, false) => 1,
+        (false, true) => 2,
+        (true, true) => 3,
+    })
 }
 
-/// A digest with one result more, where there is one.
-fn digest(before: u32, number: Option<i32>) -> u32 {
-    let place = match number {
-        Some(number) => number.wrapping_add(40000).unsigned_abs(),
-        None => 1,
-    };
-    (before ^ place).wrapping_mul(16777619)
+/// A digest with one result more.
+fn digest(before: u32, reading: u32) -> u32 {
+    (before ^ reading).wrapping_mul(16777619)
 }
 
 /// A digest of all operations on a pair.
@@ -243,11 +241,22 @@ fn digest_of_width(alloc: Global, width: usize, half: i32, pairs: u32) -> Result
     Ok(all)
 }
 
-// The digests are those of Python's integers: `python3 tests/word_digests.py` prints them.
+// The digests are those of Python's integers: `python3 tests/word_digests.py` compares them.
+
 #[test]
-fn the_calls_agree_with_python(rt: HostRuntime) -> Result<(), Fail> {
-    assert_eq!(rt; digest_of_width(rt.alloc(), 4, 8, 400)?, 2383220344);
-    assert_eq!(rt; digest_of_width(rt.alloc(), 8, 128, 200)?, 4180010875);
-    assert_eq!(rt; digest_of_width(rt.alloc(), 16, 32768, 20)?, 4111746687);
+fn four_bits_agree_with_python(rt: HostRuntime) -> Result<(), Fail> {
+    assert_eq!(rt; digest_of_width(rt.alloc(), 4, 8, 4000)?, 3966839432);
+    Ok(())
+}
+
+#[test]
+fn eight_bits_agree_with_python(rt: HostRuntime) -> Result<(), Fail> {
+    assert_eq!(rt; digest_of_width(rt.alloc(), 8, 128, 4000)?, 3438077008);
+    Ok(())
+}
+
+#[test]
+fn sixteen_bits_agree_with_python(rt: HostRuntime) -> Result<(), Fail> {
+    assert_eq!(rt; digest_of_width(rt.alloc(), 16, 32768, 2000)?, 2833233492);
     Ok(())
 }

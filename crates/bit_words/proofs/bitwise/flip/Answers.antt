@@ -1,4 +1,4 @@
-use Rattle.std.proofs.Common.{◌∙◌, ap, sym, arith, length, map, not, length-append, take}
+use Rattle.std.proofs.Common.{◌∙◌, ap, sym, arith, length, not, length-append}
 use Rattle.bit_words.proofs.Kept.{owns_push, take_read}
 use Rattle.bit_words.proofs.Pushes.{push_read, map_more}
 use Rattle.std.proofs.Common.{refl}

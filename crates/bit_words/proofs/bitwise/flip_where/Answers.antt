@@ -1,4 +1,4 @@
-use Rattle.std.proofs.Common.{◌≡◌, ◌∙◌, ap, sym, arith, length, length-append}
+use Rattle.std.proofs.Common.{◌∙◌, ap, sym, arith, length, length-append}
 use Rattle.bit_words.specs.Bits.{differ}
 use Rattle.bit_words.specs.Logic.{extends_trans}
 use Rattle.bit_words.proofs.Kept.{owns_push, owns_kept, owns_read, take_read, reads_kept}

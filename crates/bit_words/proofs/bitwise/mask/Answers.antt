@@ -1,4 +1,4 @@
-use Rattle.std.proofs.Common.{◌≡◌, ◌∙◌, ap, sym, arith, length, length-append, ◌&&◌, Bool}
+use Rattle.std.proofs.Common.{◌∙◌, ap, sym, arith, length, length-append, ◌&&◌, Bool}
 use Rattle.bit_words.specs.Logic.{extends_trans}
 use Rattle.bit_words.proofs.Kept.{owns_push, owns_kept, owns_read, take_read, reads_kept}
 use Rattle.bit_words.proofs.Pushes.{push_read, map_more}

@@ -1,7 +1,6 @@
-use Rattle.std.proofs.Common.{◌≡◌, ◌∙◌, ◌+◌, ◌^◌, ap, sym, length, map, take, arith, ◌&&◌, not, Bool, ℕ, eqb}
+use Rattle.std.proofs.Common.{◌∙◌, ◌^◌, ap, map, arith, not}
 use Rattle.std.proofs.lemmas.List.{length-map, take_all}
 use Rattle.bit_words.specs.Logic.{extends_trans}
-use Rattle.bit_words.specs.Words.{nat_of}
 use Rattle.bit_words.proofs.Kept.{owns_read}
 use Rattle.bit_words.proofs.Naturals.{nat_more}
 use Rattle.bit_words.proofs.Integers.{same_step, same_numbers, nat_taken_below}

@@ -1,4 +1,4 @@
-use Rattle.std.proofs.Common.{◌≡◌, ◌∙◌, ◌+◌, ◌-◌, ◌^◌, ap, sym, length, map, take, arith}
+use Rattle.std.proofs.Common.{◌≡◌, ◌∙◌, ◌-◌, ◌^◌, arith}
 use Rattle.bit_words.specs.Logic.{extends_trans}
 use Rattle.bit_words.proofs.Kept.{owns_read}
 use Rattle.bit_words.proofs.Naturals.{nat_more}
@@ -24,11 +24,11 @@ loop-i-preserved g c =
           rw (now, left, right) (less_step (2 ^ i) _ _ (first c.at-left.result) (first c.at-right.result) (reads c.loop-i.g vs c.loop-i.below) (nat_taken_below first c.args.a.now i (omega arith)) (nat_taken_below first c.args.b.now i (omega arith)) (before.value vs));
     }
 
-pub less_digit-requires-2-clause-left : goal.less_digit-requires-2-clause-left
-less_digit-requires-2-clause-left g c = c.loop-i.invariant.extends.kept _ (owns_read _ c.requires.right c.at-second.ensures)
+pub less_sign-requires-clause-left : goal.less_sign-requires-clause-left
+less_sign-requires-clause-left g c = c.loop-i.invariant.extends.kept _ (owns_read _ c.requires.left c.at-first.ensures)
 
-pub less_digit-requires-2-clause-right : goal.less_digit-requires-2-clause-right
-less_digit-requires-2-clause-right g c = c.loop-i.invariant.extends.kept _ (owns_read _ c.requires.left c.at-first.ensures)
+pub less_sign-requires-clause-right : goal.less_sign-requires-clause-right
+less_sign-requires-clause-right g c = c.loop-i.invariant.extends.kept _ (owns_read _ c.requires.right c.at-second.ensures)
 
 pub returns-clause-value : goal.returns-clause-value
 returns-clause-value g c vs =

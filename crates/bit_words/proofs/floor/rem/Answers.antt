@@ -1,11 +1,11 @@
-use Rattle.std.proofs.Common.{◌≡◌, ◌<◌, ◌≤◌, ◌∙◌, ◌+◌, ◌-◌, ◌^◌, ℕ, ap, sym, List, Bool, length, map, cond, true, false, not, arith, subst, refl}
-use Rattle.std.specs.Prelude.{ℤ, pos, ◌+ℤ◌}
+use Rattle.std.proofs.Common.{◌≡◌, ◌<◌, ◌≤◌, ◌∙◌, ◌-◌, ◌^◌, ℕ, ap, sym, List, Bool, length, map, true, not, arith, subst, refl}
+use Rattle.std.specs.Prelude.{pos, ◌+ℤ◌}
 use Rattle.std.specs.Int.RustNames.{unsigned_abs}
 use Rattle.std.proofs.lemmas.List.{length-map}
 use Rattle.bit_words.specs.Bits.{differ}
 use Rattle.bit_words.specs.Logic.{extends_trans}
 use Rattle.bit_words.specs.Words.{bit_value, int_of, int_read, nat_of, is_within, is_negative}
-use Rattle.bit_words.specs.Operations.{by_positive, floor_remainder, unfolded}
+use Rattle.bit_words.specs.Operations.{by_positive, floor_remainder}
 use Rattle.bit_words.proofs.Kept.{reads_kept}
 use Rattle.bit_words.proofs.Floors.{abs_half, own_fits, remainder_fits, remainder_is, some_abs, small_int, complemented, int_masked, zero_tests}
 use Rattle.bit_words.proofs.floor.rem.Given as given

@@ -1,6 +1,6 @@
-use Rattle.std.proofs.Common.{◌≡◌, ◌∙◌, ◌+◌, ◌*◌, ◌^◌, ℕ, ap, sym, length, map, take, arith, subst}
+use Rattle.std.proofs.Common.{◌≡◌, ◌∙◌, ap, length, map, arith}
 use Rattle.std.proofs.lemmas.List.{length-map, take_all}
-use Rattle.bit_words.specs.Words.{bit_value, nat_of}
+use Rattle.bit_words.specs.Words.{nat_of}
 use Rattle.bit_words.proofs.Integers.{nat_read_below}
 use Rattle.bit_words.proofs.Signs.{magnitude_is, nat_zeros}
 use Rattle.bit_words.proofs.magnitude.magnitude.Goals as goal

@@ -1,4 +1,4 @@
-use Rattle.std.proofs.Common.{◌≡◌, ◌∙◌, ◌+◌, ◌-◌, ◌^◌, ap, sym, length, map, take, arith}
+use Rattle.std.proofs.Common.{◌-◌, ◌^◌, arith}
 use Rattle.bit_words.proofs.Integers.{int_split, nat_taken_below}
 use Rattle.bit_words.proofs.Signs.{sign_is}
 use Rattle.bit_words.proofs.magnitude.sign_of.Goals as goal

@@ -1,4 +1,4 @@
-use Rattle.std.proofs.Common.{◌≡◌, ◌∙◌, ◌+◌, ◌-◌, ◌^◌, ◌||◌, ℕ, ap, sym, length, map, arith, Bool, List, true, not}
+use Rattle.std.proofs.Common.{◌≡◌, ◌∙◌, ◌-◌, ◌^◌, ℕ, ap, length, map, arith, Bool, List, true, not}
 use Rattle.bit_words.specs.Words.{nat_of, nat_read, int_read, is_within, signed, IsUnsigned}
 use Rattle.bit_words.proofs.Kept.{reads_kept}
 use Rattle.bit_words.proofs.Signs.{signed_number}

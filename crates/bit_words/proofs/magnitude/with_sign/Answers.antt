@@ -1,9 +1,9 @@
-use Rattle.std.proofs.Common.{◌≡◌, ◌<◌, ◌∙◌, ◌+◌, ◌-◌, ◌*◌, ◌^◌, ℕ, ap, sym, length, map, take, arith, subst, cond, ◌++◌, ◌∷◌, [], length-append, true, false}
+use Rattle.std.proofs.Common.{◌≡◌, ◌<◌, ◌∙◌, ◌-◌, ap, length, map, arith, cond, ◌++◌, ◌∷◌, [], length-append}
 use Rattle.std.specs.Prelude.{ℤ, pos, ◌+ℤ◌, neg_ℤ}
 use Rattle.std.proofs.lemmas.Int.{ints}
 use Rattle.std.proofs.lemmas.List.{length-map, map_push}
 use Rattle.bit_words.specs.Bits.{differ}
-use Rattle.bit_words.specs.Words.{bit_value, nat_of, int_of, is_within, fits, signed}
+use Rattle.bit_words.specs.Words.{bit_value, nat_of, int_of, signed}
 use Rattle.bit_words.proofs.Integers.{int_zeros}
 use Rattle.bit_words.proofs.Signs.{unsigned_int, signed_fits, flipped_int, cond_signed}
 use Rattle.bit_words.proofs.magnitude.with_sign.Goals as goal

@@ -1,6 +1,5 @@
-use Rattle.std.proofs.Common.{◌≡◌, ◌∙◌, ◌+◌, ◌-◌, ◌*◌, ◌^◌, ap, sym, List, Bool, true, not, length, map, take, arith, ◌++◌, ◌∷◌, [], length-take}
-use Rattle.std.specs.Prelude.{ℤ, pos, ◌+ℤ◌}
-use Rattle.bit_words.specs.Words.{bit_value, int_of, int_read, is_within, nat_of}
+use Rattle.std.proofs.Common.{◌≡◌, ◌∙◌, ◌+◌, ◌-◌, ◌^◌, ap, List, Bool, true, not, map, take, arith, ◌++◌, ◌∷◌, [], length-take}
+use Rattle.bit_words.specs.Words.{int_read, is_within, nat_of}
 use Rattle.bit_words.proofs.Kept.{reads_kept, take_read, owns_read, owns_taken}
 use Rattle.bit_words.proofs.Naturals.{power_double, nat_more}
 use Rattle.bit_words.proofs.Integers.{int_split, int_pushed, nat_taken_below}

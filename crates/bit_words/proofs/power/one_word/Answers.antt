@@ -1,4 +1,4 @@
-use Rattle.std.proofs.Common.{◌≡◌, ◌∙◌, ◌+◌, ◌-◌, ℕ, ap, Bool, List, map, arith}
+use Rattle.std.proofs.Common.{◌∙◌, ◌+◌, ◌-◌, ℕ, ap, Bool, map}
 use Rattle.bit_words.specs.Words.{bit_value, nat_of}
 use Rattle.bit_words.proofs.Signs.{nat_zeros}
 use Rattle.bit_words.proofs.power.one_word.Goals as goal

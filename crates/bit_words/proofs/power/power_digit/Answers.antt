@@ -1,4 +1,4 @@
-use Rattle.std.proofs.Common.{◌≡◌, ◌∙◌, ◌||◌, ℕ, ap, sym, length, map, cond}
+use Rattle.std.proofs.Common.{◌∙◌, ap, length, map}
 use Rattle.bit_words.specs.Logic.{extends_trans}
 use Rattle.bit_words.specs.Words.{nat_of}
 use Rattle.bit_words.proofs.Kept.{reads_kept}

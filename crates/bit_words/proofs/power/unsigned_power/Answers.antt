@@ -1,7 +1,7 @@
-use Rattle.std.proofs.Common.{◌≡◌, ◌<◌, ◌∙◌, ◌+◌, ◌-◌, ◌^◌, ◌∷◌, [], ℕ, ap, sym, length, map, drop, arith, subst, List, Bool}
+use Rattle.std.proofs.Common.{◌≡◌, ◌∙◌, ◌+◌, ◌-◌, [], ap, length, map, drop, arith}
 use Rattle.std.proofs.lemmas.List.{length-map, drop_all}
 use Rattle.bit_words.specs.Logic.{extends_trans, extends_refl}
-use Rattle.bit_words.specs.Words.{bit_value, nat_of, IsUnsigned}
+use Rattle.bit_words.specs.Words.{nat_of}
 use Rattle.bit_words.proofs.Kept.{owns_read, reads_kept, drop_read}
 use Rattle.bit_words.proofs.Powers.{no_exponent}
 use Rattle.bit_words.proofs.power.unsigned_power.Goals as goal

@@ -1,6 +1,6 @@
-use Rattle.std.proofs.Common.{◌≡◌, ◌∙◌, ◌+◌, ◌-◌, ◌*◌, ◌^◌, ◌<◌, ◌||◌, ◌&&◌, ℕ, ap, sym, length, map, take, arith, subst, Bool}
+use Rattle.std.proofs.Common.{◌≡◌, ◌∙◌, ◌+◌, ◌-◌, ap, map, take, arith}
 use Rattle.bit_words.specs.Logic.{extends_trans}
-use Rattle.bit_words.specs.Words.{bit_value, nat_of, IsUnsigned}
+use Rattle.bit_words.specs.Words.{nat_of}
 use Rattle.bit_words.proofs.Kept.{owns_read, reads_kept}
 use Rattle.bit_words.proofs.Naturals.{nat_more}
 use Rattle.bit_words.proofs.Integers.{nat_read_below}

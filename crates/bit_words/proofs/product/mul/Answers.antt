@@ -1,9 +1,8 @@
-use Rattle.std.proofs.Common.{◌≡◌, ◌∙◌, ◌*◌, ℕ, ap, sym, length, map, subst, List, Bool}
+use Rattle.std.proofs.Common.{◌≡◌, ◌∙◌, ◌*◌, ap, sym, length, subst, List, Bool}
 use Rattle.std.specs.Prelude.{ℤ, ◌*ℤ◌}
 use Rattle.std.specs.Int.RustNames.{unsigned_abs}
-use Rattle.bit_words.specs.Bits.{differ}
 use Rattle.bit_words.specs.Logic.{extends_trans}
-use Rattle.bit_words.specs.Words.{nat_of, int_of, nat_read, int_read, is_negative, signed, IsUnsigned, OverflowsAs, Holds}
+use Rattle.bit_words.specs.Words.{nat_of, int_of, nat_read, int_read, signed, IsUnsigned, OverflowsAs, Holds}
 use Rattle.bit_words.proofs.Kept.{reads_kept}
 use Rattle.bit_words.proofs.Signs.{product_signed}
 use Rattle.bit_words.proofs.product.mul.Given as given

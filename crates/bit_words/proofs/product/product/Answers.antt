@@ -1,7 +1,7 @@
-use Rattle.std.proofs.Common.{◌≡◌, ◌<◌, ◌∙◌, ◌+◌, ◌-◌, ◌*◌, ◌∷◌, [], ℕ, ap, sym, length, map, take, drop, ltb, arith, subst, List, Bool}
+use Rattle.std.proofs.Common.{◌≡◌, ◌∙◌, ◌+◌, ◌-◌, ◌*◌, [], ℕ, ap, sym, length, map, take, drop, ltb, arith, subst, List, Bool}
 use Rattle.std.proofs.lemmas.List.{length-map, drop_all, take_all}
 use Rattle.bit_words.specs.Logic.{OwnsAll, extends_trans, extends_refl}
-use Rattle.bit_words.specs.Words.{bit_value, nat_of, IsUnsigned}
+use Rattle.bit_words.specs.Words.{nat_of, IsUnsigned}
 use Rattle.bit_words.proofs.Kept.{owns_none, owns_read, owns_kept, owns_taken, reads_kept, drop_read}
 use Rattle.bit_words.proofs.Products.{no_digits, some_more}
 use Rattle.bit_words.proofs.product.product.Goals as goal

@@ -1,5 +1,5 @@
-use Rattle.std.proofs.Common.{◌≡◌, ◌∙◌, ◌+◌, ◌*◌, ◌^◌, ℕ, ap, sym, length, map, take, arith, subst, length-take, cond, true, false, ◌∷◌, List, Bool}
-use Rattle.std.proofs.lemmas.List.{length-map, take_all}
+use Rattle.std.proofs.Common.{◌≡◌, ◌∙◌, ◌+◌, ap, length, map, arith, length-take, cond, List, Bool}
+use Rattle.std.proofs.lemmas.List.{take_all}
 use Rattle.bit_words.specs.Words.{bit_value, nat_of}
 use Rattle.bit_words.proofs.Kept.{reads_kept}
 use Rattle.bit_words.proofs.Products.{nat_masked}

@@ -1,9 +1,7 @@
-use Rattle.std.proofs.Common.{◌≡◌, ◌<◌, ◌≤◌, ◌∙◌, ◌+◌, ◌-◌, ◌*◌, ◌^◌, ◌∷◌, [], ℕ, ap, sym, length, map, drop, ltb, eqb, not, arith, subst, List, Bool, false}
-use Rattle.std.specs.Prelude.{slice_get}
+use Rattle.std.proofs.Common.{◌≡◌, ◌∙◌, ◌+◌, ◌-◌, [], ap, sym, length, map, drop, not, arith, subst, List, Bool}
 use Rattle.std.proofs.lemmas.List.{length-map, drop_all}
 use Rattle.bit_words.specs.Logic.{OwnsAll, extends_trans}
 use Rattle.bit_words.specs.Words.{bit_value, nat_of}
-use Rattle.bit_words.specs.Operations.{IsDivided}
 use Rattle.bit_words.proofs.Kept.{owns_none, owns_read, owns_kept, owns_low_push, reads_kept, drop_read}
 use Rattle.bit_words.proofs.Signs.{nat_zeros}
 use Rattle.bit_words.proofs.Quotients.{not_zero, is_some, is_none, divided_more, divided_none, quotient_is}

@@ -1,4 +1,4 @@
-use Rattle.std.proofs.Common.{◌≡◌, ◌-◌, ◌<◌, Bool, List, false, true, length, map, drop, eqb}
+use Rattle.std.proofs.Common.{◌≡◌, ◌-◌, ◌<◌, Bool, List, length, map, drop}
 use Rattle.std.specs.Prelude.{nat_lt}
 use Rattle.bit_words.specs.Logic.{Extends, OwnsAll}
 use Rattle.bit_words.specs.Words.{nat_of}

@@ -1,8 +1,7 @@
-use Rattle.std.proofs.Common.{◌≡◌, ◌<◌, ◌≤◌, ◌∙◌, ◌+◌, ◌-◌, ◌^◌, ◌∷◌, ◌&&◌, ℕ, ap, sym, length, map, take, not, cond, arith, subst, length-take, Bool, List, suc}
+use Rattle.std.proofs.Common.{◌≡◌, ◌<◌, ◌≤◌, ◌∙◌, ◌+◌, ◌-◌, ◌^◌, ◌∷◌, ℕ, ap, sym, length, map, take, not, arith, subst, length-take, suc}
 use Rattle.std.proofs.lemmas.List.{length-map, take_all, take-map}
 use Rattle.bit_words.specs.Logic.{extends_trans}
 use Rattle.bit_words.specs.Words.{bit_value, nat_of}
-use Rattle.bit_words.specs.Operations.{IsDivided}
 use Rattle.bit_words.proofs.Kept.{reads_kept, owns_low_push, owns_taken}
 use Rattle.bit_words.proofs.Integers.{nat_read_below, bit_small}
 use Rattle.bit_words.proofs.Quotients.{nat_not, digit_cases, low_same, and_true, and_none, cond_nat}

@@ -1,6 +1,6 @@
-use Rattle.std.proofs.Common.{◌≡◌, ◌∙◌, ◌+◌, ◌^◌, ℕ, ap, length, map, take, not, arith, subst}
+use Rattle.std.proofs.Common.{◌≡◌, ◌∙◌, ◌+◌, ◌^◌, ℕ, ap, length, map, not, arith, subst}
 use Rattle.std.proofs.lemmas.List.{length-map, take_all}
-use Rattle.bit_words.specs.Words.{bit_value, nat_of}
+use Rattle.bit_words.specs.Words.{nat_of}
 use Rattle.bit_words.proofs.Integers.{nat_read_below}
 use Rattle.bit_words.proofs.Signs.{nat_zeros}
 use Rattle.bit_words.proofs.Quotients.{nat_not, zero_cases}

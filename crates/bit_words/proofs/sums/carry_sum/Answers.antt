@@ -1,6 +1,5 @@
-use Rattle.std.proofs.Common.{◌≡◌, ◌∙◌, ◌+◌, ◌^◌, ap, sym, suc, length, arith, length-append}
+use Rattle.std.proofs.Common.{◌≡◌, ◌∙◌, ◌+◌, ◌^◌, ap, length, arith, length-append}
 use Rattle.bit_words.specs.Logic.{extends_trans}
-use Rattle.bit_words.specs.Words.{bit_value, nat_of}
 use Rattle.bit_words.proofs.Kept.{owns_push, owns_kept, owns_read, reads_kept}
 use Rattle.bit_words.proofs.Naturals.{power_double, nat_more, nat_pushed, carry_step}
 use Rattle.bit_words.proofs.sums.carry_sum.Goals as goal

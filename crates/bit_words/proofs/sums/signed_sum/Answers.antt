@@ -1,16 +1,15 @@
-use Rattle.std.proofs.Common.{◌≡◌, ◌∙◌, ◌+◌, ◌-◌, ◌*◌, ◌^◌, ap, sym, List, Bool, true, not, length, map, take, arith}
+use Rattle.std.proofs.Common.{◌≡◌, ◌-◌, ◌^◌, List, Bool, true, not, length, arith}
 use Rattle.std.specs.Prelude.{pos, ◌+ℤ◌}
-use Rattle.bit_words.specs.Logic.{extends_trans}
 use Rattle.bit_words.specs.Words.{bit_value, int_read, is_within}
 use Rattle.bit_words.proofs.Kept.{owns_read, reads_kept}
 use Rattle.bit_words.proofs.Integers.{int_split, int_pushed, nat_read_below, sum_fits}
 use Rattle.bit_words.proofs.sums.signed_sum.Given as given
 use Rattle.bit_words.proofs.sums.signed_sum.Goals as goal
 
-both : (g : given.Over) (c : goal.In_ok-over g) (vs : List Bool) →
+both : (g : given.Over) (c : goal.In_ok-push g) (vs : List Bool) →
     let z = int_read g.L.Logic.reads c.args.g.now vs c.args.a.now +ℤ int_read g.L.Logic.reads c.args.g.now vs c.args.b.now +ℤ pos (bit_value (g.L.Logic.reads c.args.g.now vs c.args.carry)) in
-    (g.L.Logic.reads c.xor.new.g vs c.in_ok-over.over ≡ not (is_within (2 ^ (length c.args.a.now - 1)) z))
-    × (is_within (2 ^ (length c.args.a.now - 1)) z ≡ true → int_read g.L.Logic.reads c.xor.new.g vs c.push.new.self ≡ z)
+    (g.L.Logic.reads c.top_digit.new.g vs c.in_ok-digit.over ≡ not (is_within (2 ^ (length c.args.a.now - 1)) z))
+    × (is_within (2 ^ (length c.args.a.now - 1)) z ≡ true → int_read g.L.Logic.reads c.top_digit.new.g vs c.push.new.self ≡ z)
 both g c vs =
     let reads = g.L.Logic.reads in
     let first = reads c.args.g.now vs in
@@ -19,16 +18,15 @@ both g c vs =
     let size : length c.args.a.now - 1 ≡ top = omega arith in
     let x = c.carry_sum.ensures.extends.same _ (owns_read _ c.requires.left c.at-first.ensures) vs in
     let y = c.carry_sum.ensures.extends.same _ (owns_read _ c.requires.right c.at-second.ensures) vs in
-    let into = c.full_add.ensures.extends.same _ low.owned_carry vs in
-    let out = rw (x, y) at (c.in_ok-digit.ensures.carried vs) in
-    let digit = c.xor.ensures.extends.same _ c.in_ok-digit.ensures.owned_sum vs ∙ rw (x, y) at (c.in_ok-digit.ensures.sum vs) in
+    let over = rw (x, y) at (c.in_ok-digit.ensures.over vs) in
+    let digit = rw (x, y) at (c.in_ok-digit.ensures.digit vs) in
     let left = int_split first c.args.a.now top c.at-first.result c.at-first.ensures (omega arith) in
     let right = int_split first c.args.b.now top c.at-second.result c.at-second.ensures (omega arith) in
-    let kept = reads_kept (extends_trans c.full_add.ensures.extends c.xor.ensures.extends) low.owned vs in
-    let sum = int_pushed (reads c.carry_sum.new.g vs) (reads c.xor.new.g vs) c.in_ok-sum.sum c.push.new.self c.in_ok-digit.digit top low.width kept c.in_ok-push.ensures.ok in
+    let kept = reads_kept c.top_digit.ensures.extends low.owned vs in
+    let sum = int_pushed (reads c.carry_sum.new.g vs) (reads c.top_digit.new.g vs) c.in_ok-sum.sum c.push.new.self c.in_ok-digit.digit top low.width kept c.in_ok-push.ensures.ok in
     let fit = sum_fits (2 ^ top) (first c.at-first.result) (first c.at-second.result) (reads c.carry_sum.new.g vs c.in_ok-sum.into_top) (first c.args.carry) _ _ _ _ _ _
     (nat_read_below (reads c.carry_sum.new.g vs) c.in_ok-sum.sum top low.width) (low.total vs) left right (rw digit at sum) in
-    rw (size, c.in_ok-over.ensures.value vs, into, out) fit
+    rw (size, over) fit
 
 pub returns-clause-over : goal.returns-clause-over
 returns-clause-over g c vs = (both g c vs).0

@@ -1,8 +1,8 @@
-use Rattle.std.proofs.Common.{◌≡◌, ◌∙◌, ap, sym, subst, List, Bool, arith, map, length, not, true}
+use Rattle.std.proofs.Common.{◌≡◌, subst, List, Bool, arith, map, length}
 use Rattle.std.specs.Prelude.{ℤ, pos, ◌+ℤ◌, ◌-ℤ◌}
 use Rattle.std.proofs.lemmas.Int.{ints}
 use Rattle.std.proofs.lemmas.List.{length-map}
-use Rattle.bit_words.specs.Words.{bit_value, int_of, int_read, OverflowsAs, Holds}
+use Rattle.bit_words.specs.Words.{bit_value, int_read, OverflowsAs, Holds}
 use Rattle.bit_words.proofs.Integers.{int_not}
 use Rattle.bit_words.proofs.sums.sub.Given as given
 use Rattle.bit_words.proofs.sums.sub.Goals as goal

@@ -1,4 +1,4 @@
-use Rattle.std.proofs.Common.{◌≡◌, ◌∙◌, ◌&&◌, ap, refl, not, false, Bool, []}
+use Rattle.std.proofs.Common.{◌≡◌, ◌∙◌, ap, refl, not, []}
 use Rattle.bit_graph.specs.Gates.{reading, source_reads, source_of, values_after}
 use Rattle.bit_graph.proofs.Conjunctions.{left_over, right_over}
 use Rattle.bit_graph.proofs.graph.Graph.shorten.Goals as goal

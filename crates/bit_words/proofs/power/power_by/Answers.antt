@@ -1,15 +1,15 @@
-use Rattle.std.proofs.Common.{◌≡◌, ◌<◌, ◌∙◌, ◌^◌, ◌&&◌, ◌∷◌, ℕ, zero, List, Bool, ap, sym, length, map, drop, not, arith, subst, refl, true}
+use Rattle.std.proofs.Common.{◌≡◌, ◌<◌, ◌∙◌, ◌^◌, ◌&&◌, ◌∷◌, zero, List, Bool, ap, sym, length, map, drop, not, arith, subst}
 use Rattle.std.specs.Prelude.{ℤ}
 use Rattle.std.specs.Int.RustNames.{unsigned_abs}
 use Rattle.std.proofs.lemmas.List.{length-map}
 use Rattle.bit_words.specs.Logic.{extends_trans}
-use Rattle.bit_words.specs.Words.{int_of, int_read, nat_of, nat_read, is_negative, signed, fits, IsUnsigned, OverflowsAs, Holds}
+use Rattle.bit_words.specs.Words.{int_of, int_read, nat_of, nat_read, is_negative, signed, IsUnsigned, OverflowsAs, Holds}
 use Rattle.bit_words.specs.Operations.{exponent_of, int_power}
 use Rattle.bit_words.proofs.Kept.{owns_read, reads_kept, drop_read}
 use Rattle.bit_words.proofs.Products.{nat_masked}
 use Rattle.bit_words.proofs.Powers.{power_is, power_over, exponent_is}
-use Rattle.bit_words.proofs.power.power.Given as given
-use Rattle.bit_words.proofs.power.power.Goals as goal
+use Rattle.bit_words.proofs.power.power_by.Given as given
+use Rattle.bit_words.proofs.power.power_by.Goals as goal
 
 exponent_read : (g : given.Over) (c : goal.After-drop-size-inside-2 g) (vs : List Bool) →
     nat_read g.L.Logic.reads c.mask.new.g vs c.in_ok-exponent.exponent ≡ exponent_of (int_read g.L.Logic.reads c.args.g.now vs c.args.b.now)
@@ -47,11 +47,6 @@ size_is g c vs =
     let kept = ap nat_of (reads_kept four c.in_ok-raised.ensures.owned vs) in
     let spilled = four.same _ c.in_ok-raised.ensures.owned_over vs in
     rw (kept, spilled, c.in_ok-raised.ensures.width) (rw base at (c.in_ok-raised.ensures.value vs))
-
-pub returns-clause-fault : goal.returns-clause-fault
-returns-clause-fault g c vs =
-    let steps = extends_trans c.magnitude.ensures.extends (extends_trans c.mask.ensures.extends (extends_trans c.unsigned_power.ensures.extends (extends_trans c.and.ensures.extends c.signed_result.ensures.extends))) in
-    steps.same _ c.sign_of-negative.ensures.owned vs ∙ c.sign_of-negative.ensures.value vs
 
 pub returns-clause-over : goal.returns-clause-over
 returns-clause-over g c vs =
