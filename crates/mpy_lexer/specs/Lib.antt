@@ -1,0 +1,6 @@
+pub mod Bytes
+pub mod Words
+pub mod Pieces
+pub mod PhysicalLines
+pub mod Brackets
+pub mod Lexing

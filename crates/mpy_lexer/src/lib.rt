@@ -1,8 +1,11 @@
 //! The logical lines of programs and of rules, each with its tokens.
 #![tactic(auto)]
 
+mod brackets;
 mod forms;
 mod line;
+mod pieces;
+mod rows;
 mod token;
 
 pub use forms::{Form, Kind};
