@@ -24,6 +24,10 @@ is_closing c = c == 41 || c == 93 || c == 125
 abbrev pub are_partners : ℕ → ℕ → Bool
 are_partners opening c = (opening == 40 && c == 41) || (opening == 91 && c == 93) || (opening == 123 && c == 125)
 
+abbrev pub is_empty : {A : Type 0} → List A → Bool
+is_empty [] = true
+is_empty (x ∷ xs) = false
+
 -- whether the byte closes the innermost open bracket
 abbrev pub closes : List Bracket → ℕ → Bool
 closes [] c = false

@@ -1,5 +1,5 @@
 -- The logical lines of a text, or the first cause for which it has none.
-use Rattle.std.specs.Prelude.{◌≡◌, ℕ, min, Bool, true, false, not, ◌||◌, ◌&&◌, List, [], ◌∷◌, ◌++◌, length, map, nat_lt, Option, Some, None, option_map, Result, Ok, Err, if◌then◌else◌}
+use Rattle.std.specs.Prelude.{◌≡◌, ℕ, Bool, true, false, not, ◌||◌, ◌&&◌, List, [], ◌∷◌, ◌++◌, length, map, nat_lt, Option, Some, None, option_map, Result, Ok, Err, if◌then◌else◌}
 use Rattle.std.specs.Option.{option_or}
 use Rattle.mpy_lexer.specs.declared.forms.Form.{Form}
 use Rattle.mpy_lexer.specs.declared.token.Token.{Token}
@@ -10,7 +10,8 @@ use Rattle.mpy_lexer.specs.declared.line.LexError.{LexError}
 use Rattle.mpy_lexer.specs.declared.line.LexError.TheVariants.{Fault, NoMemory}
 use Rattle.mpy_lexer.specs.declared.brackets.Bracket.{Bracket}
 use Rattle.mpy_lexer.specs.declared.rows.Row.{Row}
-use Rattle.mpy_lexer.specs.Brackets.{open_after, has_unmatched}
+use Rattle.mpy_lexer.specs.Leasts.{least}
+use Rattle.mpy_lexer.specs.Brackets.{is_empty, open_after, has_unmatched}
 use Rattle.mpy_lexer.specs.PhysicalLines.{rows}
 
 -- the cause on a line, if there is one
@@ -27,16 +28,6 @@ unfoldable pub faulty_lines : List Bracket → List Row → List ℕ
 faulty_lines opened [] = map (λ b. b.line) opened
 faulty_lines opened (r ∷ rs) = (if r.is_wrong || has_unmatched r.number opened r.tokens then r.number ∷ [] else []) ++ faulty_lines (open_after r.number opened r.tokens) rs
 
--- the lesser of two numbers, each of which may be missing
-abbrev pub lesser : Option ℕ → Option ℕ → Option ℕ
-lesser None o = o
-lesser (Some a) None = Some a
-lesser (Some a) (Some b) = Some (min a b)
-
-unfoldable pub least : List ℕ → Option ℕ
-least [] = None
-least (n ∷ ns) = lesser (Some n) (least ns)
-
 abbrev pub token_fault : List Row → Option LexError
 token_fault rs = option_map (λ line. Fault cause.Token line) (least (faulty_lines [] rs))
 
@@ -45,10 +36,6 @@ unfoldable pub continued : List Bracket → List Row → List Token
 continued [] rs = []
 continued (b ∷ outer) [] = []
 continued (b ∷ outer) (r ∷ rs) = r.tokens ++ continued (open_after r.number (b ∷ outer) r.tokens) rs
-
-abbrev pub is_empty : {A : Type 0} → List A → Bool
-is_empty [] = true
-is_empty (x ∷ xs) = false
 
 abbrev pub begins : List Bracket → List Token → Bool
 begins opened tokens = is_empty opened && not (is_empty tokens)

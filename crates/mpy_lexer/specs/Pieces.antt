@@ -14,17 +14,15 @@ use Rattle.mpy_lexer.specs.Words.{is_reserved, mark_len}
 abbrev pub piece : Sort → ℕ → Piece
 piece sort n = record { sort = sort; len = n }
 
--- how far the closing quote reaches; `taken`: a backslash took the first byte with it
+-- How far the closing quote reaches. A byte that a backslash takes with it, as `taken` says of the first one, closes and takes nothing. The end of the line closes nothing, so there it doesn't matter what a backslash takes.
 unfoldable pub closing : ℕ → Bool → List ℕ → Option ℕ
 closing quote taken [] = None
-closing quote true (c ∷ rest) = option_map (λ n. n + 1) (closing quote false rest)
-closing quote false (c ∷ rest) = if c == quote then Some 1 else option_map (λ n. n + 1) (closing quote (c == 92) rest)
+closing quote taken (c ∷ rest) = if not taken && c == quote then Some 1 else option_map (λ n. n + 1) (closing quote (not taken && c == 92) rest)
 
--- whether a backslash took a byte that is no backslash and no quote
+-- whether a backslash takes a byte that is no backslash and no quote
 unfoldable pub has_wrong_escape : Bool → List ℕ → Bool
 has_wrong_escape taken [] = false
-has_wrong_escape true (c ∷ rest) = not (c == 92 || is_quote c) || has_wrong_escape false rest
-has_wrong_escape false (c ∷ rest) = has_wrong_escape (c == 92) rest
+has_wrong_escape taken (c ∷ rest) = (taken && not (c == 92 || is_quote c)) || has_wrong_escape (not taken && c == 92) rest
 
 -- a text literal after its opening quote: up to the closing one, or to the end of the line where there is none
 abbrev pub text_to : List ℕ → Option ℕ → Piece
@@ -77,9 +75,10 @@ sign_by zero zero = piece Wrong 1
 unfoldable pub sign_at : Form → List ℕ → Piece
 sign_at form text = sign_by (meta_len_in form text) (mark_len form text)
 
--- the longest form that begins with this byte and goes on with the rest of the line
-unfoldable pub piece_at : Form → ℕ → List ℕ → Piece
-piece_at form c rest =
+-- the longest form at the front of a text
+unfoldable pub piece_at : Form → List ℕ → Piece
+piece_at form [] = piece Space 0
+piece_at form (c ∷ rest) =
     if is_white c then piece Space (prefix_len is_white (c ∷ rest))
     else if c == 35 then piece Comment (length (c ∷ rest))
     else if is_quote c then text_to rest (closing c false rest)
@@ -100,4 +99,4 @@ part p from text = record { sort = p.sort; from = from; bytes = take p.len text 
 unfoldable pub parts : Form → ℕ → ℕ → List ℕ → List Part
 parts form from taken [] = []
 parts form from (suc n) (c ∷ rest) = parts form (from + 1) n rest
-parts form from zero (c ∷ rest) = let p = piece_at form c rest in part p from (c ∷ rest) ∷ parts form (from + 1) (p.len - 1) rest
+parts form from zero (c ∷ rest) = let p = piece_at form (c ∷ rest) in part p from (c ∷ rest) ∷ parts form (from + 1) (p.len - 1) rest

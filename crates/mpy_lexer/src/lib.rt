@@ -2,13 +2,20 @@
 #![tactic(auto)]
 
 mod brackets;
+mod bytes;
+mod foreign;
 mod forms;
+mod lexing;
 mod line;
+mod numbers;
 mod pieces;
 mod rows;
+mod signs;
 mod token;
+mod words;
 
 pub use forms::{Form, Kind};
+pub use lexing::lines;
 pub use line::{LexCause, LexError, Line};
 use std::alloc::AllocError;
 pub use token::{Spelling, Token, Tokens};

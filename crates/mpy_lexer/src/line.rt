@@ -1,5 +1,9 @@
 //! Logical lines, and why a text has none.
+ghost use Rattle.std.specs.Prelude.{◌≡◌};
+ghost use Rattle.mpy_lexer.specs.declared.line.LexError.TheVariants as lex_error;
+
 use crate::token::Tokens;
+use std::alloc::AllocError;
 
 /// A logical line.
 #[derive(Drop)]
@@ -32,4 +36,12 @@ pub enum LexError {
     Fault { cause: LexCause, line: u32 },
     /// There was no memory.
     NoMemory,
+}
+
+impl From<AllocError> for LexError {
+    ghost from_gives = { λ _ e. e ≡ lex_error.NoMemory };
+
+    fn from(_error: AllocError) -> LexError {
+        LexError::NoMemory
+    }
 }
