@@ -11,6 +11,8 @@ mod numbers;
 mod pieces;
 mod rows;
 mod signs;
+#[cfg(test)]
+mod tests;
 mod token;
 mod words;
 
