@@ -6,3 +6,4 @@ pub mod LeastLaws
 pub mod LineCuts
 pub mod LineParts
 pub mod PieceLengths
+pub mod TokenSpans

@@ -6,3 +6,4 @@ pub mod Brackets
 pub mod Leasts
 pub mod Lexing
 pub mod Seen
+pub mod Spans

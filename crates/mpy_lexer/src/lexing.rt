@@ -1,8 +1,9 @@
 //! The logical lines of a text.
-ghost use Rattle.std.specs.Prelude.{◌≡◌, ◌≤◌, ◌||◌, if◌then◌else◌, [], length, OnOk, IfOk, IfErr};
+ghost use Rattle.std.specs.Prelude.{◌≡◌, ◌≤◌, ◌||◌, if◌then◌else◌, [], length, All, OnOk, IfOk, IfErr};
 ghost use Rattle.mpy_lexer.specs.Leasts.{lesser, least};
 ghost use Rattle.mpy_lexer.specs.Lexing.{byte_fault, faulty_lines, logical_lines, length_fault, lex, IsAnswered};
 ghost use Rattle.mpy_lexer.specs.Seen.{with_more};
+ghost use Rattle.mpy_lexer.specs.Spans.{IsLineOf};
 
 use crate::NoMemory;
 use crate::brackets::{Brackets, lesser};
@@ -110,6 +111,7 @@ fn length_fault(lines: &[Line]) -> Option<LexError>
 pub fn lines(alloc: Global, bytes: &[u8], form: Form) -> Result<Vec<Line>, LexError>
     requires { length bytes.now ≤ 1073741824 }
     ensures lines { IfOk result (λ v. lex form bytes.now ≡ Ok v.items) }
+    ensures spans { IfOk result (λ v. All (IsLineOf bytes.now) v.items) }
     ensures fault { IfErr result (λ e. IsAnswered form bytes.now e) }
 {
     let rows = rows(alloc, bytes, form)?;
