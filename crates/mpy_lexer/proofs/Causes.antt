@@ -1,5 +1,5 @@
 -- What is answered for a text, by the first of its causes.
-use Rattle.std.proofs.Common.{◌≡◌, ℕ, List, [], Option, Some, None, Result, Ok, Err, refl, sym, ap, ◌∙◌}
+use Rattle.std.proofs.Common.{◌≡◌, ℕ, List, [], Some, None, Ok, Err, refl, sym, ap}
 use Rattle.mpy_lexer.specs.declared.forms.Form.{Form}
 use Rattle.mpy_lexer.specs.declared.line.Line.{Line}
 use Rattle.mpy_lexer.specs.declared.line.LexCause.TheVariants as cause

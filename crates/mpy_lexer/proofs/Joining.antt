@@ -1,5 +1,5 @@
 -- Logical lines, joined step by step.
-use Rattle.std.proofs.Common.{◌≡◌, ℕ, Bool, true, false, not, ◌&&◌, cond, List, [], ◌∷◌, ◌++◌, length, refl, sym, ap, ◌∙◌, append_assoc, append-nil, ◌<◌, ◌≤◌, arith}
+use Rattle.std.proofs.Common.{◌≡◌, ℕ, true, false, List, [], ◌∷◌, ◌++◌, length, refl, sym, ap, ◌∙◌, append_assoc, append-nil, ◌<◌, ◌≤◌, arith}
 use Rattle.mpy_lexer.specs.declared.brackets.Bracket.{Bracket}
 use Rattle.mpy_lexer.specs.declared.line.Line.{Line}
 use Rattle.mpy_lexer.specs.declared.rows.Row.{Row}

@@ -1,14 +1,12 @@
 -- The parts of a line, one after another.
-use Rattle.std.proofs.Common.{◌≡◌, ℕ, zero, suc, ◌+◌, ◌-◌, ◌<◌, ◌≤◌, Bool, true, false, ◌&&◌, ◌||◌, cond, Option, Some, None, List, [], ◌∷◌, ◌++◌, length, take, drop, refl, sym, ap, subst, ◌∙◌, append_assoc, add-zero, arith, length-drop, append-nil}
+use Rattle.std.proofs.Common.{◌≡◌, ℕ, zero, suc, ◌+◌, ◌-◌, ◌<◌, ◌≤◌, false, ◌&&◌, ◌||◌, cond, Option, Some, None, List, [], ◌∷◌, ◌++◌, length, take, drop, refl, sym, ap, ◌∙◌, append_assoc, add-zero, arith, length-drop, append-nil}
 use Rattle.std.specs.List.{list_any}
 use Rattle.std.proofs.Math.Bool.{or_assoc, or-false}
 use Rattle.std.proofs.lemmas.List.{drop-drop, drop_all}
 use Rattle.mpy_lexer.specs.declared.forms.Form.{Form}
-use Rattle.mpy_lexer.specs.declared.pieces.Sort.{Sort}
 use Rattle.mpy_lexer.specs.declared.pieces.Piece.{Piece}
 use Rattle.mpy_lexer.specs.declared.line.LexCause.{LexCause}
 use Rattle.mpy_lexer.specs.declared.line.LexCause.TheVariants.{Byte, Tab}
-use Rattle.mpy_lexer.specs.declared.rows.Row.{Row}
 use Rattle.mpy_lexer.specs.declared.rows.Seen.{Seen}
 use Rattle.mpy_lexer.specs.Pieces.{Part, part, parts, piece_at}
 use Rattle.mpy_lexer.specs.PhysicalLines.{is_solid, is_foreign, is_wrong, token_in, tokens_of, is_program, begins_with_tab, column_of, row_of}

@@ -1,8 +1,8 @@
 -- The tokens of the lines are the bytes of their spans.
-use Rattle.std.proofs.Common.{◌≡◌, ℕ, zero, suc, ◌+◌, ◌-◌, ◌<◌, ◌≤◌, min, Bool, true, false, cond, List, [], ◌∷◌, ◌++◌, length, take, drop, Result, Ok, Err, Option, Some, None, refl, sym, ap, ◌∙◌, append_assoc, arith, length-take, length-drop, length-append, eqb, one-add}
-use Rattle.std.specs.Prelude.{All, slice_range}
+use Rattle.std.proofs.Common.{◌≡◌, ℕ, zero, suc, ◌+◌, ◌-◌, ◌<◌, min, Bool, true, false, cond, List, [], ◌∷◌, ◌++◌, length, take, drop, Ok, Option, Some, None, refl, sym, ap, ◌∙◌, arith, length-take, length-drop, length-append, eqb}
+use Rattle.std.specs.Prelude.{All}
 use Rattle.std.specs.List.{concat}
-use Rattle.std.proofs.lemmas.List.{take-append-le, take_min, drop-drop, drop_at, take-append-drop}
+use Rattle.std.proofs.lemmas.List.{take-append-le, take_min, drop-drop, drop_at}
 use Rattle.std.proofs.lemmas.List.Elements.{All-nil, All-cons, All-head, All-tail, All-append}
 use Rattle.mpy_lexer.specs.declared.forms.Form.{Form}
 use Rattle.mpy_lexer.specs.declared.forms.Kind.{Kind}
@@ -13,9 +13,9 @@ use Rattle.mpy_lexer.specs.declared.brackets.Bracket.{Bracket}
 use Rattle.mpy_lexer.specs.declared.line.Line.{Line}
 use Rattle.mpy_lexer.specs.declared.line.LexError.{LexError}
 use Rattle.mpy_lexer.specs.declared.rows.Row.{Row}
-use Rattle.mpy_lexer.specs.Pieces.{Part, piece_at, parts}
+use Rattle.mpy_lexer.specs.Pieces.{piece_at, parts}
 use Rattle.mpy_lexer.specs.PhysicalLines.{byte_order_mark_len, with_byte, physical_lines, token_in, tokens_of, row_of, rows_of, rows}
-use Rattle.mpy_lexer.specs.Brackets.{is_empty, open_after}
+use Rattle.mpy_lexer.specs.Brackets.{open_after}
 use Rattle.mpy_lexer.specs.Lexing.{begins, continued, logical_lines, first_fault, lines_unless, lex}
 use Rattle.mpy_lexer.specs.Spans.{IsIn, IsLineOf}
 use Rattle.mpy_lexer.proofs.PieceLengths.{at_front}

@@ -1,13 +1,11 @@
 -- Worked texts, each closed by computing its lines.
-use Rattle.std.proofs.Common.{◌≡◌, ℕ, ◌+◌, List, [], ◌∷◌, ◌++◌, length, refl, codes, Result, Ok, Err}
-use Rattle.mpy_lexer.specs.declared.forms.Form.{Form}
+use Rattle.std.proofs.Common.{◌≡◌, ℕ, ◌+◌, List, [], ◌∷◌, ◌++◌, length, refl, codes, Ok, Err}
 use Rattle.mpy_lexer.specs.declared.forms.Form.TheVariants.{Program, Rules}
 use Rattle.mpy_lexer.specs.declared.forms.Kind.{Kind}
 use Rattle.mpy_lexer.specs.declared.forms.Kind.TheVariants.{Name, Reserved, Number, Text, Mark, Meta}
 use Rattle.mpy_lexer.specs.declared.token.Token.{Token}
 use Rattle.mpy_lexer.specs.declared.line.Line.{Line}
 use Rattle.mpy_lexer.specs.declared.line.LexCause.TheVariants as cause
-use Rattle.mpy_lexer.specs.declared.line.LexError.{LexError}
 use Rattle.mpy_lexer.specs.declared.line.LexError.TheVariants.{Fault}
 use Rattle.mpy_lexer.specs.Words.{is_reserved, mark_len}
 use Rattle.mpy_lexer.specs.Pieces.{closing, has_wrong_escape, name_at, number_at, sign_at, piece_at, parts}

@@ -1,6 +1,5 @@
 -- Brackets: each closing one closes the innermost that is open, if that is its partner.
 use Rattle.std.specs.Prelude.{ℕ, Bool, true, false, not, ◌&&◌, ◌||◌, ◌==◌, List, [], ◌∷◌, if◌then◌else◌}
-use Rattle.std.specs.List.{fold}
 use Rattle.mpy_lexer.specs.declared.forms.Kind.{Kind}
 use Rattle.mpy_lexer.specs.declared.forms.Kind.TheVariants.{Mark}
 use Rattle.mpy_lexer.specs.declared.token.Token.{Token}

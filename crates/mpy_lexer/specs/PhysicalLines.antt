@@ -1,5 +1,5 @@
 -- Physical lines: their bytes, and what is in them.
-use Rattle.std.specs.Prelude.{ℕ, ◌+◌, Bool, true, false, not, ◌&&◌, ◌||◌, ◌==◌, nat_le, nat_eq, List, [], ◌∷◌, ◌++◌, length, take, drop, Option, Some, None, if◌then◌else◌}
+use Rattle.std.specs.Prelude.{ℕ, ◌+◌, Bool, true, false, not, ◌&&◌, ◌||◌, ◌==◌, nat_le, nat_eq, List, [], ◌∷◌, length, take, drop, Option, Some, None, if◌then◌else◌}
 use Rattle.std.specs.List.{list_any, flat_map, prefix_len, count_by, starts_with}
 use Rattle.mpy_lexer.specs.declared.forms.Form.{Form}
 use Rattle.mpy_lexer.specs.declared.forms.Form.TheVariants.{Program, Rules}

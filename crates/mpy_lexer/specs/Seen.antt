@@ -1,5 +1,5 @@
 -- How the code goes past the pieces of a line, and joins lines.
-use Rattle.std.specs.Prelude.{ℕ, ◌+◌, Bool, ◌||◌, ◌==◌, List, [], ◌∷◌, ◌++◌, if◌then◌else◌}
+use Rattle.std.specs.Prelude.{ℕ, ◌+◌, ◌||◌, ◌==◌, List, [], ◌∷◌, ◌++◌, if◌then◌else◌}
 use Rattle.mpy_lexer.specs.declared.pieces.Sort.{Sort}
 use Rattle.mpy_lexer.specs.declared.rows.Seen.{Seen}
 use Rattle.mpy_lexer.specs.declared.token.Token.{Token}

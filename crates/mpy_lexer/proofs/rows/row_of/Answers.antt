@@ -1,4 +1,4 @@
-use Rattle.std.proofs.Common.{◌≡◌, ℕ, ◌<◌, ◌+◌, length, drop, length-drop, sym, ◌∙◌, arith}
+use Rattle.std.proofs.Common.{ℕ, length-drop, sym, ◌∙◌, arith}
 use Rattle.std.proofs.lemmas.List.{take_rest}
 use Rattle.mpy_lexer.proofs.LineParts.{seen_more, seen_all, row_seen}
 use Rattle.mpy_lexer.proofs.PieceLengths.{shorter}

@@ -1,4 +1,4 @@
-use Rattle.std.proofs.Common.{◌≡◌, ℕ, ◌<◌, ◌+◌, ◌++◌, [], length, drop, length-drop, append-nil, refl, sym, ap, ◌∙◌, arith}
+use Rattle.std.proofs.Common.{ℕ, ◌<◌, ◌++◌, drop, length-drop, append-nil, refl, sym, ap, ◌∙◌, arith}
 use Rattle.std.proofs.lemmas.List.{take_rest}
 use Rattle.mpy_lexer.specs.PhysicalLines.{rows}
 use Rattle.mpy_lexer.proofs.LineCuts.{line_some, rows_more, rows_end}

@@ -1,8 +1,7 @@
-use Rattle.std.proofs.Common.{◌≡◌, ◌++◌, ◌∷◌, [], List, reverse, length, sym, ap, ◌∙◌, arith}
+use Rattle.std.proofs.Common.{◌≡◌, [], sym, ap, ◌∙◌, arith}
 use Rattle.std.proofs.lemmas.List.{nil_from_length}
-use Rattle.mpy_lexer.specs.declared.brackets.Bracket.{Bracket}
-use Rattle.mpy_lexer.specs.Leasts.{lesser, least}
-use Rattle.mpy_lexer.proofs.LeastLaws.{open_less, open_lines, least-nil, lesser-none}
+use Rattle.mpy_lexer.specs.Leasts.{lesser}
+use Rattle.mpy_lexer.proofs.LeastLaws.{open_less, least-nil, lesser-none}
 use Rattle.mpy_lexer.proofs.brackets.Brackets.least_line.Goals as goal
 
 pub loop-bracket-preserved : goal.loop-bracket-preserved
