@@ -1,5 +1,5 @@
 -- Worked texts, each closed by computing its lines.
-use Rattle.std.proofs.Common.{◌≡◌, ℕ, ◌+◌, List, [], ◌∷◌, ◌++◌, length, refl, codes, Ok, Err}
+use Rattle.std.proofs.Common.{true, false, ◌≡◌, ℕ, ◌+◌, List, [], ◌∷◌, ◌++◌, length, refl, codes, Ok, Err}
 use Rattle.mpy_lexer.specs.declared.forms.Form.TheVariants.{Program, Rules}
 use Rattle.mpy_lexer.specs.declared.forms.Kind.{Kind}
 use Rattle.mpy_lexer.specs.declared.forms.Kind.TheVariants.{Name, Reserved, Number, Text, Mark, Meta}
@@ -12,6 +12,7 @@ use Rattle.mpy_lexer.specs.Pieces.{closing, has_wrong_escape, name_at, number_at
 use Rattle.mpy_lexer.specs.PhysicalLines.{byte_order_mark_len, physical_lines, has_foreign_byte, begins_with_tab, column_of, row_of, rows_of, rows}
 use Rattle.mpy_lexer.specs.Brackets.{open_after, has_unmatched}
 use Rattle.mpy_lexer.specs.Leasts.{least}
+use Rattle.mpy_lexer.specs.TokenForms.{has_form}
 use Rattle.mpy_lexer.specs.Lexing.{byte_fault, faulty_lines, continued, logical_lines, length_fault, lex}
 
 -- a token by its first place and its bytes
@@ -135,3 +136,12 @@ return_at_the_end = refl
 bytes_of_a_comment : lex Program (codes "# " ++ 195 ∷ 169 ∷ 9 ∷ 0 ∷ []) ≡ Ok ([])
 unfolding lex byte_fault faulty_lines least continued logical_lines length_fault open_after has_unmatched byte_order_mark_len physical_lines has_foreign_byte begins_with_tab column_of row_of rows_of rows closing has_wrong_escape name_at number_at sign_at piece_at parts is_reserved mark_len
 bytes_of_a_comment = refl
+
+-- the bytes of a token by themselves
+names_and_numbers : has_form Program Name (codes "_a1") ∷ has_form Program Name (codes "1a") ∷ has_form Program Name (codes "if") ∷ has_form Program Number (codes "0") ∷ has_form Program Number (codes "007") ∷ has_form Program Number (codes "2147483648") ∷ [] ≡ true ∷ false ∷ false ∷ true ∷ false ∷ false ∷ []
+unfolding is_reserved
+names_and_numbers = refl
+
+texts_and_signs : has_form Program Text (codes "'a\\'b'") ∷ has_form Program Text (codes "'a'b'") ∷ has_form Program Text (codes "'a\\n'") ∷ has_form Rules Mark (codes "=>") ∷ has_form Program Mark (codes "=>") ∷ has_form Rules Meta (codes "$a1'") ∷ has_form Rules Meta (codes "$a'1") ∷ [] ≡ true ∷ false ∷ false ∷ true ∷ false ∷ true ∷ false ∷ []
+unfolding closing has_wrong_escape
+texts_and_signs = refl

@@ -7,3 +7,4 @@ pub mod Leasts
 pub mod Lexing
 pub mod Seen
 pub mod Spans
+pub mod TokenForms

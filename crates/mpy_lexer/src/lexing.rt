@@ -111,7 +111,7 @@ fn length_fault(lines: &[Line]) -> Option<LexError>
 pub fn lines(alloc: Global, bytes: &[u8], form: Form) -> Result<Vec<Line>, LexError>
     requires { length bytes.now ≤ 1073741824 }
     ensures lines { IfOk result (λ v. lex form bytes.now ≡ Ok v.items) }
-    ensures spans { IfOk result (λ v. All (IsLineOf bytes.now) v.items) }
+    ensures spans { IfOk result (λ v. All (IsLineOf form bytes.now) v.items) }
     ensures fault { IfErr result (λ e. IsAnswered form bytes.now e) }
 {
     let rows = rows(alloc, bytes, form)?;

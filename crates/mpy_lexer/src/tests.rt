@@ -4,7 +4,7 @@ use std::alloc::Global;
 use std::test::Fail;
 
 // Programs, each with its lines: of a line its number and column, of a token what it is, its span and its bytes.
-const PROGRAMS: [(&[u8], &str); 37] = [
+const PROGRAMS: [(&[u8], &str); 40] = [
     (b"", ""),
     (b"\n", ""),
     (
@@ -37,6 +37,9 @@ const PROGRAMS: [(&[u8], &str); 37] = [
     (b"x\ry", "Byte 1"),
     (b"\xEF\xBB\xBFdef # \xC3\xA9\n", "1.0 word 3-6 def"),
     (b"x \xC3\xA9", "Byte 1"),
+    (b"'~ '", "1.0 text 0-4 '~ '"),
+    (b"'\x7F'", "Byte 1"),
+    (b"'\x1F'", "Byte 1"),
     (b" \tx", "Tab 1"),
     (b" \t# x\n\ty = 2", "Tab 2"),
     (b"x\t= 'a\tb'", "Byte 1"),
