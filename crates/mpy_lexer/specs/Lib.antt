@@ -1,0 +1,10 @@
+pub mod Bytes
+pub mod Words
+pub mod Pieces
+pub mod PhysicalLines
+pub mod Brackets
+pub mod Leasts
+pub mod Lexing
+pub mod Seen
+pub mod Spans
+pub mod TokenForms

@@ -1,0 +1,27 @@
+//! The logical lines of programs and of rules, each with its tokens.
+#![tactic(auto)]
+
+mod brackets;
+mod bytes;
+mod foreign;
+mod forms;
+mod lexing;
+mod line;
+mod numbers;
+mod pieces;
+mod rows;
+mod signs;
+#[cfg(test)]
+mod tests;
+mod token;
+mod words;
+
+pub use forms::{Form, Kind};
+pub use lexing::lines;
+pub use line::{LexCause, LexError, Line};
+pub use numbers::number_of;
+use std::alloc::AllocError;
+pub use token::{Spelling, Token, Tokens};
+
+/// Want of memory, where a call has no other refusal.
+pub type NoMemory = AllocError;
