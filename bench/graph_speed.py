@@ -48,7 +48,7 @@ fn million(rt: HostRuntime) -> Result<(), Fail> {
 def build(top, work):
     """The test program, in a copy of the two crates and one that tests them."""
     for crate in ('bit_words', 'bit_graph'):
-        shutil.copytree(os.path.join(top, 'crates', crate), os.path.join(work, 'crates', crate))
+        shutil.copytree(os.path.join(top, 'crates', crate), os.path.join(work, 'crates', crate), ignore=shutil.ignore_patterns('out'))
     folder = os.path.join(work, 'crates', CRATE)
     os.makedirs(os.path.join(folder, 'src'))
     with open(os.path.join(work, 'crates.txt'), 'w') as f:
