@@ -1,0 +1,24 @@
+pub mod Shorter
+pub mod Readings
+pub mod Sound
+pub mod Elements
+pub mod Complete
+pub mod Characters
+pub mod Between
+pub mod ItemsSound
+pub mod ItemsComplete
+pub mod OneAnswer
+pub mod LinesSpelled
+pub mod Falls
+pub mod Piled
+pub mod Fine
+pub mod Nests
+pub mod Faultless
+pub mod Steps
+pub mod Depths
+pub mod Leasts
+pub mod StatementPlaces
+pub mod Actions
+pub mod Lines
+pub mod Functions
+mod LimitExamples

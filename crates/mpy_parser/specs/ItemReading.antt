@@ -1,0 +1,114 @@
+-- Reading the item of a logical line, all of its terminals.
+use Rattle.std.specs.Prelude.{ℕ, Bool, List, [], ◌∷◌, nat_eq, Option, Some, None, if◌then◌else◌, codes}
+use Rattle.std.specs.Cmp.Lexicographic.{pointwise}
+use Rattle.mpy_tree.specs.Syntax.{Term, no_term, a_term, Action, SetTo, SetBy, SetAt, SetAtBy, AppendTo, Give, Nothing, Leave, Again}
+use Rattle.mpy_parser.specs.declared.levels.Level.TheVariants as level
+use Rattle.mpy_parser.specs.declared.words.Word.{Word}
+use Rattle.mpy_parser.specs.declared.words.Word.TheVariants as word
+use Rattle.mpy_parser.specs.declared.terminals.Terminal.{Terminal}
+use Rattle.mpy_parser.specs.declared.terminals.Terminal.TheVariants as terminal
+use Rattle.mpy_parser.specs.Reading.{◌>>=◌, reading, behind_closing_bracket, behind_closing_paren, behind_colon}
+use Rattle.mpy_parser.specs.Items.{Opening, function, when, else_when, otherwise, while, for_each, LineItem, simple, headed, augmented}
+
+-- what was read, where nothing is left
+abbrev pub ended : {A : Type 0} → A → List Terminal → Option A
+ended a [] = Some a
+ended a (t ∷ ts) = None
+
+-- the expression that all terminals spell
+abbrev pub whole : List Terminal → Option Term
+whole ts = reading level.Conditional ts >>= λ e. ended e.0 e.1
+
+-- behind the target in brackets
+abbrev pub assigned : List ℕ → Term → List Terminal → Option Action
+assigned x i (terminal.Word word.Assign ∷ ts) = whole ts >>= λ e. Some (SetAt x i e)
+assigned x i (terminal.Word w ∷ ts) = augmented w >>= λ op. whole ts >>= λ e. Some (SetAtBy x i op e)
+assigned x i _ = None
+
+abbrev pub at_place : List ℕ → List Terminal → Option Action
+at_place x ts = do
+  i ← reading level.Conditional ts
+  rest ← behind_closing_bracket i.1
+  assigned x i.0 rest
+
+abbrev pub is_append : List ℕ → Bool
+is_append f = pointwise nat_eq f (codes "append")
+
+abbrev pub argument : List ℕ → List Terminal → Option Action
+argument x ts = do
+  e ← reading level.Conditional ts
+  rest ← behind_closing_paren e.1
+  ended (AppendTo x e.0) rest
+
+abbrev pub method : List ℕ → List Terminal → Option Action
+method x (terminal.Name f ∷ terminal.Word word.LeftParen ∷ ts) = if is_append f then argument x ts else None
+method x _ = None
+
+-- behind a name and a word
+abbrev pub behind_name : List ℕ → Word → List Terminal → Option Action
+behind_name x word.Assign ts = whole ts >>= λ e. Some (SetTo x e)
+behind_name x word.LeftBracket ts = at_place x ts
+behind_name x word.Dot ts = method x ts
+behind_name x w ts = augmented w >>= λ op. whole ts >>= λ e. Some (SetBy x op e)
+
+abbrev pub given_at : List Terminal → Option Action
+given_at [] = Some (Give no_term)
+given_at (t ∷ ts) = whole (t ∷ ts) >>= λ e. Some (Give (a_term e))
+
+abbrev pub simple_at : List Terminal → Option Action
+simple_at (terminal.Word word.Pass ∷ ts) = ended Nothing ts
+simple_at (terminal.Word word.Break ∷ ts) = ended Leave ts
+simple_at (terminal.Word word.Continue ∷ ts) = ended Again ts
+simple_at (terminal.Word word.Return ∷ ts) = given_at ts
+simple_at (terminal.Name x ∷ terminal.Word w ∷ ts) = behind_name x w ts
+simple_at _ = None
+
+-- names joined by commas, and the closing parenthesis
+abbrev pub names_at : List Terminal → Option (List (List ℕ) × List Terminal)
+names_at (terminal.Name x ∷ terminal.Word word.RightParen ∷ ts) = Some (x ∷ [], ts)
+names_at (terminal.Name x ∷ terminal.Word word.Comma ∷ ts) = names_at ts >>= λ xs. Some (x ∷ xs.0, xs.1)
+names_at _ = None
+
+abbrev pub parameters_at : List Terminal → Option (List (List ℕ) × List Terminal)
+parameters_at (terminal.Word word.RightParen ∷ ts) = Some ([], ts)
+parameters_at ts = names_at ts
+
+abbrev pub function_at : List Terminal → Option (Opening × List Terminal)
+function_at (terminal.Name f ∷ terminal.Word word.LeftParen ∷ ts) = parameters_at ts >>= λ xs. Some (function f xs.0, xs.1)
+function_at _ = None
+
+abbrev pub each_at : List Terminal → Option (Opening × List Terminal)
+each_at (terminal.Name x ∷ terminal.Word word.In ∷ ts) = reading level.Conditional ts >>= λ e. Some (for_each x e.0, e.1)
+each_at _ = None
+
+-- the header of a test, by its word
+abbrev pub test_of : Word → Term → Opening
+test_of word.If e = when e
+test_of word.Elif e = else_when e
+test_of _ e = while e
+
+abbrev pub tested_at : Word → List Terminal → Option (Opening × List Terminal)
+tested_at w ts = reading level.Conditional ts >>= λ e. Some (test_of w e.0, e.1)
+
+-- a header up to its colon, and what stands behind it
+abbrev pub header_at : List Terminal → Option (Opening × List Terminal)
+header_at (terminal.Word word.Def ∷ ts) = function_at ts
+header_at (terminal.Word word.If ∷ ts) = tested_at word.If ts
+header_at (terminal.Word word.Elif ∷ ts) = tested_at word.Elif ts
+header_at (terminal.Word word.Else ∷ ts) = Some (otherwise, ts)
+header_at (terminal.Word word.While ∷ ts) = tested_at word.While ts
+header_at (terminal.Word word.For ∷ ts) = each_at ts
+header_at _ = None
+
+abbrev pub body_at : List Terminal → Option (Option Action)
+body_at [] = Some None
+body_at (t ∷ ts) = simple_at (t ∷ ts) >>= λ act. Some (Some act)
+
+abbrev pub headed_at : Opening × List Terminal → Option LineItem
+headed_at h = do
+  rest ← behind_colon h.1
+  body ← body_at rest
+  Some (headed h.0 body)
+
+unfoldable pub item_at : List Terminal → Option LineItem
+item_at ts = elim (header_at ts) [ Some h ↦ headed_at h | None ↦ (simple_at ts >>= λ act. Some (simple act)) ]

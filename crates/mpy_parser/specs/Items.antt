@@ -1,0 +1,70 @@
+-- Which terminals spell the item of a logical line.
+use Rattle.std.specs.Prelude.{◌≡◌, ℕ, List, [], ◌∷◌, ◌++◌, Option, Some, None, codes}
+use Rattle.mpy_tree.specs.declared.operators.ArithOp.{ArithOp}
+use Rattle.mpy_tree.specs.declared.operators.ArithOp.TheVariants.{Add, Sub, Mul, Floor, Rem}
+use Rattle.mpy_tree.specs.Syntax.{Term, no_term, a_term, Action, SetTo, SetBy, SetAt, SetAtBy, AppendTo, Give, Nothing, Leave, Again}
+use Rattle.mpy_parser.specs.declared.levels.Level.TheVariants as level
+use Rattle.mpy_parser.specs.declared.words.Word.{Word}
+use Rattle.mpy_parser.specs.declared.words.Word.TheVariants as word
+use Rattle.mpy_parser.specs.declared.terminals.Terminal.{Terminal}
+use Rattle.mpy_parser.specs.declared.terminals.Terminal.TheVariants as terminal
+use Rattle.mpy_parser.specs.Grammar.{Spells}
+
+-- what begins a body
+pub data Opening : Type 0 where
+  function : (name : List ℕ) (params : List (List ℕ)) → Opening
+  when : (test : Term) → Opening
+  else_when : (test : Term) → Opening
+  otherwise : Opening
+  while : (test : Term) → Opening
+  for_each : (x : List ℕ) (e : Term) → Opening
+
+-- a simple statement, or a header with the simple statement behind its colon, if there is one
+pub data LineItem : Type 0 where
+  simple : (act : Action) → LineItem
+  headed : (h : Opening) (body : Option Action) → LineItem
+
+-- the operator of an augmented assignment
+abbrev pub augmented : Word → Option ArithOp
+augmented word.PlusAssign = Some Add
+augmented word.MinusAssign = Some Sub
+augmented word.StarAssign = Some Mul
+augmented word.DoubleSlashAssign = Some Floor
+augmented word.PercentAssign = Some Rem
+augmented _ = None
+
+pub data SpellsSimple : List Terminal → Action → Type 0 where
+  assign : (x : List ℕ) {es : List Terminal} {e : Term} → Spells level.Conditional es e → SpellsSimple (terminal.Name x ∷ terminal.Word word.Assign ∷ es) (SetTo x e)
+  augment : (x : List ℕ) (w : Word) {op : ArithOp} {es : List Terminal} {e : Term} → augmented w ≡ Some op → Spells level.Conditional es e → SpellsSimple (terminal.Name x ∷ terminal.Word w ∷ es) (SetBy x op e)
+  put : (x : List ℕ) {is es : List Terminal} {i e : Term} → Spells level.Conditional is i → Spells level.Conditional es e → SpellsSimple (terminal.Name x ∷ terminal.Word word.LeftBracket ∷ is ++ terminal.Word word.RightBracket ∷ terminal.Word word.Assign ∷ es) (SetAt x i e)
+  augment_at : (x : List ℕ) (w : Word) {op : ArithOp} {is es : List Terminal} {i e : Term} → augmented w ≡ Some op → Spells level.Conditional is i → Spells level.Conditional es e → SpellsSimple (terminal.Name x ∷ terminal.Word word.LeftBracket ∷ is ++ terminal.Word word.RightBracket ∷ terminal.Word w ∷ es) (SetAtBy x i op e)
+  append : (x : List ℕ) {es : List Terminal} {e : Term} → Spells level.Conditional es e → SpellsSimple (terminal.Name x ∷ terminal.Word word.Dot ∷ terminal.Name (codes "append") ∷ terminal.Word word.LeftParen ∷ es ++ terminal.Word word.RightParen ∷ []) (AppendTo x e)
+  give_nothing : SpellsSimple (terminal.Word word.Return ∷ []) (Give no_term)
+  give : {es : List Terminal} {e : Term} → Spells level.Conditional es e → SpellsSimple (terminal.Word word.Return ∷ es) (Give (a_term e))
+  pass : SpellsSimple (terminal.Word word.Pass ∷ []) Nothing
+  leave : SpellsSimple (terminal.Word word.Break ∷ []) Leave
+  again : SpellsSimple (terminal.Word word.Continue ∷ []) Again
+
+-- names joined by commas
+abbrev pub name_list : List (List ℕ) → List Terminal
+name_list [] = []
+name_list (x ∷ []) = terminal.Name x ∷ []
+name_list (x ∷ y ∷ rest) = terminal.Name x ∷ terminal.Word word.Comma ∷ name_list (y ∷ rest)
+
+-- a header, up to its colon
+pub data SpellsHeader : List Terminal → Opening → Type 0 where
+  a_function : (f : List ℕ) (params : List (List ℕ)) → SpellsHeader (terminal.Word word.Def ∷ terminal.Name f ∷ terminal.Word word.LeftParen ∷ name_list params ++ terminal.Word word.RightParen ∷ []) (function f params)
+  an_if : {es : List Terminal} {e : Term} → Spells level.Conditional es e → SpellsHeader (terminal.Word word.If ∷ es) (when e)
+  an_elif : {es : List Terminal} {e : Term} → Spells level.Conditional es e → SpellsHeader (terminal.Word word.Elif ∷ es) (else_when e)
+  an_else : SpellsHeader (terminal.Word word.Else ∷ []) otherwise
+  a_while : {es : List Terminal} {e : Term} → Spells level.Conditional es e → SpellsHeader (terminal.Word word.While ∷ es) (while e)
+  a_for : (x : List ℕ) {es : List Terminal} {e : Term} → Spells level.Conditional es e → SpellsHeader (terminal.Word word.For ∷ terminal.Name x ∷ terminal.Word word.In ∷ es) (for_each x e)
+
+-- what may stand behind the colon of a header
+pub data SpellsBody : List Terminal → Option Action → Type 0 where
+  open_body : SpellsBody [] None
+  one_statement : {ts : List Terminal} {act : Action} → SpellsSimple ts act → SpellsBody ts (Some act)
+
+pub data SpellsItem : List Terminal → LineItem → Type 0 where
+  a_statement : {ts : List Terminal} {act : Action} → SpellsSimple ts act → SpellsItem ts (simple act)
+  a_header : {hs ts : List Terminal} {h : Opening} {body : Option Action} → SpellsHeader hs h → SpellsBody ts body → SpellsItem (hs ++ terminal.Word word.Colon ∷ ts) (headed h body)

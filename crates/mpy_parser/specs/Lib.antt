@@ -1,0 +1,16 @@
+pub mod Levels
+pub mod Grammar
+pub mod Reading
+pub mod Views
+pub mod Items
+pub mod Nesting
+pub mod Faults
+pub mod Terminals
+pub mod Limits
+pub mod Programs
+pub mod Longest
+pub mod ItemReading
+pub mod Open
+pub mod Piles
+pub mod Indents
+pub mod NestingLaws

@@ -1,0 +1,41 @@
+//! Programs and expressions read from their text, exactly as the grammar spells them.
+#![tactic(auto)]
+
+mod blocks;
+mod building;
+mod columns;
+mod entries;
+mod expressions;
+mod headers;
+mod items;
+mod kinds;
+mod levels;
+mod limits;
+mod longest;
+mod nesting_laws;
+mod piles;
+mod places;
+mod programs;
+mod read_error;
+mod stacks;
+mod statements;
+mod terminals;
+mod terms;
+#[cfg(test)]
+mod tests;
+mod words;
+
+pub use levels::Level;
+pub use longest::{ExprError, one_expression, read_expr};
+pub use nesting_laws::{
+    nested_in_one_way, nested_without_block_fault, nested_without_fault,
+    nested_without_indent_fault, same_indent_fault,
+};
+pub use programs::read_prog;
+pub use read_error::ReadError;
+use std::alloc::AllocError;
+pub use terminals::Terminal;
+pub use words::Word;
+
+/// Want of memory, where a call has no other refusal.
+pub type NoMemory = AllocError;

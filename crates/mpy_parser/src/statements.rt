@@ -1,0 +1,180 @@
+//! Simple statements, each of all terminals there are.
+ghost use Rattle.std.specs.Prelude.{◌≡◌, Option, Some, None, option_map, IfOk};
+ghost use Rattle.mpy_tree.specs.Syntax.{AppendTo};
+ghost use Rattle.mpy_tree.specs.View.{term_of, action_of};
+ghost use Rattle.mpy_parser.specs.Items.{augmented};
+ghost use Rattle.mpy_parser.specs.ItemReading.{ended, whole, assigned, at_place, is_append, argument, method, behind_name, given_at, simple_at};
+
+use crate::NoMemory;
+use crate::expressions::{behind_closing, expression};
+use crate::levels::Level;
+use crate::terminals::Terminal;
+use crate::terms::Bracket;
+use crate::words::Word;
+use mpy_tree::{Act, ArithOp, Expr, Name};
+use std::alloc::Global;
+
+// The operator of an augmented assignment.
+fn augmented(word: Word) -> Option<ArithOp>
+    ensures { result ≡ augmented word }
+{
+    match word {
+        Word::PlusAssign => Some(ArithOp::Add),
+        Word::MinusAssign => Some(ArithOp::Sub),
+        Word::StarAssign => Some(ArithOp::Mul),
+        Word::DoubleSlashAssign => Some(ArithOp::Floor),
+        Word::PercentAssign => Some(ArithOp::Rem),
+        _ => None,
+    }
+}
+
+// What was read, where nothing is left.
+fn ended(act: Act, rest: &[Terminal]) -> Option<Act>
+    ensures { option_map action_of result ≡ ended (action_of act) rest.now }
+{
+    if rest.is_empty() { Some(act) } else { None }
+}
+
+// The expression that all terminals spell.
+fn whole(alloc: Global, ts: &[Terminal]) -> Result<Option<Expr>, NoMemory>
+    ensures { IfOk result (λ r. option_map term_of r ≡ whole ts.now) }
+{
+    match expression(alloc, Level::Conditional, ts)? {
+        Some((e, [])) => Ok(Some(e)),
+        _ => Ok(None),
+    }
+}
+
+// An assignment, behind its target in brackets.
+fn assigned(
+    alloc: Global,
+    name: &Name,
+    index: Expr,
+    ts: &[Terminal],
+) -> Result<Option<Act>, NoMemory>
+    ensures { IfOk result (λ r. option_map action_of r ≡ assigned name.now (term_of index) ts.now) }
+{
+    let [Terminal::Word(word), rest @ ..] = ts else {
+        return Ok(None);
+    };
+    if matches!(word, Word::Assign) {
+        let Some(e) = whole(alloc, rest)? else {
+            return Ok(None);
+        };
+        return Ok(Some(Act::Put(name.copy()?, index, e)));
+    }
+    let Some(op) = augmented(*word) else {
+        return Ok(None);
+    };
+    let Some(e) = whole(alloc, rest)? else {
+        return Ok(None);
+    };
+    Ok(Some(Act::AugmentAt(name.copy()?, index, op, e)))
+}
+
+fn at_place(alloc: Global, name: &Name, ts: &[Terminal]) -> Result<Option<Act>, NoMemory>
+    ensures { IfOk result (λ r. option_map action_of r ≡ at_place name.now ts.now) }
+{
+    let Some((index, ts)) = expression(alloc, Level::Conditional, ts)? else {
+        return Ok(None);
+    };
+    let Some(rest) = behind_closing(Bracket::Square, ts) else {
+        return Ok(None);
+    };
+    assigned(alloc, name, index, rest)
+}
+
+fn argument(alloc: Global, name: &Name, ts: &[Terminal]) -> Result<Option<Act>, NoMemory>
+    ensures { IfOk result (λ r. option_map action_of r ≡ argument name.now ts.now) }
+{
+    let Some((e, ts)) = expression(alloc, Level::Conditional, ts)? else {
+        return Ok(None);
+    };
+    let Some(rest) = behind_closing(Bracket::Round, ts) else {
+        return Ok(None);
+    };
+    Ok(ended(Act::Append(name.copy()?, e), rest))
+}
+
+fn is_append(name: &Name) -> bool
+    ensures { result ≡ is_append name.now }
+{
+    name.bytes() == b"append".as_slice()
+}
+
+// The one method, behind its dot.
+fn method(alloc: Global, name: &Name, ts: &[Terminal]) -> Result<Option<Act>, NoMemory>
+    ensures { IfOk result (λ r. option_map action_of r ≡ method name.now ts.now) }
+{
+    match ts {
+        [
+            Terminal::Name(called),
+            Terminal::Word(Word::LeftParen),
+            rest @ ..,
+        ] => {
+            if is_append(called) {
+                argument(alloc, name, rest)
+            } else {
+                Ok(None)
+            }
+        }
+        _ => Ok(None),
+    }
+}
+
+fn behind_name(
+    alloc: Global,
+    name: &Name,
+    word: Word,
+    ts: &[Terminal],
+) -> Result<Option<Act>, NoMemory>
+    ensures { IfOk result (λ r. option_map action_of r ≡ behind_name name.now word ts.now) }
+{
+    match word {
+        Word::Assign => {
+            let Some(e) = whole(alloc, ts)? else {
+                return Ok(None);
+            };
+            Ok(Some(Act::Assign(name.copy()?, e)))
+        }
+        Word::LeftBracket => at_place(alloc, name, ts),
+        Word::Dot => method(alloc, name, ts),
+        _ => {
+            let Some(op) = augmented(word) else {
+                return Ok(None);
+            };
+            let Some(e) = whole(alloc, ts)? else {
+                return Ok(None);
+            };
+            Ok(Some(Act::Augment(name.copy()?, op, e)))
+        }
+    }
+}
+
+fn given(alloc: Global, ts: &[Terminal]) -> Result<Option<Act>, NoMemory>
+    ensures { IfOk result (λ r. option_map action_of r ≡ given_at ts.now) }
+{
+    if ts.is_empty() {
+        return Ok(Some(Act::Return(None)));
+    }
+    match whole(alloc, ts)? {
+        None => Ok(None),
+        Some(e) => Ok(Some(Act::Return(Some(e)))),
+    }
+}
+
+/// The simple statement that all terminals spell, if they spell one.
+pub(crate) fn simple(alloc: Global, ts: &[Terminal]) -> Result<Option<Act>, NoMemory>
+    ensures { IfOk result (λ r. option_map action_of r ≡ simple_at ts.now) }
+{
+    match ts {
+        [Terminal::Word(Word::Pass), rest @ ..] => Ok(ended(Act::Pass, rest)),
+        [Terminal::Word(Word::Break), rest @ ..] => Ok(ended(Act::Break, rest)),
+        [Terminal::Word(Word::Continue), rest @ ..] => Ok(ended(Act::Continue, rest)),
+        [Terminal::Word(Word::Return), rest @ ..] => given(alloc, rest),
+        [Terminal::Name(name), Terminal::Word(word), rest @ ..] => {
+            behind_name(alloc, name, *word, rest)
+        }
+        _ => Ok(None),
+    }
+}
