@@ -1,1 +1,3 @@
 pub mod Scraps
+pub mod PrintedLines
+pub mod PrintedText
