@@ -1,3 +1,6 @@
 pub mod Scraps
 pub mod PrintedLines
 pub mod PrintedText
+pub mod Numerals
+pub mod Literals
+pub mod TermSpelling

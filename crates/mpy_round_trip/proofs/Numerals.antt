@@ -3,7 +3,7 @@ use Rattle.std.proofs.Common.{◌≡◌, ℕ, zero, suc, ◌+◌, ◌-◌, ◌*�
 use Rattle.std.specs.Char.{is_ascii_digit}
 use Rattle.std.specs.List.{list_all}
 use Rattle.std.proofs.Common.{rules}
-use Rattle.std.proofs.lemmas.Bool.{and_parts, and_from}
+use Rattle.std.proofs.lemmas.Bool.{and_parts, and_from, or_right}
 use Rattle.std.proofs.lemmas.Bool.Decides.{nat_tests}
 use Rattle.std.proofs.lemmas.Str.Parse.{IsNumeralModel, numerals_by_fold}
 use Rattle.std.proofs.lemmas.Fmt.{digits_decimal, digits_value-decimal, decimal_nonempty, decimal_digit, first_decimal}
@@ -54,8 +54,8 @@ first_digit c ds h = let parts = and_parts (is_ascii_digit c) (list_all is_ascii
     equals_none c h = grind (arith, nat_tests)
 
 form_by : (c : ℕ) (rest : List ℕ) (n : ℕ) → n ≤ 2147483647 → list_all is_ascii_digit (c ∷ rest) ≡ true → ((c == 48) ≡ false) ⊎ (rest ≡ []) → number_value (c ∷ rest) ≡ n → (has_form Program kind.Number (c ∷ rest) ≡ true) × (number_terminal (c ∷ rest) ≡ terminal.Number n)
-form_by c [] n small digits leads value = rw (digits, value, le-leb n 2147483647 small) ?a
-form_by c (d ∷ rest) n small digits (inl other) value = rw (digits, other, value, le-leb n 2147483647 small) ?b
+form_by c [] n small digits leads value = rw (digits, value, le-leb n 2147483647 small) (refl, rw (or_right (not (c == 48)) true refl) refl)
+form_by c (d ∷ rest) n small digits (inl other) value = rw (digits, other, value, le-leb n 2147483647 small) (refl, refl)
 form_by c (d ∷ rest) n small digits (inr none) value = absurd cc
 
 pub numeral_form : (n : ℕ) → n ≤ 2147483647 → has_form Program kind.Number (decimal n) ≡ true
