@@ -4,3 +4,5 @@ pub mod PrintedText
 pub mod Numerals
 pub mod Literals
 pub mod TermSpelling
+pub mod ItemSpelling
+pub mod LineNesting

@@ -42,7 +42,7 @@ unfolding characters closing has_wrong_escape
 backslash cs bytes h = record {
   some = omega arith;
   spells = ap (with_character 92) h.spells;
-  closes = rw (h.closes, add-one, add-one) refl;
+  closes = simp (h.closes, add-one);
   right = h.right;
   printable = h.printable;
 }
@@ -52,7 +52,7 @@ unfolding characters closing has_wrong_escape
 quote cs bytes h = record {
   some = omega arith;
   spells = ap (with_character 39) h.spells;
-  closes = rw (h.closes, add-one, add-one) refl;
+  closes = simp (h.closes, add-one);
   right = h.right;
   printable = h.printable;
 }

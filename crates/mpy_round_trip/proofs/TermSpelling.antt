@@ -168,7 +168,7 @@ compare_terminals NotMember ss = refl
 mutual
   unfolding word_of
 
-  pub term_spelled : (e : Term) → IsProperTerm e → IsSpelled (level_of e) (term_scraps e) e
+  term_spelled : (e : Term) → IsProperTerm e → IsSpelled (level_of e) (term_scraps e) e
   term_spelled (Number n) p = record { own = terminal.Number n ∷ []; onto = λ ss. ap (λ t. t ∷ terminals_in ss) (numeral_terminal n p); spells = number n }
   term_spelled (Truth b) p = record { own = terminal.Word (truth_word b) ∷ []; onto = λ ss. ap (λ t. t ∷ terminals_in ss) (truth_terminal b); spells = truth b }
   term_spelled (Quoted cs) p = record { own = terminal.Text cs ∷ []; onto = λ ss. ap (λ t. t ∷ terminals_in ss) (literal_terminal cs p); spells = quoted cs }
@@ -275,3 +275,7 @@ mutual
   end_spelled (a_term e) p =
       let s = lowered (level_of e) 0 (term_scraps e) e (omega arith) (term_spelled e p) in
       record { own = s.own; onto = s.onto; spells = given s.spells }
+
+-- as an expression that stands in no other
+pub whole : (e : Term) → IsProperTerm e → IsSpelled 0 (term_scraps e) e
+whole e p = lowered (level_of e) 0 (term_scraps e) e (omega arith) (term_spelled e p)
