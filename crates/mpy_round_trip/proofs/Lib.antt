@@ -6,3 +6,4 @@ pub mod Literals
 pub mod TermSpelling
 pub mod ItemSpelling
 pub mod LineNesting
+pub mod BracketBalance

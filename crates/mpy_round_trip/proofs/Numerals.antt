@@ -47,10 +47,10 @@ printable_digits [] h = refl
 printable_digits (c ∷ ds) h = let parts = and_parts (is_ascii_digit c) (list_all is_ascii_digit ds) h in and_from (is_printable c) (list_all is_printable ds) (printable_digit c parts.0) (printable_digits ds parts.1)
 
 -- the first digit is no other byte
-pub first_digit : (c : ℕ) (ds : List ℕ) → list_all is_ascii_digit (c ∷ ds) ≡ true → (c == 61) ≡ false
+pub first_digit : (c : ℕ) (ds : List ℕ) → list_all is_ascii_digit (c ∷ ds) ≡ true → (61 == c) ≡ false
 first_digit c ds h = let parts = and_parts (is_ascii_digit c) (list_all is_ascii_digit ds) h in equals_none c parts.0
   where
-    equals_none : (c : ℕ) → is_ascii_digit c ≡ true → (c == 61) ≡ false
+    equals_none : (c : ℕ) → is_ascii_digit c ≡ true → (61 == c) ≡ false
     equals_none c h = grind (arith, nat_tests)
 
 form_by : (c : ℕ) (rest : List ℕ) (n : ℕ) → n ≤ 2147483647 → list_all is_ascii_digit (c ∷ rest) ≡ true → ((c == 48) ≡ false) ⊎ (rest ≡ []) → number_value (c ∷ rest) ≡ n → (has_form Program kind.Number (c ∷ rest) ≡ true) × (number_terminal (c ∷ rest) ≡ terminal.Number n)
