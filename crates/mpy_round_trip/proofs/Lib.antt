@@ -7,3 +7,5 @@ pub mod TermSpelling
 pub mod ItemSpelling
 pub mod LineNesting
 pub mod BracketBalance
+pub mod TokensApart
+pub mod FineLines
