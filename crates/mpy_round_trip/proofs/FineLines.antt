@@ -1,5 +1,5 @@
 -- The printed lines of a proper program are fine.
-use Rattle.std.proofs.Common.{◌≡◌, ℕ, zero, suc, Bool, true, false, List, [], ◌∷◌, ◌++◌, All, codes, refl}
+use Rattle.std.proofs.Common.{◌≡◌, ℕ, suc, Bool, true, false, List, [], ◌∷◌, ◌++◌, All, codes, refl}
 use Rattle.std.proofs.lemmas.List.Elements.{All-nil, All-cons, All-head, All-tail}
 use Rattle.mpy_tree.specs.Syntax.{Term, no_term, a_term, at, Action, SetTo, SetBy, SetAt, SetAtBy, AppendTo, Give, Nothing, Leave, Again, Test, Loop, Each, Block, end, step, MaybeBlock, no_block, a_block, arm, Branches, no_arms, arm_and, Routine}
 use Rattle.mpy_tree.specs.declared.operators.ArithOp.{ArithOp}
@@ -14,7 +14,7 @@ use Rattle.mpy_round_trip.specs.Proper.{IsName, IsProperTerm, IsProperBlock, IsP
 use Rattle.mpy_round_trip.proofs.Scraps.{Scrap, gap, word, Printed, next_byte, AreApart, IsFine}
 use Rattle.mpy_round_trip.proofs.Scraps.{empty, token as begins_with}
 use Rattle.mpy_round_trip.proofs.PrintedLines.{name, mark, reserved, term_scraps, name_scraps, header_scraps, printed, block_lines, action_lines, arms_lines, else_lines, routine_lines, printed_lines}
-use Rattle.mpy_round_trip.proofs.BracketBalance.{IsBalanced, space, and_then, token, in_round, in_square, augmenting, a_word, term_balanced, names_balanced, all_balanced, nothing}
+use Rattle.mpy_round_trip.proofs.BracketBalance.{IsBalanced, space, and_then, token, in_round, in_square, augmenting, term_balanced, names_balanced, all_balanced, nothing}
 use Rattle.mpy_round_trip.proofs.TokensApart.{name_apart, term_apart, augmenting_apart}
 
 fine : (d : ℕ) (k : Kind) (bytes : List ℕ) (put : List Scrap → List Scrap) → AreApart (word k bytes ∷ put []) → IsBalanced (λ ss. word k bytes ∷ put ss) → IsFine (printed d (word k bytes ∷ put []))

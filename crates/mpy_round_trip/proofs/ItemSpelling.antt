@@ -1,9 +1,9 @@
 -- The tokens of each printed line spell its item.
-use Rattle.std.proofs.Common.{◌≡◌, ℕ, List, [], ◌∷◌, ◌++◌, codes, Some, None, refl, ap, sym, ◌∙◌, subst, append_assoc, append-nil, arith}
+use Rattle.std.proofs.Common.{◌≡◌, ℕ, List, [], ◌∷◌, ◌++◌, codes, Some, None, refl, ap, sym, ◌∙◌, subst, append_assoc, append-nil}
 use Rattle.mpy_tree.specs.declared.operators.ArithOp.{ArithOp}
 use Rattle.mpy_tree.specs.declared.operators.ArithOp.TheVariants.{Add, Sub, Mul, Floor, Rem, Power}
-use Rattle.mpy_tree.specs.Syntax.{Term, SetTo, SetBy, SetAt, SetAtBy, AppendTo, Give, no_term, a_term}
-use Rattle.mpy_tree.specs.Printing.{arith_text, level_of}
+use Rattle.mpy_tree.specs.Syntax.{Term, SetTo, SetBy, SetAt, SetAtBy, AppendTo, Give, a_term}
+use Rattle.mpy_tree.specs.Printing.{arith_text}
 use Rattle.mpy_lexer.specs.declared.forms.Kind.TheVariants as kind
 use Rattle.mpy_parser.specs.declared.levels.Level.TheVariants as level
 use Rattle.mpy_parser.specs.declared.words.Word.{Word}
@@ -14,7 +14,7 @@ use Rattle.mpy_parser.specs.Terminals.{word_of, terminal_by}
 use Rattle.mpy_parser.specs.Grammar.{Spells}
 use Rattle.mpy_parser.specs.Items.{Opening, function, headed, simple, augmented, assign, augment, put, augment_at, append, give, name_list, SpellsHeader, SpellsItem, a_function, open_body, a_statement, a_header}
 use Rattle.mpy_round_trip.specs.Proper.{IsProperTerm, MayAugment}
-use Rattle.mpy_round_trip.proofs.Scraps.{Scrap, gap}
+use Rattle.mpy_round_trip.proofs.Scraps.{gap}
 use Rattle.mpy_round_trip.proofs.PrintedLines.{name, mark, reserved, term_scraps, name_scraps}
 use Rattle.mpy_round_trip.proofs.TermSpelling.{terminals_in, HasTerminals, whole}
 

@@ -1,20 +1,20 @@
 -- The logical lines of a printed program nest as its functions.
-use Rattle.std.proofs.Common.{◌≡◌, ℕ, zero, suc, ◌+◌, ◌*◌, ◌<◌, Bool, true, false, List, [], ◌∷◌, ◌++◌, map, codes, None, refl, ap, sym, ◌∙◌, subst, append_assoc, append-nil, arith}
+use Rattle.std.proofs.Common.{◌≡◌, ℕ, suc, ◌+◌, ◌*◌, Bool, true, false, List, [], ◌∷◌, ◌++◌, map, codes, None, refl, ap, sym, ◌∙◌, subst, append_assoc, arith}
 use Rattle.std.proofs.lemmas.List.Elements.{All-head, All-tail}
-use Rattle.mpy_tree.specs.Syntax.{Term, no_term, a_term, at, Action, SetTo, SetBy, SetAt, SetAtBy, AppendTo, Give, Nothing, Leave, Again, Test, Loop, Each, Block, end, step, MaybeBlock, no_block, a_block, arm, Branches, no_arms, arm_and, Routine}
+use Rattle.mpy_tree.specs.Syntax.{no_term, a_term, at, Action, SetTo, SetBy, SetAt, SetAtBy, AppendTo, Give, Nothing, Leave, Again, Test, Loop, Each, Block, end, step, MaybeBlock, no_block, a_block, arm, Branches, no_arms, arm_and, Routine}
 use Rattle.mpy_tree.specs.Equality.{block_without_lines, action_without_lines, arms_without_lines, else_without_lines, without_lines}
 use Rattle.mpy_lexer.specs.declared.line.Line.{Line}
 use Rattle.mpy_parser.specs.declared.words.Word.TheVariants as word
 use Rattle.mpy_parser.specs.declared.terminals.Terminal.TheVariants as terminal
-use Rattle.mpy_parser.specs.Terminals.{word_of, terminals}
+use Rattle.mpy_parser.specs.Terminals.{word_of}
 use Rattle.mpy_parser.specs.Items.{function, when, else_when, otherwise, while, for_each, LineItem, simple, headed, SpellsItem, a_statement, a_header, give_nothing, pass, leave, again, an_if, a_while, a_for, open_body}
 use Rattle.mpy_parser.specs.Items.{an_elif as elif_header, an_else as else_header}
 use Rattle.mpy_parser.specs.Nesting.{ItemLine, item_line, MayStand, IsBlock, IsBody, AreArms, AreRoutines, no_lines, a_simple, a_loop, an_each, a_test, below, no_more, an_elif, an_else, no_routines, a_routine, routine}
-use Rattle.mpy_parser.specs.Programs.{IsItem, AreItems}
+use Rattle.mpy_parser.specs.Programs.{AreItems}
 use Rattle.mpy_round_trip.specs.Proper.{IsProperBlock, IsProperAction, AreProperArms, IsProperElse, IsProperRoutine, IsProper, HasStatement}
-use Rattle.mpy_round_trip.proofs.Scraps.{Scrap, gap, Printed, IsLineOf, AreLinesOf, an_empty_line, a_line}
+use Rattle.mpy_round_trip.proofs.Scraps.{Scrap, Printed, AreLinesOf, an_empty_line, a_line}
 use Rattle.mpy_round_trip.proofs.Scraps.{no_lines as no_lines_of}
-use Rattle.mpy_round_trip.proofs.PrintedLines.{name, mark, reserved, term_scraps, name_scraps, header_scraps, printed, block_lines, action_lines, arms_lines, else_lines, routine_lines, printed_lines}
+use Rattle.mpy_round_trip.proofs.PrintedLines.{printed, block_lines, action_lines, arms_lines, else_lines, routine_lines, printed_lines}
 use Rattle.mpy_round_trip.proofs.TermSpelling.{terminals_in, terminals_of_tokens}
 use Rattle.mpy_round_trip.proofs.ItemSpelling.{assignment, augmentation, assignment_at, augmentation_at, appending, returning, header, definition}
 

@@ -1,5 +1,5 @@
 -- A quoted text is a text token, and writes its characters.
-use Rattle.std.proofs.Common.{◌≡◌, ℕ, suc, ◌+◌, ◌<◌, Bool, true, false, not, ◌&&◌, ◌||◌, ◌==◌, eqb, cond, List, [], ◌∷◌, ◌++◌, length, codes, flat_map, Option, Some, None, option_map, refl, ap, sym, ◌∙◌, subst, append_assoc, arith, add-one, eq-eqb, eqb-true}
+use Rattle.std.proofs.Common.{◌≡◌, ℕ, ◌<◌, Bool, true, false, not, eqb, cond, List, [], ◌∷◌, ◌++◌, length, codes, flat_map, Some, refl, ap, sym, ◌∙◌, subst, append_assoc, arith, add-one, eq-eqb, eqb-true}
 use Rattle.std.specs.List.{list_all}
 use Rattle.std.proofs.lemmas.Bool.{and_parts, and_from}
 use Rattle.mpy_tree.specs.Printing.{escaped, quoted_text}

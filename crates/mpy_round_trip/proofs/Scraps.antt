@@ -68,7 +68,6 @@ pub record Printed : Type 0 where
   pub depth : ℕ
   pub scraps : List Scrap
 
-
 -- a line begins with a token, or is empty
 pub data Begins : ℕ → List Scrap → Type 0 where
   empty : Begins 0 []

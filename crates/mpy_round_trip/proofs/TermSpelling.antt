@@ -1,12 +1,12 @@
 -- The tokens of a printed expression spell it.
-use Rattle.std.proofs.Common.{◌≡◌, ℕ, zero, suc, ◌+◌, ◌<◌, ◌≤◌, Bool, true, false, cond, nat_lt, List, [], ◌∷◌, ◌++◌, map, codes, inl, inr, refl, ap, sym, ◌∙◌, subst, append_assoc, append-nil, arith, ltb-false, decimal}
+use Rattle.std.proofs.Common.{◌≡◌, ℕ, zero, suc, ◌≤◌, Bool, true, false, cond, nat_lt, List, [], ◌∷◌, ◌++◌, map, codes, inl, inr, refl, ap, sym, ◌∙◌, subst, append_assoc, append-nil, arith, ltb-false}
 use Rattle.std.proofs.lemmas.Bool.{cases_lt}
 use Rattle.mpy_tree.specs.declared.operators.ArithOp.{ArithOp}
 use Rattle.mpy_tree.specs.declared.operators.ArithOp.TheVariants.{Add, Sub, Mul, Floor, Rem, Power}
 use Rattle.mpy_tree.specs.declared.operators.CmpOp.{CmpOp}
 use Rattle.mpy_tree.specs.declared.operators.CmpOp.TheVariants.{Eq, Ne, Lt, Le, Gt, Ge, Member, NotMember}
 use Rattle.mpy_tree.specs.Syntax.{Term, Terms, MaybeTerm, Number, Truth, Quoted, Var, Items, Minus, Negation, Binary, Compare, Both, Either, Choose, At, Cut, Apply, no_terms, term_and, no_term, a_term}
-use Rattle.mpy_tree.specs.Printing.{arith_text, arith_level, level_of, quoted_text, truth_text}
+use Rattle.mpy_tree.specs.Printing.{arith_text, arith_level, level_of, truth_text}
 use Rattle.mpy_tree.specs.Printing.{left_level as left_number, right_level as right_number}
 use Rattle.mpy_lexer.specs.declared.token.Token.{Token}
 use Rattle.mpy_lexer.specs.declared.forms.Kind.TheVariants as kind
@@ -21,7 +21,7 @@ use Rattle.mpy_parser.specs.Grammar.{Spells, SpellsEnd, SpellsAll, conditional, 
 use Rattle.mpy_parser.specs.Grammar.{name as a_name}
 use Rattle.mpy_round_trip.specs.Proper.{IsProperTerm, AreProperTerms, IsProperEnd}
 use Rattle.mpy_round_trip.proofs.Scraps.{Scrap, gap, word as piece, scrap_of, words_in}
-use Rattle.mpy_round_trip.proofs.PrintedLines.{mark, reserved, part_scraps, compare_scraps, term_scraps, list_scraps, rest_scraps, end_scraps}
+use Rattle.mpy_round_trip.proofs.PrintedLines.{mark, part_scraps, compare_scraps, term_scraps, list_scraps, rest_scraps, end_scraps}
 use Rattle.mpy_round_trip.proofs.Numerals.{numeral_terminal}
 use Rattle.mpy_round_trip.proofs.Literals.{literal_terminal}
 

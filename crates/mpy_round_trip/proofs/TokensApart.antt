@@ -1,6 +1,5 @@
 -- Each token of a printed expression has its form, and ends where the next one begins.
-use Rattle.std.proofs.Common.{◌≡◌, ℕ, ◌≤◌, Bool, true, false, not, ◌&&◌, ◌||◌, ◌==◌, cond, nat_lt, decimal, List, [], ◌∷◌, ◌++◌, codes, refl, ap, sym, ◌∙◌, subst, arith}
-use Rattle.std.specs.Char.{is_ascii_digit, is_ascii_alphabetic}
+use Rattle.std.proofs.Common.{◌≡◌, ℕ, ◌≤◌, Bool, true, false, not, ◌||◌, ◌==◌, cond, nat_lt, decimal, List, [], ◌∷◌, ◌++◌, codes, refl, ap, sym, subst, arith}
 use Rattle.std.specs.List.{list_all}
 use Rattle.std.proofs.lemmas.Bool.{and_parts, and_from}
 use Rattle.std.proofs.lemmas.Bool.Decides.{nat_tests}
@@ -9,12 +8,11 @@ use Rattle.mpy_tree.specs.declared.operators.ArithOp.TheVariants.{Add, Sub, Mul,
 use Rattle.mpy_tree.specs.declared.operators.CmpOp.{CmpOp}
 use Rattle.mpy_tree.specs.declared.operators.CmpOp.TheVariants.{Eq, Ne, Lt, Le, Gt, Ge, Member, NotMember}
 use Rattle.mpy_tree.specs.Syntax.{Term, Terms, MaybeTerm, Number, Truth, Quoted, Var, Items, Minus, Negation, Binary, Compare, Both, Either, Choose, At, Cut, Apply, no_terms, term_and, no_term, a_term}
-use Rattle.mpy_tree.specs.Printing.{quoted_text, truth_text, arith_text, level_of, left_level, right_level}
-use Rattle.mpy_lexer.specs.declared.forms.Form.TheVariants.{Program}
+use Rattle.mpy_tree.specs.Printing.{truth_text, arith_text, level_of, left_level, right_level}
 use Rattle.mpy_lexer.specs.declared.forms.Kind.TheVariants as kind
 use Rattle.mpy_lexer.specs.Bytes.{is_name_start, is_name_byte}
 use Rattle.mpy_lexer.specs.Words.{is_reserved, mark_len}
-use Rattle.mpy_lexer.specs.TokenForms.{is_name, has_form}
+use Rattle.mpy_lexer.specs.TokenForms.{is_name}
 use Rattle.mpy_parser.specs.Terminals.{is_printable}
 use Rattle.mpy_round_trip.specs.Proper.{IsName, IsProperTerm, AreProperTerms, IsProperEnd, MayAugment}
 use Rattle.mpy_round_trip.proofs.Scraps.{Scrap, gap, word, next_byte, ends_before, AreApart}
