@@ -71,19 +71,19 @@ abbrev mutual
   IsProperAction loop Leave = MayStand loop Leave
   IsProperAction loop Again = MayStand loop Again
   IsProperAction loop (Test arms last) = HasArm arms × AreProperArms loop arms × IsProperElse loop last
-  IsProperAction loop (Loop e body) = IsProperTerm e × IsProperBody true body
-  IsProperAction loop (Each x e body) = IsName x × IsProperTerm e × IsProperBody true body
-
-  pub IsProperBody : Bool → Block → Type 0
-  IsProperBody loop body = HasStatement body × IsProperBlock loop body
+  IsProperAction loop (Loop e body) = IsProperTerm e × (HasStatement body × IsProperBlock true body)
+  IsProperAction loop (Each x e body) = IsName x × IsProperTerm e × (HasStatement body × IsProperBlock true body)
 
   pub AreProperArms : Bool → Branches → Type 0
   AreProperArms loop no_arms = Unit {0}
-  AreProperArms loop (arm_and (arm line e body) rest) = IsProperTerm e × IsProperBody loop body × AreProperArms loop rest
+  AreProperArms loop (arm_and (arm line e body) rest) = IsProperTerm e × (HasStatement body × IsProperBlock loop body) × AreProperArms loop rest
 
   pub IsProperElse : Bool → MaybeBlock → Type 0
   IsProperElse loop no_block = Unit {0}
-  IsProperElse loop (a_block body) = IsProperBody loop body
+  IsProperElse loop (a_block body) = HasStatement body × IsProperBlock loop body
+
+abbrev pub IsProperBody : Bool → Block → Type 0
+IsProperBody loop body = HasStatement body × IsProperBlock loop body
 
 pub record IsProperRoutine (r : Routine) : Type 0 where
   pub name : IsName r.name
