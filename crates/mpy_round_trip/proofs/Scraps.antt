@@ -7,12 +7,18 @@ use Rattle.mpy_lexer.specs.declared.forms.Kind.{Kind}
 use Rattle.mpy_lexer.specs.declared.forms.Kind.TheVariants.{Name, Reserved, Number, Text, Mark, Meta}
 use Rattle.mpy_lexer.specs.declared.token.Token.{Token}
 use Rattle.mpy_lexer.specs.declared.line.Line.{Line}
-use Rattle.mpy_lexer.specs.declared.brackets.Bracket.{Bracket}
 use Rattle.mpy_lexer.specs.Bytes.{is_name_byte}
 use Rattle.mpy_lexer.specs.Words.{mark_len}
 use Rattle.mpy_lexer.specs.Brackets.{first_of_mark, is_closing, closes, open_behind}
 use Rattle.mpy_lexer.specs.TokenForms.{has_form}
 use Rattle.mpy_parser.specs.Terminals.{is_printable}
+
+abbrev type_of : {A : Type 0} → A → Type 0
+type_of {A} x = A
+
+-- open brackets, the innermost first
+abbrev pub Brackets : Type 0
+Brackets = type_of (open_behind 0 [] 0)
 
 -- one space, or a token with its bytes
 pub data Scrap : Type 0 where
@@ -47,21 +53,21 @@ AreApart (gap ∷ ss) = AreApart ss
 AreApart (word k bytes ∷ ss) = (has_form Program k bytes ≡ true) × (list_all is_printable bytes ≡ true) × (ends_before k bytes (next_byte ss) ≡ true) × AreApart ss
 
 -- the brackets that are open behind the scraps
-abbrev pub open_behind_all : ℕ → List Bracket → List Scrap → List Bracket
+abbrev pub open_behind_all : ℕ → Brackets → List Scrap → Brackets
 open_behind_all line opened [] = opened
 open_behind_all line opened (gap ∷ ss) = open_behind_all line opened ss
 open_behind_all line opened (word k bytes ∷ ss) = open_behind_all line (open_behind line opened (first_of_mark k bytes)) ss
 
 -- each closing bracket closes one
-abbrev pub AreMatched : ℕ → List Bracket → List Scrap → Type 0
+abbrev pub AreMatched : ℕ → Brackets → List Scrap → Type 0
 AreMatched line opened [] = Unit {0}
 AreMatched line opened (gap ∷ ss) = AreMatched line opened ss
 AreMatched line opened (word k bytes ∷ ss) = (not (is_closing (first_of_mark k bytes)) || closes opened (first_of_mark k bytes) ≡ true) × AreMatched line (open_behind line opened (first_of_mark k bytes)) ss
 
 -- brackets open and close among the scraps, whatever is open before
 pub record AreBalanced (ss : List Scrap) : Type 0 where
-  pub same : (line : ℕ) (opened : List Bracket) → open_behind_all line opened ss ≡ opened
-  pub matched : (line : ℕ) (opened : List Bracket) → AreMatched line opened ss
+  pub same : (line : ℕ) (opened : Brackets) → open_behind_all line opened ss ≡ opened
+  pub matched : (line : ℕ) (opened : Brackets) → AreMatched line opened ss
 
 -- a line of the text: so many blocks deep
 pub record Printed : Type 0 where
