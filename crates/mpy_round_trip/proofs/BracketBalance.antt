@@ -9,15 +9,14 @@ use Rattle.mpy_tree.specs.Syntax.{Term, Terms, MaybeTerm, Number, Truth, Quoted,
 use Rattle.mpy_tree.specs.Printing.{quoted_text, truth_text, arith_text, level_of, left_level, right_level}
 use Rattle.mpy_lexer.specs.declared.forms.Kind.{Kind}
 use Rattle.mpy_lexer.specs.declared.forms.Kind.TheVariants as kind
-use Rattle.mpy_lexer.specs.declared.brackets.Bracket.{Bracket}
 use Rattle.mpy_lexer.specs.Brackets.{first_of_mark, is_opening, is_closing, closes, open_behind}
-use Rattle.mpy_round_trip.proofs.Scraps.{Scrap, gap, word, open_behind_all, AreMatched, AreBalanced}
+use Rattle.mpy_round_trip.proofs.Scraps.{Brackets, Scrap, gap, word, open_behind_all, AreMatched, AreBalanced}
 use Rattle.mpy_round_trip.proofs.PrintedLines.{mark, reserved, part_scraps, compare_scraps, term_scraps, list_scraps, rest_scraps, end_scraps, name_scraps}
 
 -- what is put before others leaves open what was open
 pub record IsBalanced (put : List Scrap → List Scrap) : Type 0 where
-  pub same : (line : ℕ) (opened : List Bracket) (ss : List Scrap) → open_behind_all line opened (put ss) ≡ open_behind_all line opened ss
-  pub matched : (line : ℕ) (opened : List Bracket) (ss : List Scrap) → AreMatched line opened ss → AreMatched line opened (put ss)
+  pub same : (line : ℕ) (opened : Brackets) (ss : List Scrap) → open_behind_all line opened (put ss) ≡ open_behind_all line opened ss
+  pub matched : (line : ℕ) (opened : Brackets) (ss : List Scrap) → AreMatched line opened ss → AreMatched line opened (put ss)
 
 pub nothing : IsBalanced (λ ss. ss)
 nothing = record { same = λ line opened ss. refl; matched = λ line opened ss h. h }
@@ -35,14 +34,14 @@ and_then {put} {then} p q = record {
 abbrev IsPlain : ℕ → Type 0
 IsPlain c = (is_opening c ≡ false) × (is_closing c ≡ false)
 
-closes_nothing : (opened : List Bracket) (c : ℕ) → is_closing c ≡ false → closes opened c ≡ false
+closes_nothing : (opened : Brackets) (c : ℕ) → is_closing c ≡ false → closes opened c ≡ false
 closes_nothing [] c h = refl
 closes_nothing (b ∷ outer) c h =
     let p = or_parts (c == 41 || c == 93) (c == 125) h in
     let q = or_parts (c == 41) (c == 93) p.0 in
     or_from _ _ (or_from _ _ (and_right (b.mark == 40) (c == 41) q.0) (and_right (b.mark == 91) (c == 93) q.1)) (and_right (b.mark == 123) (c == 125) p.1)
 
-stays_open : (line : ℕ) (opened : List Bracket) (c : ℕ) → IsPlain c → open_behind line opened c ≡ opened
+stays_open : (line : ℕ) (opened : Brackets) (c : ℕ) → IsPlain c → open_behind line opened c ≡ opened
 stays_open line opened c h = rw (h.0, closes_nothing opened c h.1) refl
 
 pub token : (k : Kind) (bytes : List ℕ) → IsPlain (first_of_mark k bytes) → IsBalanced (λ ss. word k bytes ∷ ss)
