@@ -10,3 +10,4 @@ pub mod BracketBalance
 pub mod TokensApart
 pub mod FineLines
 pub mod PrintedReading
+pub mod LimitLengths
