@@ -9,5 +9,6 @@ pub mod LineNesting
 pub mod BracketBalance
 pub mod TokensApart
 pub mod FineLines
-pub mod PrintedReading
 pub mod LimitLengths
+pub mod LineLengths
+pub mod PrintedReading
