@@ -1,1 +1,2 @@
 pub mod Scraps
+pub mod lexing
