@@ -1,14 +1,4 @@
 pub mod Scraps
-pub mod PrintedLines
-pub mod PrintedText
-pub mod Numerals
-pub mod Literals
-pub mod TermSpelling
-pub mod ItemSpelling
-pub mod LineNesting
-pub mod BracketBalance
-pub mod TokensApart
-pub mod FineLines
-pub mod LimitLengths
-pub mod LineLengths
-pub mod PrintedReading
+pub mod printing
+pub mod lexing
+pub mod ReadBack

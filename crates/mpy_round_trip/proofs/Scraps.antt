@@ -13,7 +13,8 @@ use Rattle.mpy_lexer.specs.Brackets.{first_of_mark, is_closing, closes, open_beh
 use Rattle.mpy_lexer.specs.TokenForms.{has_form}
 use Rattle.mpy_parser.specs.Terminals.{is_printable}
 
-abbrev type_of : {A : Type 0} → A → Type 0
+-- the type of a value, where no name of it can be cited here
+abbrev pub type_of : {A : Type 0} → A → Type 0
 type_of {A} x = A
 
 -- open brackets, the innermost first

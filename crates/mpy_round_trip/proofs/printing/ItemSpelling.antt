@@ -15,8 +15,8 @@ use Rattle.mpy_parser.specs.Grammar.{Spells}
 use Rattle.mpy_parser.specs.Items.{Opening, function, headed, simple, augmented, assign, augment, put, augment_at, append, give, name_list, SpellsHeader, SpellsItem, a_function, open_body, a_statement, a_header}
 use Rattle.mpy_round_trip.specs.Proper.{IsProperTerm, MayAugment}
 use Rattle.mpy_round_trip.proofs.Scraps.{gap}
-use Rattle.mpy_round_trip.proofs.PrintedLines.{name, mark, reserved, term_scraps, name_scraps}
-use Rattle.mpy_round_trip.proofs.TermSpelling.{terminals_in, HasTerminals, whole}
+use Rattle.mpy_round_trip.proofs.printing.ProgramLines.{name, mark, reserved, term_scraps, name_scraps}
+use Rattle.mpy_round_trip.proofs.printing.TermSpelling.{terminals_in, HasTerminals, whole}
 
 -- an expression that ends a line
 last : (e : Term) → IsProperTerm e → Spells level.Conditional (terminals_in (term_scraps e [])) e

@@ -11,7 +11,7 @@ use Rattle.mpy_lexer.specs.declared.forms.Kind.{Kind}
 use Rattle.mpy_lexer.specs.declared.forms.Kind.TheVariants as kind
 use Rattle.mpy_lexer.specs.Brackets.{first_of_mark, is_opening, is_closing, closes, open_behind}
 use Rattle.mpy_round_trip.proofs.Scraps.{Brackets, Scrap, gap, word, open_behind_all, AreMatched, AreBalanced}
-use Rattle.mpy_round_trip.proofs.PrintedLines.{mark, reserved, part_scraps, compare_scraps, term_scraps, list_scraps, rest_scraps, end_scraps, name_scraps}
+use Rattle.mpy_round_trip.proofs.printing.ProgramLines.{mark, reserved, part_scraps, compare_scraps, term_scraps, list_scraps, rest_scraps, end_scraps, name_scraps}
 
 -- what is put before others leaves open what was open
 pub record IsBalanced (put : List Scrap → List Scrap) : Type 0 where

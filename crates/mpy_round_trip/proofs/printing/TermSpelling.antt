@@ -21,9 +21,9 @@ use Rattle.mpy_parser.specs.Grammar.{Spells, SpellsEnd, SpellsAll, conditional, 
 use Rattle.mpy_parser.specs.Grammar.{name as a_name}
 use Rattle.mpy_round_trip.specs.Proper.{IsProperTerm, AreProperTerms, IsProperEnd}
 use Rattle.mpy_round_trip.proofs.Scraps.{Scrap, gap, word as piece, scrap_of, words_in}
-use Rattle.mpy_round_trip.proofs.PrintedLines.{mark, part_scraps, compare_scraps, term_scraps, list_scraps, rest_scraps, end_scraps}
-use Rattle.mpy_round_trip.proofs.Numerals.{numeral_terminal}
-use Rattle.mpy_round_trip.proofs.Literals.{literal_terminal}
+use Rattle.mpy_round_trip.proofs.printing.ProgramLines.{mark, part_scraps, compare_scraps, term_scraps, list_scraps, rest_scraps, end_scraps}
+use Rattle.mpy_round_trip.proofs.printing.Numerals.{numeral_terminal}
+use Rattle.mpy_round_trip.proofs.printing.Literals.{literal_terminal}
 
 -- what the grammar sees of the scraps
 abbrev pub terminals_in : List Scrap → List Terminal

@@ -5,7 +5,7 @@ use Rattle.mpy_tree.specs.declared.operators.CmpOp.TheVariants.{Eq, Ne, Lt, Le, 
 use Rattle.mpy_tree.specs.Syntax.{Term, Terms, MaybeTerm, Number, Truth, Quoted, Var, Items, Minus, Negation, Binary, Compare, Both, Either, Choose, At, Cut, Apply, no_terms, term_and, no_term, a_term, at, Action, SetTo, SetBy, SetAt, SetAtBy, AppendTo, Give, Nothing, Leave, Again, Test, Loop, Each, Block, end, step, MaybeBlock, no_block, a_block, arm, Branches, no_arms, arm_and, Routine}
 use Rattle.mpy_tree.specs.Printing.{commas, arith_text, compare_text, level_of, left_level, right_level, at_level, text_of, texts_of, end_text, indented, return_text, block_text, action_text, arms_text, else_text, routine_text, program_text}
 use Rattle.mpy_round_trip.proofs.Scraps.{Scrap, gap, Printed, bytes_of, text_of_lines}
-use Rattle.mpy_round_trip.proofs.PrintedLines.{name, reserved, mark, part_scraps, compare_scraps, term_scraps, list_scraps, rest_scraps, end_scraps, name_scraps, return_scraps, header_scraps, printed, block_lines, action_lines, arms_lines, else_lines, routine_lines, printed_lines}
+use Rattle.mpy_round_trip.proofs.printing.ProgramLines.{name, reserved, mark, part_scraps, compare_scraps, term_scraps, list_scraps, rest_scraps, end_scraps, name_scraps, return_scraps, header_scraps, printed, block_lines, action_lines, arms_lines, else_lines, routine_lines, printed_lines}
 
 -- what is put before others has this text
 abbrev HasText : (List Scrap → List Scrap) → List ℕ → Type 0

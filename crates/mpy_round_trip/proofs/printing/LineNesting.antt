@@ -14,9 +14,9 @@ use Rattle.mpy_parser.specs.Programs.{AreItems}
 use Rattle.mpy_round_trip.specs.Proper.{IsProperBlock, IsProperAction, AreProperArms, IsProperElse, IsProperRoutine, IsProper, HasStatement}
 use Rattle.mpy_round_trip.proofs.Scraps.{Scrap, Printed, AreLinesOf, an_empty_line, a_line}
 use Rattle.mpy_round_trip.proofs.Scraps.{no_lines as no_lines_of}
-use Rattle.mpy_round_trip.proofs.PrintedLines.{printed, block_lines, action_lines, arms_lines, else_lines, routine_lines, printed_lines}
-use Rattle.mpy_round_trip.proofs.TermSpelling.{terminals_in, terminals_of_tokens}
-use Rattle.mpy_round_trip.proofs.ItemSpelling.{assignment, augmentation, assignment_at, augmentation_at, appending, returning, header, definition}
+use Rattle.mpy_round_trip.proofs.printing.ProgramLines.{printed, block_lines, action_lines, arms_lines, else_lines, routine_lines, printed_lines}
+use Rattle.mpy_round_trip.proofs.printing.TermSpelling.{terminals_in, terminals_of_tokens}
+use Rattle.mpy_round_trip.proofs.printing.ItemSpelling.{assignment, augmentation, assignment_at, augmentation_at, appending, returning, header, definition}
 
 -- The first of the logical lines are items, and the others are the lines of what is printed further.
 record Taken (ps : List Printed) (ls : List Line) (own : List ItemLine) : Type 0 where

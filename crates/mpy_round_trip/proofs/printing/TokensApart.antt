@@ -16,9 +16,9 @@ use Rattle.mpy_lexer.specs.TokenForms.{is_name}
 use Rattle.mpy_parser.specs.Terminals.{is_printable}
 use Rattle.mpy_round_trip.specs.Proper.{IsName, IsProperTerm, AreProperTerms, IsProperEnd, MayAugment}
 use Rattle.mpy_round_trip.proofs.Scraps.{Scrap, gap, word, next_byte, ends_before, AreApart}
-use Rattle.mpy_round_trip.proofs.PrintedLines.{name, mark, reserved, part_scraps, compare_scraps, term_scraps, list_scraps, rest_scraps, end_scraps}
-use Rattle.mpy_round_trip.proofs.Numerals.{numeral, numeral_form, printable_digits, first_digit}
-use Rattle.mpy_round_trip.proofs.Literals.{literal_form, printable_literal}
+use Rattle.mpy_round_trip.proofs.printing.ProgramLines.{name, mark, reserved, part_scraps, compare_scraps, term_scraps, list_scraps, rest_scraps, end_scraps}
+use Rattle.mpy_round_trip.proofs.printing.Numerals.{numeral, numeral_form, printable_digits, first_digit}
+use Rattle.mpy_round_trip.proofs.printing.Literals.{literal_form, printable_literal}
 
 -- a byte that may stand behind any expression
 abbrev pub MayFollow : ℕ → Type 0
