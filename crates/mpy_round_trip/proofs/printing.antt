@@ -9,5 +9,4 @@ pub mod LineNesting
 pub mod BracketBalance
 pub mod TokensApart
 pub mod FineLines
-pub mod LineLengths
 pub mod LimitLengths
