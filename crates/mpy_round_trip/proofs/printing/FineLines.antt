@@ -11,8 +11,7 @@ use Rattle.mpy_lexer.specs.Words.{is_reserved, mark_len}
 use Rattle.mpy_parser.specs.Terminals.{is_printable}
 use Rattle.std.specs.List.{list_all}
 use Rattle.mpy_round_trip.specs.Proper.{IsName, IsProperTerm, IsProperBlock, IsProperAction, AreProperArms, IsProperElse, IsProperRoutine, IsProper, MayAugment}
-use Rattle.mpy_round_trip.proofs.Scraps.{Scrap, gap, word, Printed, next_byte, AreApart, IsFine}
-use Rattle.mpy_round_trip.proofs.Scraps.{empty, token as begins_with}
+use Rattle.mpy_round_trip.proofs.Scraps.{Scrap, gap, word, Printed, next_byte, AreApart, IsFine, empty, token as begins_with}
 use Rattle.mpy_round_trip.proofs.printing.ProgramLines.{name, mark, reserved, term_scraps, name_scraps, header_scraps, printed, block_lines, action_lines, arms_lines, else_lines, routine_lines, printed_lines}
 use Rattle.mpy_round_trip.proofs.printing.BracketBalance.{IsBalanced, space, and_then, token, in_round, in_square, augmenting, term_balanced, names_balanced, all_balanced, nothing}
 use Rattle.mpy_round_trip.proofs.printing.TokensApart.{name_apart, term_apart, augmenting_apart}

@@ -7,13 +7,11 @@ use Rattle.mpy_lexer.specs.declared.line.Line.{Line}
 use Rattle.mpy_parser.specs.declared.words.Word.TheVariants as word
 use Rattle.mpy_parser.specs.declared.terminals.Terminal.TheVariants as terminal
 use Rattle.mpy_parser.specs.Terminals.{word_of}
-use Rattle.mpy_parser.specs.Items.{function, when, else_when, otherwise, while, for_each, LineItem, simple, headed, SpellsItem, a_statement, a_header, give_nothing, pass, leave, again, an_if, a_while, a_for, open_body}
-use Rattle.mpy_parser.specs.Items.{an_elif as elif_header, an_else as else_header}
+use Rattle.mpy_parser.specs.Items.{function, when, else_when, otherwise, while, for_each, LineItem, simple, headed, SpellsItem, a_statement, a_header, give_nothing, pass, leave, again, an_if, a_while, a_for, open_body, an_elif as elif_header, an_else as else_header}
 use Rattle.mpy_parser.specs.Nesting.{ItemLine, item_line, MayStand, IsBlock, IsBody, AreArms, AreRoutines, no_lines, a_simple, a_loop, an_each, a_test, below, no_more, an_elif, an_else, no_routines, a_routine, routine}
 use Rattle.mpy_parser.specs.Programs.{AreItems}
 use Rattle.mpy_round_trip.specs.Proper.{IsProperBlock, IsProperAction, AreProperArms, IsProperElse, IsProperRoutine, IsProper, HasStatement}
-use Rattle.mpy_round_trip.proofs.Scraps.{Scrap, Printed, AreLinesOf, an_empty_line, a_line}
-use Rattle.mpy_round_trip.proofs.Scraps.{no_lines as no_lines_of}
+use Rattle.mpy_round_trip.proofs.Scraps.{Scrap, Printed, AreLinesOf, an_empty_line, a_line, no_lines as no_lines_of}
 use Rattle.mpy_round_trip.proofs.printing.ProgramLines.{printed, block_lines, action_lines, arms_lines, else_lines, routine_lines, printed_lines}
 use Rattle.mpy_round_trip.proofs.printing.TermSpelling.{terminals_in, terminals_of_tokens}
 use Rattle.mpy_round_trip.proofs.printing.ItemSpelling.{assignment, augmentation, assignment_at, augmentation_at, appending, returning, header, definition}
