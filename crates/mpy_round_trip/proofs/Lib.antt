@@ -1,0 +1,4 @@
+pub mod Scraps
+pub mod printing
+pub mod lexing
+pub mod ReadBack

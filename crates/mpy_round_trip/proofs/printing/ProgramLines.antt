@@ -1,0 +1,116 @@
+-- The printed lines of a program, in tokens and spaces. Each function puts what it makes before what follows.
+use Rattle.std.specs.Prelude.{ℕ, suc, List, [], ◌∷◌, ◌++◌, nat_lt, if◌then◌else◌, codes}
+use Rattle.std.specs.Fmt.{decimal}
+use Rattle.mpy_tree.specs.declared.operators.CmpOp.{CmpOp}
+use Rattle.mpy_tree.specs.declared.operators.CmpOp.TheVariants.{Eq, Ne, Lt, Le, Gt, Ge, Member, NotMember}
+use Rattle.mpy_tree.specs.Syntax.{Term, Terms, MaybeTerm, Number, Truth, Quoted, Var, Items, Minus, Negation, Binary, Compare, Both, Either, Choose, At, Cut, Apply, no_terms, term_and, no_term, a_term, at, Action, SetTo, SetBy, SetAt, SetAtBy, AppendTo, Give, Nothing, Leave, Again, Test, Loop, Each, Block, end, step, MaybeBlock, no_block, a_block, arm, Branches, no_arms, arm_and, Routine}
+use Rattle.mpy_tree.specs.Printing.{quoted_text, truth_text, arith_text, level_of, left_level, right_level}
+use Rattle.mpy_lexer.specs.declared.forms.Kind.TheVariants as kind
+use Rattle.mpy_round_trip.proofs.Scraps.{Scrap, gap, word, Printed}
+
+abbrev pub name : List ℕ → Scrap
+name x = word kind.Name x
+
+abbrev pub reserved : List ℕ → Scrap
+reserved bytes = word kind.Reserved bytes
+
+abbrev pub mark : List ℕ → Scrap
+mark bytes = word kind.Mark bytes
+
+-- a part, in parentheses where its own level is below the one asked for
+abbrev pub part_scraps : ℕ → Term → (List Scrap → List Scrap) → List Scrap → List Scrap
+part_scraps k e inner ss = if nat_lt (level_of e) k then mark (codes "(") ∷ inner (mark (codes ")") ∷ ss) else inner ss
+
+abbrev pub compare_scraps : CmpOp → List Scrap → List Scrap
+compare_scraps Eq ss = mark (codes "==") ∷ ss
+compare_scraps Ne ss = mark (codes "!=") ∷ ss
+compare_scraps Lt ss = mark (codes "<") ∷ ss
+compare_scraps Le ss = mark (codes "<=") ∷ ss
+compare_scraps Gt ss = mark (codes ">") ∷ ss
+compare_scraps Ge ss = mark (codes ">=") ∷ ss
+compare_scraps Member ss = reserved (codes "in") ∷ ss
+compare_scraps NotMember ss = reserved (codes "not") ∷ gap ∷ reserved (codes "in") ∷ ss
+
+abbrev mutual
+  pub term_scraps : Term → List Scrap → List Scrap
+  term_scraps (Number n) ss = word kind.Number (decimal n) ∷ ss
+  term_scraps (Truth b) ss = reserved (truth_text b) ∷ ss
+  term_scraps (Quoted cs) ss = word kind.Text (quoted_text cs) ∷ ss
+  term_scraps (Var x) ss = name x ∷ ss
+  term_scraps (Items es) ss = mark (codes "[") ∷ list_scraps es (mark (codes "]") ∷ ss)
+  term_scraps (Minus e) ss = mark (codes "-") ∷ part_scraps 7 e (term_scraps e) ss
+  term_scraps (Negation e) ss = reserved (codes "not") ∷ gap ∷ part_scraps 3 e (term_scraps e) ss
+  term_scraps (Binary op a b) ss = part_scraps (left_level op) a (term_scraps a) (gap ∷ mark (arith_text op) ∷ gap ∷ part_scraps (right_level op) b (term_scraps b) ss)
+  term_scraps (Compare op a b) ss = part_scraps 5 a (term_scraps a) (gap ∷ compare_scraps op (gap ∷ part_scraps 5 b (term_scraps b) ss))
+  term_scraps (Both a b) ss = part_scraps 2 a (term_scraps a) (gap ∷ reserved (codes "and") ∷ gap ∷ part_scraps 3 b (term_scraps b) ss)
+  term_scraps (Either a b) ss = part_scraps 1 a (term_scraps a) (gap ∷ reserved (codes "or") ∷ gap ∷ part_scraps 2 b (term_scraps b) ss)
+  term_scraps (Choose t a b) ss = part_scraps 1 a (term_scraps a) (gap ∷ reserved (codes "if") ∷ gap ∷ part_scraps 1 t (term_scraps t) (gap ∷ reserved (codes "else") ∷ gap ∷ term_scraps b ss))
+  term_scraps (At v i) ss = part_scraps 9 v (term_scraps v) (mark (codes "[") ∷ term_scraps i (mark (codes "]") ∷ ss))
+  term_scraps (Cut v from to) ss = part_scraps 9 v (term_scraps v) (mark (codes "[") ∷ end_scraps from (mark (codes ":") ∷ end_scraps to (mark (codes "]") ∷ ss)))
+  term_scraps (Apply f es) ss = name f ∷ mark (codes "(") ∷ list_scraps es (mark (codes ")") ∷ ss)
+
+  pub list_scraps : Terms → List Scrap → List Scrap
+  list_scraps no_terms ss = ss
+  list_scraps (term_and e es) ss = term_scraps e (rest_scraps es ss)
+
+  -- the expressions behind the first
+  pub rest_scraps : Terms → List Scrap → List Scrap
+  rest_scraps no_terms ss = ss
+  rest_scraps (term_and e es) ss = mark (codes ",") ∷ gap ∷ term_scraps e (rest_scraps es ss)
+
+  pub end_scraps : MaybeTerm → List Scrap → List Scrap
+  end_scraps no_term ss = ss
+  end_scraps (a_term e) ss = term_scraps e ss
+
+abbrev pub name_scraps : List (List ℕ) → List Scrap → List Scrap
+name_scraps [] ss = ss
+name_scraps (x ∷ []) ss = name x ∷ ss
+name_scraps (x ∷ y ∷ rest) ss = name x ∷ mark (codes ",") ∷ gap ∷ name_scraps (y ∷ rest) ss
+
+abbrev pub return_scraps : MaybeTerm → List Scrap
+return_scraps no_term = reserved (codes "return") ∷ []
+return_scraps (a_term e) = reserved (codes "return") ∷ gap ∷ term_scraps e []
+
+-- a word, an expression and a colon
+abbrev pub header_scraps : List ℕ → Term → List Scrap
+header_scraps bytes e = reserved bytes ∷ gap ∷ term_scraps e (mark (codes ":") ∷ [])
+
+abbrev pub printed : ℕ → List Scrap → Printed
+printed d ss = record { depth = d; scraps = ss }
+
+abbrev mutual
+  pub block_lines : ℕ → Block → List Printed → List Printed
+  block_lines d end ps = ps
+  block_lines d (step (at line act) rest) ps = action_lines d act (block_lines d rest ps)
+
+  pub action_lines : ℕ → Action → List Printed → List Printed
+  action_lines d (SetTo x e) ps = printed d (name x ∷ gap ∷ mark (codes "=") ∷ gap ∷ term_scraps e []) ∷ ps
+  action_lines d (SetBy x op e) ps = printed d (name x ∷ gap ∷ mark (arith_text op ++ codes "=") ∷ gap ∷ term_scraps e []) ∷ ps
+  action_lines d (SetAt x i e) ps = printed d (name x ∷ mark (codes "[") ∷ term_scraps i (mark (codes "]") ∷ gap ∷ mark (codes "=") ∷ gap ∷ term_scraps e [])) ∷ ps
+  action_lines d (SetAtBy x i op e) ps = printed d (name x ∷ mark (codes "[") ∷ term_scraps i (mark (codes "]") ∷ gap ∷ mark (arith_text op ++ codes "=") ∷ gap ∷ term_scraps e [])) ∷ ps
+  action_lines d (AppendTo x e) ps = printed d (name x ∷ mark (codes ".") ∷ name (codes "append") ∷ mark (codes "(") ∷ term_scraps e (mark (codes ")") ∷ [])) ∷ ps
+  action_lines d (Give e) ps = printed d (return_scraps e) ∷ ps
+  action_lines d Nothing ps = printed d (reserved (codes "pass") ∷ []) ∷ ps
+  action_lines d Leave ps = printed d (reserved (codes "break") ∷ []) ∷ ps
+  action_lines d Again ps = printed d (reserved (codes "continue") ∷ []) ∷ ps
+  action_lines d (Test arms last) ps = arms_lines d (codes "if") arms (else_lines d last ps)
+  action_lines d (Loop e body) ps = printed d (header_scraps (codes "while") e) ∷ block_lines (suc d) body ps
+  action_lines d (Each x e body) ps = printed d (reserved (codes "for") ∷ gap ∷ name x ∷ gap ∷ header_scraps (codes "in") e) ∷ block_lines (suc d) body ps
+
+  -- the first arm has one word before its test, the others another
+  pub arms_lines : ℕ → List ℕ → Branches → List Printed → List Printed
+  arms_lines d bytes no_arms ps = ps
+  arms_lines d bytes (arm_and (arm line e body) rest) ps = printed d (header_scraps bytes e) ∷ block_lines (suc d) body (arms_lines d (codes "elif") rest ps)
+
+  pub else_lines : ℕ → MaybeBlock → List Printed → List Printed
+  else_lines d no_block ps = ps
+  else_lines d (a_block body) ps = printed d (reserved (codes "else") ∷ mark (codes ":") ∷ []) ∷ block_lines (suc d) body ps
+
+abbrev pub routine_lines : Routine → List Printed → List Printed
+routine_lines r ps = printed 0 (reserved (codes "def") ∷ gap ∷ name r.name ∷ mark (codes "(") ∷ name_scraps r.params (mark (codes ")") ∷ mark (codes ":") ∷ [])) ∷ block_lines 1 r.body ps
+
+-- functions are separated by one empty line
+abbrev pub printed_lines : List Routine → List Printed
+printed_lines [] = []
+printed_lines (r ∷ []) = routine_lines r []
+printed_lines (r ∷ s ∷ rest) = routine_lines r (printed 0 [] ∷ printed_lines (s ∷ rest))

@@ -1,0 +1,279 @@
+-- The tokens of a printed expression spell it.
+use Rattle.std.proofs.Common.{◌≡◌, ℕ, zero, suc, ◌≤◌, Bool, true, false, cond, nat_lt, List, [], ◌∷◌, ◌++◌, map, codes, inl, inr, refl, ap, sym, ◌∙◌, subst, append_assoc, append-nil, arith, ltb-false}
+use Rattle.std.proofs.lemmas.Bool.{cases_lt}
+use Rattle.mpy_tree.specs.declared.operators.ArithOp.{ArithOp}
+use Rattle.mpy_tree.specs.declared.operators.ArithOp.TheVariants.{Add, Sub, Mul, Floor, Rem, Power}
+use Rattle.mpy_tree.specs.declared.operators.CmpOp.{CmpOp}
+use Rattle.mpy_tree.specs.declared.operators.CmpOp.TheVariants.{Eq, Ne, Lt, Le, Gt, Ge, Member, NotMember}
+use Rattle.mpy_tree.specs.Syntax.{Term, Terms, MaybeTerm, Number, Truth, Quoted, Var, Items, Minus, Negation, Binary, Compare, Both, Either, Choose, At, Cut, Apply, no_terms, term_and, no_term, a_term}
+use Rattle.mpy_tree.specs.Printing.{arith_text, arith_level, level_of, truth_text, left_level as left_number, right_level as right_number}
+use Rattle.mpy_lexer.specs.declared.token.Token.{Token}
+use Rattle.mpy_lexer.specs.declared.forms.Kind.TheVariants as kind
+use Rattle.mpy_parser.specs.declared.levels.Level.{Level}
+use Rattle.mpy_parser.specs.declared.levels.Level.TheVariants as level
+use Rattle.mpy_parser.specs.declared.words.Word.TheVariants as word
+use Rattle.mpy_parser.specs.declared.terminals.Terminal.{Terminal}
+use Rattle.mpy_parser.specs.declared.terminals.Terminal.TheVariants as terminal
+use Rattle.mpy_parser.specs.Terminals.{word_of, terminal_by, terminal_of, terminals}
+use Rattle.mpy_parser.specs.Levels.{above, operator_level, left_level, right_level, arith_word}
+use Rattle.mpy_parser.specs.Grammar.{Spells, SpellsEnd, SpellsAll, conditional, disjunction, conjunction, negation, compared, arithmetic, minus, index, slice, number, quoted, truth, call, items, parenthesized, higher, missing, given, none, one, more, comparison, truth_word, name as a_name}
+use Rattle.mpy_round_trip.specs.Proper.{IsProperTerm, AreProperTerms, IsProperEnd}
+use Rattle.mpy_round_trip.proofs.Scraps.{Scrap, gap, word as piece, scrap_of, words_in}
+use Rattle.mpy_round_trip.proofs.printing.ProgramLines.{mark, part_scraps, compare_scraps, term_scraps, list_scraps, rest_scraps, end_scraps}
+use Rattle.mpy_round_trip.proofs.printing.Numerals.{numeral_terminal}
+use Rattle.mpy_round_trip.proofs.printing.Literals.{literal_terminal}
+
+-- what the grammar sees of the scraps
+abbrev pub terminals_in : List Scrap → List Terminal
+terminals_in [] = []
+terminals_in (gap ∷ ss) = terminals_in ss
+terminals_in (piece k bytes ∷ ss) = terminal_by k bytes ∷ terminals_in ss
+
+abbrev seen : Scrap → Terminal
+seen gap = terminal.Other
+seen (piece k bytes) = terminal_by k bytes
+
+seen_tokens : (ts : List Token) → map seen (map scrap_of ts) ≡ terminals ts
+seen_tokens [] = refl
+seen_tokens (t ∷ ts) = ap (λ l. terminal_of t ∷ l) (seen_tokens ts)
+
+seen_words : (ss : List Scrap) → map seen (words_in ss) ≡ terminals_in ss
+seen_words [] = refl
+seen_words (gap ∷ ss) = seen_words ss
+seen_words (piece k bytes ∷ ss) = ap (λ l. terminal_by k bytes ∷ l) (seen_words ss)
+
+pub terminals_of_tokens : (ts : List Token) (ss : List Scrap) → map scrap_of ts ≡ words_in ss → terminals ts ≡ terminals_in ss
+terminals_of_tokens ts ss h = sym (seen_tokens ts) ∙ ap (map seen) h ∙ seen_words ss
+
+-- the level that a number of the printer's stands for
+abbrev named : ℕ → Level
+named zero = level.Conditional
+named (suc n) = above (named n)
+
+lower : (j k : ℕ) (xs : List Terminal) (e : Term) → k ≤ j → Spells (named j) xs e → Spells (named k) xs e
+lower zero k xs e h s = let same : 0 ≡ k = omega arith in subst (λ n. Spells (named n) xs e) same s
+lower (suc j) k xs e h s = elim (cases_lt k (suc j)) [
+  | inl l ↦ lower j k xs e (omega arith) (higher {k = named j} s)
+  | inr g ↦ (let same : suc j ≡ k = omega arith in subst (λ n. Spells (named n) xs e) same s)
+]
+
+operator_named : (op : ArithOp) → named (arith_level op) ≡ operator_level op
+operator_named Add = refl
+operator_named Sub = refl
+operator_named Mul = refl
+operator_named Floor = refl
+operator_named Rem = refl
+operator_named Power = refl
+
+left_named : (op : ArithOp) → named (left_number op) ≡ left_level op
+left_named Add = refl
+left_named Sub = refl
+left_named Mul = refl
+left_named Floor = refl
+left_named Rem = refl
+left_named Power = refl
+
+right_named : (op : ArithOp) → named (right_number op) ≡ right_level op
+right_named Add = refl
+right_named Sub = refl
+right_named Mul = refl
+right_named Floor = refl
+right_named Rem = refl
+right_named Power = refl
+
+left_bound : (op : ArithOp) → left_number op ≤ 10
+left_bound Add = omega arith
+left_bound Sub = omega arith
+left_bound Mul = omega arith
+left_bound Floor = omega arith
+left_bound Rem = omega arith
+left_bound Power = omega arith
+
+right_bound : (op : ArithOp) → right_number op ≤ 10
+right_bound Add = omega arith
+right_bound Sub = omega arith
+right_bound Mul = omega arith
+right_bound Floor = omega arith
+right_bound Rem = omega arith
+right_bound Power = omega arith
+
+-- what is put before others has these terminals
+abbrev pub HasTerminals : (List Scrap → List Scrap) → List Terminal → Type 0
+HasTerminals put ts = (ss : List Scrap) → terminals_in (put ss) ≡ ts ++ terminals_in ss
+
+-- what is put before others spells the expression, at a level
+pub record IsSpelled (k : ℕ) (put : List Scrap → List Scrap) (e : Term) : Type 0 where
+  pub own : List Terminal
+  pub onto : HasTerminals put own
+  pub spells : Spells (named k) own e
+
+pub record AreSpelled (put : List Scrap → List Scrap) (es : Terms) : Type 0 where
+  pub own : List Terminal
+  pub onto : HasTerminals put own
+  pub spells : SpellsAll own es
+
+-- the expressions behind another
+record AreSpelledBehind (put : List Scrap → List Scrap) (es : Terms) : Type 0 where
+  own : List Terminal
+  onto : HasTerminals put own
+  spells : (xs : List Terminal) (e : Term) → Spells level.Conditional xs e → SpellsAll (xs ++ own) (term_and e es)
+
+record IsEndSpelled (put : List Scrap → List Scrap) (e : MaybeTerm) : Type 0 where
+  own : List Terminal
+  onto : HasTerminals put own
+  spells : SpellsEnd own e
+
+lowered : (j k : ℕ) (put : List Scrap → List Scrap) (e : Term) → k ≤ j → IsSpelled j put e → IsSpelled k put e
+lowered j k put e h s = record { own = s.own; onto = s.onto; spells = lower j k s.own e h s.spells }
+
+part_spelled : (k : ℕ) (e : Term) (put : List Scrap → List Scrap) → k ≤ 10 → IsSpelled (level_of e) put e → IsSpelled k (part_scraps k e put) e
+unfolding word_of
+part_spelled k e put h s = by_case (nat_lt (level_of e) k) refl
+  where
+    by_case : (b : Bool) → nat_lt (level_of e) k ≡ b → IsSpelled k (λ ss. cond b (mark (codes "(") ∷ put (mark (codes ")") ∷ ss)) (put ss)) e
+    by_case true below = record {
+      own = terminal.Word word.LeftParen ∷ s.own ++ terminal.Word word.RightParen ∷ [];
+      onto = λ ss. ap (λ l. terminal.Word word.LeftParen ∷ l) (s.onto (mark (codes ")") ∷ ss) ∙ sym (append_assoc s.own (terminal.Word word.RightParen ∷ []) (terminals_in ss)));
+      spells = lower 10 k _ e h (parenthesized (lower (level_of e) 0 s.own e (omega arith) s.spells));
+    }
+    by_case false above = lowered (level_of e) k put e (ltb-false (level_of e) k above) s
+
+arith_terminal : (op : ArithOp) → terminal_by kind.Mark (arith_text op) ≡ terminal.Word (arith_word op)
+unfolding word_of
+arith_terminal Add = refl
+arith_terminal Sub = refl
+arith_terminal Mul = refl
+arith_terminal Floor = refl
+arith_terminal Rem = refl
+arith_terminal Power = refl
+
+truth_terminal : (b : Bool) → terminal_by kind.Reserved (truth_text b) ≡ terminal.Word (truth_word b)
+unfolding word_of
+truth_terminal true = refl
+truth_terminal false = refl
+
+compare_terminals : (op : CmpOp) → HasTerminals (compare_scraps op) (comparison op)
+unfolding word_of
+compare_terminals Eq ss = refl
+compare_terminals Ne ss = refl
+compare_terminals Lt ss = refl
+compare_terminals Le ss = refl
+compare_terminals Gt ss = refl
+compare_terminals Ge ss = refl
+compare_terminals Member ss = refl
+compare_terminals NotMember ss = refl
+
+mutual
+  unfolding word_of
+
+  term_spelled : (e : Term) → IsProperTerm e → IsSpelled (level_of e) (term_scraps e) e
+  term_spelled (Number n) p = record { own = terminal.Number n ∷ []; onto = λ ss. ap (λ t. t ∷ terminals_in ss) (numeral_terminal n p); spells = number n }
+  term_spelled (Truth b) p = record { own = terminal.Word (truth_word b) ∷ []; onto = λ ss. ap (λ t. t ∷ terminals_in ss) (truth_terminal b); spells = truth b }
+  term_spelled (Quoted cs) p = record { own = terminal.Text cs ∷ []; onto = λ ss. ap (λ t. t ∷ terminals_in ss) (literal_terminal cs p); spells = quoted cs }
+  term_spelled (Var x) p = record { own = terminal.Name x ∷ []; onto = λ ss. refl; spells = a_name x }
+  term_spelled (Items es) p =
+      let s = list_spelled es p in
+      record {
+        own = terminal.Word word.LeftBracket ∷ s.own ++ terminal.Word word.RightBracket ∷ [];
+        onto = λ ss. simp (append_assoc, s.onto);
+        spells = items s.spells;
+      }
+  term_spelled (Minus e) p =
+      let s = part_spelled 7 e (term_scraps e) (omega arith) (term_spelled e p) in
+      record { own = terminal.Word word.Minus ∷ s.own; onto = λ ss. ap (λ l. terminal.Word word.Minus ∷ l) (s.onto ss); spells = minus s.spells }
+  term_spelled (Negation e) p =
+      let s = part_spelled 3 e (term_scraps e) (omega arith) (term_spelled e p) in
+      record { own = terminal.Word word.Not ∷ s.own; onto = λ ss. ap (λ l. terminal.Word word.Not ∷ l) (s.onto ss); spells = negation s.spells }
+  term_spelled (Binary op a b) p =
+      let s = part_spelled (left_number op) a (term_scraps a) (left_bound op) (term_spelled a p.0) in
+      let t = part_spelled (right_number op) b (term_scraps b) (right_bound op) (term_spelled b p.1) in
+      record {
+        own = s.own ++ terminal.Word (arith_word op) ∷ t.own;
+        onto = λ ss. simp (append_assoc, s.onto, t.onto, arith_terminal op);
+        spells = subst (λ k. Spells k (s.own ++ terminal.Word (arith_word op) ∷ t.own) (Binary op a b)) (sym (operator_named op)) (arithmetic op (subst (λ k. Spells k s.own a) (left_named op) s.spells) (subst (λ k. Spells k t.own b) (right_named op) t.spells));
+      }
+  term_spelled (Compare op a b) p =
+      let s = part_spelled 5 a (term_scraps a) (omega arith) (term_spelled a p.0) in
+      let t = part_spelled 5 b (term_scraps b) (omega arith) (term_spelled b p.1) in
+      record {
+        own = s.own ++ comparison op ++ t.own;
+        onto = λ ss. simp (append_assoc, s.onto, t.onto, compare_terminals op);
+        spells = compared op s.spells t.spells;
+      }
+  term_spelled (Both a b) p =
+      let s = part_spelled 2 a (term_scraps a) (omega arith) (term_spelled a p.0) in
+      let t = part_spelled 3 b (term_scraps b) (omega arith) (term_spelled b p.1) in
+      record {
+        own = s.own ++ terminal.Word word.And ∷ t.own;
+        onto = λ ss. simp (append_assoc, s.onto, t.onto);
+        spells = conjunction s.spells t.spells;
+      }
+  term_spelled (Either a b) p =
+      let s = part_spelled 1 a (term_scraps a) (omega arith) (term_spelled a p.0) in
+      let t = part_spelled 2 b (term_scraps b) (omega arith) (term_spelled b p.1) in
+      record {
+        own = s.own ++ terminal.Word word.Or ∷ t.own;
+        onto = λ ss. simp (append_assoc, s.onto, t.onto);
+        spells = disjunction s.spells t.spells;
+      }
+  term_spelled (Choose t a b) p =
+      let s = part_spelled 1 a (term_scraps a) (omega arith) (term_spelled a p.1) in
+      let u = part_spelled 1 t (term_scraps t) (omega arith) (term_spelled t p.0) in
+      let v = lowered (level_of b) 0 (term_scraps b) b (omega arith) (term_spelled b p.2) in
+      record {
+        own = s.own ++ terminal.Word word.If ∷ u.own ++ terminal.Word word.Else ∷ v.own;
+        onto = λ ss. simp (append_assoc, s.onto, u.onto, v.onto);
+        spells = conditional s.spells u.spells v.spells;
+      }
+  term_spelled (At v i) p =
+      let s = part_spelled 9 v (term_scraps v) (omega arith) (term_spelled v p.0) in
+      let t = lowered (level_of i) 0 (term_scraps i) i (omega arith) (term_spelled i p.1) in
+      record {
+        own = s.own ++ terminal.Word word.LeftBracket ∷ t.own ++ terminal.Word word.RightBracket ∷ [];
+        onto = λ ss. simp (append_assoc, s.onto, t.onto);
+        spells = index s.spells t.spells;
+      }
+  term_spelled (Cut v from to) p =
+      let s = part_spelled 9 v (term_scraps v) (omega arith) (term_spelled v p.0) in
+      let t = end_spelled from p.1 in
+      let u = end_spelled to p.2 in
+      record {
+        own = s.own ++ terminal.Word word.LeftBracket ∷ t.own ++ terminal.Word word.Colon ∷ u.own ++ terminal.Word word.RightBracket ∷ [];
+        onto = λ ss. simp (append_assoc, s.onto, t.onto, u.onto);
+        spells = slice s.spells t.spells u.spells;
+      }
+  term_spelled (Apply f es) p =
+      let s = list_spelled es p.1 in
+      record {
+        own = terminal.Name f ∷ terminal.Word word.LeftParen ∷ s.own ++ terminal.Word word.RightParen ∷ [];
+        onto = λ ss. simp (append_assoc, s.onto);
+        spells = call f s.spells;
+      }
+
+  list_spelled : (es : Terms) → AreProperTerms es → AreSpelled (list_scraps es) es
+  list_spelled no_terms p = record { own = []; onto = λ ss. refl; spells = none }
+  list_spelled (term_and e es) p =
+      let s = lowered (level_of e) 0 (term_scraps e) e (omega arith) (term_spelled e p.0) in
+      let t = rest_spelled es p.1 in
+      record { own = s.own ++ t.own; onto = λ ss. simp (append_assoc, s.onto, t.onto); spells = t.spells s.own e s.spells }
+
+  rest_spelled : (es : Terms) → AreProperTerms es → AreSpelledBehind (rest_scraps es) es
+  rest_spelled no_terms p = record { own = []; onto = λ ss. refl; spells = λ xs e s. subst (λ l. SpellsAll l (term_and e no_terms)) (sym (append-nil xs)) (one s) }
+  rest_spelled (term_and f es) p =
+      let s = lowered (level_of f) 0 (term_scraps f) f (omega arith) (term_spelled f p.0) in
+      let t = rest_spelled es p.1 in
+      record {
+        own = terminal.Word word.Comma ∷ s.own ++ t.own;
+        onto = λ ss. simp (append_assoc, s.onto, t.onto);
+        spells = λ xs e u. more u (t.spells s.own f s.spells);
+      }
+
+  end_spelled : (e : MaybeTerm) → IsProperEnd e → IsEndSpelled (end_scraps e) e
+  end_spelled no_term p = record { own = []; onto = λ ss. refl; spells = missing }
+  end_spelled (a_term e) p =
+      let s = lowered (level_of e) 0 (term_scraps e) e (omega arith) (term_spelled e p) in
+      record { own = s.own; onto = s.onto; spells = given s.spells }
+
+-- as an expression that stands in no other
+pub whole : (e : Term) → IsProperTerm e → IsSpelled 0 (term_scraps e) e
+whole e p = lowered (level_of e) 0 (term_scraps e) e (omega arith) (term_spelled e p)

@@ -1,0 +1,2 @@
+//! That a proper program is read from its printed text.
+#![tactic(auto)]
