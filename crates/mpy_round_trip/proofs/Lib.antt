@@ -2,3 +2,4 @@ pub mod Scraps
 pub mod printing
 pub mod lexing
 pub mod ReadBack
+pub mod Rereading

@@ -1,0 +1,16 @@
+//! Laws of programs and their texts.
+ghost use Rattle.mpy_round_trip.specs.RoundTrip.{SpelledByItsText, SpelledByNoOther};
+
+use mpy_parser::one_program;
+
+/// The printed text of a proper program spells it, but for its lines.
+pub fn spelled_by_its_text()
+    ensures holds { SpelledByItsText }
+{}
+
+/// The printed text of a proper program spells no other.
+pub fn spelled_by_no_other()
+    ensures holds { SpelledByNoOther }
+{
+    one_program();
+}
