@@ -3,3 +3,4 @@ pub mod printing
 pub mod lexing
 pub mod ReadBack
 pub mod Rereading
+pub mod reading

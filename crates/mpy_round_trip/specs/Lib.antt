@@ -1,2 +1,3 @@
 pub mod Proper
 pub mod RoundTrip
+pub mod ReadingProper

@@ -1,0 +1,53 @@
+-- Proper terminals spell proper terms.
+use Rattle.std.proofs.Common.{List, [], ◌∷◌, ◌++◌}
+use Rattle.mpy_tree.specs.Syntax.{Term, Terms, MaybeTerm}
+use Rattle.mpy_parser.specs.declared.levels.Level.{Level}
+use Rattle.mpy_parser.specs.declared.words.Word.TheVariants as word
+use Rattle.mpy_parser.specs.declared.terminals.Terminal.{Terminal}
+use Rattle.mpy_parser.specs.declared.terminals.Terminal.TheVariants as terminal
+use Rattle.mpy_parser.specs.Levels.{arith_word}
+use Rattle.mpy_parser.specs.Grammar.{Spells, SpellsEnd, SpellsAll, conditional, disjunction, conjunction, negation, compared, arithmetic, minus, index, slice, number, quoted, truth, name, call, items, parenthesized, higher, missing, given, none, one, more, comparison}
+use Rattle.mpy_round_trip.specs.Proper.{IsProperTerm, AreProperTerms, IsProperEnd}
+use Rattle.mpy_round_trip.proofs.reading.ProperTerminals.{AreProperTerminals, halves, around}
+
+mutual
+  pub proper_term : {k : Level} {ts : List Terminal} {e : Term} → Spells k ts e → AreProperTerminals ts → IsProperTerm e
+  proper_term (conditional {xs} {ts} {ys} s t u) p =
+      let last = around (xs ++ (terminal.Word word.If ∷ ts)) (terminal.Word word.Else) ys p in
+      let first = around xs (terminal.Word word.If) ts last.0 in
+      (proper_term t first.1, proper_term s first.0, proper_term u last.1)
+  proper_term (disjunction {xs} {ys} s t) p = let both = around xs (terminal.Word word.Or) ys p in (proper_term s both.0, proper_term t both.1)
+  proper_term (conjunction {xs} {ys} s t) p = let both = around xs (terminal.Word word.And) ys p in (proper_term s both.0, proper_term t both.1)
+  proper_term (negation s) p = proper_term s p.1
+  proper_term (compared {xs} {ys} op s t) p =
+      let last = halves (xs ++ comparison op) ys p in
+      let first = halves xs (comparison op) last.0 in
+      (proper_term s first.0, proper_term t last.1)
+  proper_term (arithmetic {xs} {ys} op s t) p = let both = around xs (terminal.Word (arith_word op)) ys p in (proper_term s both.0, proper_term t both.1)
+  proper_term (minus s) p = proper_term s p.1
+  proper_term (index {xs} {ys} s t) p =
+      let whole = halves (xs ++ (terminal.Word word.LeftBracket ∷ ys)) (terminal.Word word.RightBracket ∷ []) p in
+      let both = around xs (terminal.Word word.LeftBracket) ys whole.0 in
+      (proper_term s both.0, proper_term t both.1)
+  proper_term (slice {xs} {ys} {zs} s f t) p =
+      let whole = halves ((xs ++ (terminal.Word word.LeftBracket ∷ ys)) ++ (terminal.Word word.Colon ∷ zs)) (terminal.Word word.RightBracket ∷ []) p in
+      let last = around (xs ++ (terminal.Word word.LeftBracket ∷ ys)) (terminal.Word word.Colon) zs whole.0 in
+      let first = around xs (terminal.Word word.LeftBracket) ys last.0 in
+      (proper_term s first.0, proper_end f first.1, proper_end t last.1)
+  proper_term (number n) p = p.0
+  proper_term (quoted cs) p = p.0
+  proper_term (truth b) p = tt
+  proper_term (name x) p = p.0
+  proper_term (call f {xs} s) p = (p.0, proper_terms s (halves xs (terminal.Word word.RightParen ∷ []) p.1.1).0)
+  proper_term (items {xs} s) p = proper_terms s (halves xs (terminal.Word word.RightBracket ∷ []) p.1).0
+  proper_term (parenthesized {xs} s) p = proper_term s (halves xs (terminal.Word word.RightParen ∷ []) p.1).0
+  proper_term (higher s) p = proper_term s p
+
+  proper_end : {ts : List Terminal} {e : MaybeTerm} → SpellsEnd ts e → AreProperTerminals ts → IsProperEnd e
+  proper_end missing p = tt
+  proper_end (given s) p = proper_term s p
+
+  proper_terms : {ts : List Terminal} {es : Terms} → SpellsAll ts es → AreProperTerminals ts → AreProperTerms es
+  proper_terms none p = tt
+  proper_terms (one s) p = (proper_term s p, tt)
+  proper_terms (more {xs} {ys} s t) p = let both = around xs (terminal.Word word.Comma) ys p in (proper_term s both.0, proper_terms t both.1)
