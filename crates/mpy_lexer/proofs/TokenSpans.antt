@@ -121,8 +121,11 @@ unless : (fault : Option LexError) (found ls : List Line) → lines_unless fault
 unless None found ls e = cc
 unless (Some x) found ls e = absurd cc
 
+pub of_source : (form : Form) (source : List ℕ) → All (IsLineOf form source) (logical_lines [] (rows form source))
+of_source form source = lines_placed form source [] (rows form source) (all_placed form source)
+
 pub spans : (form : Form) (source : List ℕ) (ls : List Line) → lex form source ≡ Ok ls → All (IsLineOf form source) ls
 unfolding lex
 spans form source ls e =
     let same : logical_lines [] (rows form source) ≡ ls = unless (first_fault (rows form source)) (logical_lines [] (rows form source)) ls e in
-    rw (← same) (lines_placed form source [] (rows form source) (all_placed form source))
+    rw (← same) (of_source form source)

@@ -3,7 +3,7 @@ ghost use Rattle.std.specs.Prelude.{◌≡◌, ◌≤◌, ◌||◌, if◌then◌
 ghost use Rattle.mpy_lexer.specs.Leasts.{lesser, least};
 ghost use Rattle.mpy_lexer.specs.Lexing.{byte_fault, faulty_lines, logical_lines, length_fault, lex, IsAnswered};
 ghost use Rattle.mpy_lexer.specs.Seen.{with_more};
-ghost use Rattle.mpy_lexer.specs.Spans.{IsLineOf};
+ghost use Rattle.mpy_lexer.specs.Spans.{IsLineOf, LinesAreOfTheirSource};
 
 use crate::NoMemory;
 use crate::brackets::{Brackets, lesser};
@@ -128,3 +128,8 @@ pub fn lines(alloc: Global, bytes: &[u8], form: Form) -> Result<Vec<Line>, LexEr
         None => Ok(lines),
     }
 }
+
+/// The logical lines of a text are of it, and each of their tokens has the form of its kind.
+pub fn lines_of_their_source()
+    ensures holds { LinesAreOfTheirSource }
+{}

@@ -17,7 +17,7 @@ mod token;
 mod words;
 
 pub use forms::{Form, Kind};
-pub use lexing::lines;
+pub use lexing::{lines, lines_of_their_source};
 pub use line::{LexCause, LexError, Line};
 pub use numbers::number_of;
 use std::alloc::AllocError;

@@ -1,20 +1,24 @@
 -- A text has one answer: it spells one program at most, or is refused for one cause at one line.
-use Rattle.std.proofs.Common.{◌≡◌, ℕ, List, [], ◌∷◌, ◌++◌, Option, Some, None, Result, Ok, Err, refl, ap, sym, ◌∙◌, subst}
+use Rattle.std.proofs.Common.{◌≡◌, ℕ, Bool, true, false, nat_lt, length, if◌then◌else◌, List, [], ◌∷◌, ◌++◌, Option, Some, None, Result, Ok, Err, refl, ap, sym, ◌∙◌, subst}
 use Rattle.mpy_tree.specs.declared.refusal.Cause.{Cause}
+use Rattle.mpy_tree.specs.declared.refusal.Cause.TheVariants as cause
 use Rattle.mpy_tree.specs.Syntax.{Routine}
 use Rattle.mpy_lexer.specs.declared.line.Line.{Line}
 use Rattle.mpy_lexer.specs.declared.forms.Form.TheVariants.{Program}
 use Rattle.mpy_lexer.specs.declared.line.LexError.{LexError}
 use Rattle.mpy_lexer.specs.declared.line.LexError.TheVariants as lex_error
 use Rattle.mpy_lexer.specs.declared.line.LexCause.{LexCause}
+use Rattle.mpy_lexer.specs.declared.line.LexCause.TheVariants as lex_cause
 use Rattle.mpy_lexer.specs.Leasts.{least}
-use Rattle.mpy_lexer.specs.Lexing.{lex}
+use Rattle.std.specs.Option.{option_or}
+use Rattle.mpy_lexer.specs.Lexing.{lex, byte_fault, token_fault, length_fault, logical_lines, lines_unless}
+use Rattle.mpy_lexer.specs.PhysicalLines.{rows}
 use Rattle.mpy_parser.specs.Limits.{limit_lines}
 use Rattle.mpy_parser.specs.Faults.{indent_fault, block_fault}
 use Rattle.mpy_parser.specs.Terminals.{terminals}
 use Rattle.mpy_parser.specs.Items.{LineItem, SpellsItem}
 use Rattle.mpy_parser.specs.Nesting.{ItemLine, item_line, AreRoutines}
-use Rattle.mpy_parser.specs.Programs.{IsItem, AreItems, NotSpelled, Reads, IsProgram, IsRefused, by_lexing, by_columns, by_item, by_blocks, by_limits, lexing_cause}
+use Rattle.mpy_parser.specs.Programs.{IsItem, AreItems, NotSpelled, HasLines, HasNoLongLine, Reads, IsProgram, IsRefused, by_lexing, by_columns, by_item, by_blocks, by_limits, lexing_cause}
 use Rattle.mpy_parser.proofs.ItemsComplete.{item_reads}
 
 item_or : LineItem → Option LineItem → LineItem
@@ -76,12 +80,46 @@ ok_lines r ls ms p q = let z : Ok ls ≡ Ok ms = sym p ∙ q in cc
 not_both : {A : Type 0} (o : Option A) (a : A) → o ≡ None → o ≡ Some a → ⊥
 not_both o a p q = let z : None ≡ Some a = sym p ∙ q in cc
 
+err_not_ok : (e : LexError) (ls : List Line) → Err e ≡ Ok ls → ⊥
+err_not_ok e ls p = cc
+
 ok_not_err : (r : Result (List Line) LexError) (ls : List Line) (e : LexError) → r ≡ Ok ls → r ≡ Err e → ⊥
 ok_not_err r ls e p q = let z : Ok ls ≡ Err e = sym p ∙ q in cc
 
+-- what is lexed has no fault, and the lines that it has
+no_first_fault : (a b c : Option LexError) (ls : List Line) → a ≡ None → b ≡ None → c ≡ None → lines_unless (option_or a (option_or b c)) ls ≡ Ok ls
+no_first_fault a b c ls p q r = ap (λ x. lines_unless (option_or x (option_or b c)) ls) p ∙ ap (λ x. lines_unless (option_or x c) ls) q ∙ ap (λ x. lines_unless x ls) r
+
+pub lexes : (bytes : List ℕ) (ls : List Line) → HasLines bytes ls → HasNoLongLine bytes → lex Program bytes ≡ Ok ls
+unfolding lex
+lexes bytes ls h short =
+    let rs = rows Program bytes in
+    no_first_fault (byte_fault rs) (token_fault rs) (length_fault (logical_lines [] rs)) (logical_lines [] rs) h.no_byte_fault h.no_token_fault short ∙ ap Ok h.lines
+
+abbrev AllNone : Option LexError → Option LexError → Option LexError → List Line → List Line → Type 0
+AllNone a b c ls ms = (a ≡ None) × (b ≡ None) × (c ≡ None) × (ls ≡ ms)
+
+all_none : (a b c : Option LexError) (ls ms : List Line) → lines_unless (option_or a (option_or b c)) ls ≡ Ok ms → AllNone a b c ls ms
+all_none None None None ls ms e = (refl, refl, refl, cc)
+all_none None None (Some x) ls ms e = absurd (err_not_ok x ms e)
+all_none None (Some x) c ls ms e = absurd (err_not_ok x ms e)
+all_none (Some x) b c ls ms e = absurd (err_not_ok x ms e)
+
+lexed_by : (bytes : List ℕ) (ls : List Line) → lex Program bytes ≡ Ok ls → let rs = rows Program bytes in AllNone (byte_fault rs) (token_fault rs) (length_fault (logical_lines [] rs)) (logical_lines [] rs) ls
+unfolding lex
+lexed_by bytes ls e =
+    let rs = rows Program bytes in
+    all_none (byte_fault rs) (token_fault rs) (length_fault (logical_lines [] rs)) (logical_lines [] rs) ls e
+
+pub has_lines : (bytes : List ℕ) (ls : List Line) → lex Program bytes ≡ Ok ls → HasLines bytes ls
+has_lines bytes ls e = let h = lexed_by bytes ls e in record { no_byte_fault = h.0; no_token_fault = h.1; lines = h.3 }
+
+pub has_no_long_line : (bytes : List ℕ) (ls : List Line) → lex Program bytes ≡ Ok ls → HasNoLongLine bytes
+has_no_long_line bytes ls e = (lexed_by bytes ls e).2
+
 pub one_program : NestingLaws → (bytes : List ℕ) (rs qs : List Routine) → Reads bytes rs → Reads bytes qs → rs ≡ qs
 one_program laws bytes rs qs r q =
-    let ls = ok_lines (lex Program bytes) r.lines q.lines r.lexed q.lexed in
+    let ls : r.lines ≡ q.lines = sym r.lexed.lines ∙ q.lexed.lines in
     let is = one_list q.lines r.items q.items (subst (λ l. AreItems l r.items) ls r.spelled) q.spelled in
     laws.one q.items rs qs (subst (λ i. AreRoutines i rs) is r.nested) q.nested
 
@@ -91,20 +129,20 @@ no_least = refl
 
 -- a text that spells a program within the limits isn't refused
 pub not_refused : NestingLaws → (bytes : List ℕ) (rs : List Routine) (c : Cause) (line : ℕ) → IsProgram bytes rs → IsRefused bytes c line → ⊥
-not_refused laws bytes rs c line p (by_lexing d m e) = ok_not_err (lex Program bytes) p.0.lines (lex_error.Fault d m) p.0.lexed e
+not_refused laws bytes rs c line p (by_lexing d m e) = ok_not_err (lex Program bytes) p.reads.lines (lex_error.Fault d m) (lexes bytes p.reads.lines p.reads.lexed p.short) e
 not_refused laws bytes rs c line p (by_columns ls m e f) =
-    let same = ok_lines (lex Program bytes) p.0.lines ls p.0.lexed e in
-    not_both (indent_fault [] ls) m (laws.columns ls p.0.items rs (subst (λ l. AreItems l p.0.items) same p.0.spelled) p.0.nested) f
+    let same = ok_lines (lex Program bytes) p.reads.lines ls (lexes bytes p.reads.lines p.reads.lexed p.short) e in
+    not_both (indent_fault [] ls) m (laws.columns ls p.reads.items rs (subst (λ l. AreItems l p.reads.items) same p.reads.spelled) p.reads.nested) f
 not_refused laws bytes rs c line p (by_item before l rest is e f s h) =
-    let same = ok_lines (lex Program bytes) p.0.lines (before ++ (l ∷ rest)) p.0.lexed e in
-    not_items before l rest p.0.items h (subst (λ x. AreItems x p.0.items) same p.0.spelled)
+    let same = ok_lines (lex Program bytes) p.reads.lines (before ++ (l ∷ rest)) (lexes bytes p.reads.lines p.reads.lexed p.short) e in
+    not_items before l rest p.reads.items h (subst (λ x. AreItems x p.reads.items) same p.reads.spelled)
 not_refused laws bytes rs c line p (by_blocks ls is m e f s g) =
-    let same = ok_lines (lex Program bytes) p.0.lines ls p.0.lexed e in
-    let items = one_list ls p.0.items is (subst (λ l. AreItems l p.0.items) same p.0.spelled) s in
-    not_both (block_fault [] is) m (subst (λ i. block_fault [] i ≡ None) items (laws.blocks p.0.items rs p.0.nested)) g
-not_refused laws bytes rs c line p (by_limits qs m q g) =
-    let same = one_program laws bytes rs qs p.0 q in
-    not_both (least (limit_lines qs)) m (ap least (ap limit_lines (sym same) ∙ p.1) ∙ no_least) g
+    let same = ok_lines (lex Program bytes) p.reads.lines ls (lexes bytes p.reads.lines p.reads.lexed p.short) e in
+    let items = one_list ls p.reads.items is (subst (λ l. AreItems l p.reads.items) same p.reads.spelled) s in
+    not_both (block_fault [] is) m (subst (λ i. block_fault [] i ≡ None) items (laws.blocks p.reads.items rs p.reads.nested)) g
+not_refused laws bytes rs c line p (by_limits qs m q short g) =
+    let same = one_program laws bytes rs qs p.reads q in
+    not_both (least (limit_lines qs)) m (ap least (ap limit_lines (sym same) ∙ p.small) ∙ no_least) g
 
 -- a text is refused for one cause, at one line
 abbrev pub SameRefusal : Cause → ℕ → Cause → ℕ → Type 0
@@ -116,23 +154,23 @@ same_line o m n p q = let z : Some m ≡ Some n = sym p ∙ q in cc
 same_fault : (r : Result (List Line) LexError) (c d : LexCause) (m n : ℕ) → r ≡ Err (lex_error.Fault c m) → r ≡ Err (lex_error.Fault d n) → (c ≡ d) × (m ≡ n)
 same_fault r c d m n p q = let z : Err (lex_error.Fault c m) ≡ Err (lex_error.Fault d n) = sym p ∙ q in (cc, cc)
 
--- a text that reads as functions has no fault of lexing, of columns, of an item or of blocks
-reads_no_lexing : (bytes : List ℕ) (rs : List Routine) (e : LexError) → Reads bytes rs → lex Program bytes ≡ Err e → ⊥
-reads_no_lexing bytes rs e p q = ok_not_err (lex Program bytes) p.lines e p.lexed q
+-- a text without long lines that reads as functions has no fault of lexing, of columns, of an item or of blocks
+reads_no_lexing : (bytes : List ℕ) (rs : List Routine) (e : LexError) → Reads bytes rs → HasNoLongLine bytes → lex Program bytes ≡ Err e → ⊥
+reads_no_lexing bytes rs e p short q = ok_not_err (lex Program bytes) p.lines e (lexes bytes p.lines p.lexed short) q
 
-reads_no_columns : NestingLaws → (bytes : List ℕ) (rs : List Routine) (ls : List Line) (m : ℕ) → Reads bytes rs → lex Program bytes ≡ Ok ls → indent_fault [] ls ≡ Some m → ⊥
-reads_no_columns laws bytes rs ls m p e f =
-    let same = ok_lines (lex Program bytes) p.lines ls p.lexed e in
+reads_no_columns : NestingLaws → (bytes : List ℕ) (rs : List Routine) (ls : List Line) (m : ℕ) → Reads bytes rs → HasNoLongLine bytes → lex Program bytes ≡ Ok ls → indent_fault [] ls ≡ Some m → ⊥
+reads_no_columns laws bytes rs ls m p short e f =
+    let same = ok_lines (lex Program bytes) p.lines ls (lexes bytes p.lines p.lexed short) e in
     not_both (indent_fault [] ls) m (laws.columns ls p.items rs (subst (λ l. AreItems l p.items) same p.spelled) p.nested) f
 
-reads_no_item : (bytes : List ℕ) (rs : List Routine) (before : List Line) (l : Line) (rest : List Line) → Reads bytes rs → lex Program bytes ≡ Ok (before ++ (l ∷ rest)) → NotSpelled l → ⊥
-reads_no_item bytes rs before l rest p e h =
-    let same = ok_lines (lex Program bytes) p.lines (before ++ (l ∷ rest)) p.lexed e in
+reads_no_item : (bytes : List ℕ) (rs : List Routine) (before : List Line) (l : Line) (rest : List Line) → Reads bytes rs → HasNoLongLine bytes → lex Program bytes ≡ Ok (before ++ (l ∷ rest)) → NotSpelled l → ⊥
+reads_no_item bytes rs before l rest p short e h =
+    let same = ok_lines (lex Program bytes) p.lines (before ++ (l ∷ rest)) (lexes bytes p.lines p.lexed short) e in
     not_items before l rest p.items h (subst (λ x. AreItems x p.items) same p.spelled)
 
-reads_no_blocks : NestingLaws → (bytes : List ℕ) (rs : List Routine) (ls : List Line) (is : List ItemLine) (m : ℕ) → Reads bytes rs → lex Program bytes ≡ Ok ls → AreItems ls is → block_fault [] is ≡ Some m → ⊥
-reads_no_blocks laws bytes rs ls is m p e s g =
-    let same = ok_lines (lex Program bytes) p.lines ls p.lexed e in
+reads_no_blocks : NestingLaws → (bytes : List ℕ) (rs : List Routine) (ls : List Line) (is : List ItemLine) (m : ℕ) → Reads bytes rs → HasNoLongLine bytes → lex Program bytes ≡ Ok ls → AreItems ls is → block_fault [] is ≡ Some m → ⊥
+reads_no_blocks laws bytes rs ls is m p short e s g =
+    let same = ok_lines (lex Program bytes) p.lines ls (lexes bytes p.lines p.lexed short) e in
     let items = one_list ls p.items is (subst (λ l. AreItems l p.items) same p.spelled) s in
     not_both (block_fault [] is) m (subst (λ i. block_fault [] i ≡ None) items (laws.blocks p.items rs p.nested)) g
 
@@ -162,24 +200,53 @@ one_refusal laws bytes c d m n (by_lexing x k e) (by_lexing y l f) = lexing_agai
 one_refusal laws bytes c d m n (by_lexing x k e) (by_columns ls l f g) = absurd (ok_not_err (lex Program bytes) ls (lex_error.Fault x k) f e)
 one_refusal laws bytes c d m n (by_lexing x k e) (by_item bs l rest is f g s h) = absurd (ok_not_err (lex Program bytes) (bs ++ (l ∷ rest)) (lex_error.Fault x k) f e)
 one_refusal laws bytes c d m n (by_lexing x k e) (by_blocks ls is l f g s h) = absurd (ok_not_err (lex Program bytes) ls (lex_error.Fault x k) f e)
-one_refusal laws bytes c d m n (by_lexing x k e) (by_limits rs l r f) = absurd (reads_no_lexing bytes rs (lex_error.Fault x k) r e)
+one_refusal laws bytes c d m n (by_lexing x k e) (by_limits rs l r short f) = absurd (reads_no_lexing bytes rs (lex_error.Fault x k) r short e)
 one_refusal laws bytes c d m n (by_columns ls k e f) (by_lexing y l g) = absurd (ok_not_err (lex Program bytes) ls (lex_error.Fault y l) e g)
 one_refusal laws bytes c d m n (by_columns ls k e f) (by_columns ms l g h) = (refl, columns_against bytes ls ms k l e f g h)
 one_refusal laws bytes c d m n (by_columns ls k e f) (by_item bs l rest is g h s t) = absurd (columns_not bytes ls (bs ++ (l ∷ rest)) k e f g h)
 one_refusal laws bytes c d m n (by_columns ls k e f) (by_blocks ms is l g h s t) = absurd (columns_not bytes ls ms k e f g h)
-one_refusal laws bytes c d m n (by_columns ls k e f) (by_limits rs l r g) = absurd (reads_no_columns laws bytes rs ls k r e f)
+one_refusal laws bytes c d m n (by_columns ls k e f) (by_limits rs l r short g) = absurd (reads_no_columns laws bytes rs ls k r short e f)
 one_refusal laws bytes c d m n (by_item bs k rest is e f s h) (by_lexing y l g) = absurd (ok_not_err (lex Program bytes) (bs ++ (k ∷ rest)) (lex_error.Fault y l) e g)
 one_refusal laws bytes c d m n (by_item bs k rest is e f s h) (by_columns ls l g t) = absurd (columns_not bytes ls (bs ++ (k ∷ rest)) l g t e f)
 one_refusal laws bytes c d m n (by_item bs k rest is e f s h) (by_item cs l us js g t v w) = (refl, one_unspelled bs k rest cs l us is js (ok_lines (lex Program bytes) (bs ++ (k ∷ rest)) (cs ++ (l ∷ us)) e g) s v h w)
 one_refusal laws bytes c d m n (by_item bs k rest is e f s h) (by_blocks ls js l g t v w) = absurd (item_not_blocks bytes bs k rest ls js e h g v)
-one_refusal laws bytes c d m n (by_item bs k rest is e f s h) (by_limits rs l r g) = absurd (reads_no_item bytes rs bs k rest r e h)
+one_refusal laws bytes c d m n (by_item bs k rest is e f s h) (by_limits rs l r short g) = absurd (reads_no_item bytes rs bs k rest r short e h)
 one_refusal laws bytes c d m n (by_blocks ls is k e f s h) (by_lexing y l g) = absurd (ok_not_err (lex Program bytes) ls (lex_error.Fault y l) e g)
 one_refusal laws bytes c d m n (by_blocks ls is k e f s h) (by_columns ms l g t) = absurd (columns_not bytes ms ls l g t e f)
 one_refusal laws bytes c d m n (by_blocks ls is k e f s h) (by_item bs l rest js g t v w) = absurd (item_not_blocks bytes bs l rest ls is g w e s)
 one_refusal laws bytes c d m n (by_blocks ls is k e f s h) (by_blocks ms js l g t v w) = (refl, blocks_against bytes ls ms is js k l e s h g v w)
-one_refusal laws bytes c d m n (by_blocks ls is k e f s h) (by_limits rs l r g) = absurd (reads_no_blocks laws bytes rs ls is k r e s h)
-one_refusal laws bytes c d m n (by_limits rs k r f) (by_lexing y l g) = absurd (reads_no_lexing bytes rs (lex_error.Fault y l) r g)
-one_refusal laws bytes c d m n (by_limits rs k r f) (by_columns ls l g t) = absurd (reads_no_columns laws bytes rs ls l r g t)
-one_refusal laws bytes c d m n (by_limits rs k r f) (by_item bs l rest is g t v w) = absurd (reads_no_item bytes rs bs l rest r g w)
-one_refusal laws bytes c d m n (by_limits rs k r f) (by_blocks ls is l g t v w) = absurd (reads_no_blocks laws bytes rs ls is l r g v w)
-one_refusal laws bytes c d m n (by_limits rs k r f) (by_limits qs l q g) = (refl, limits_against laws bytes rs qs k l r f q g)
+one_refusal laws bytes c d m n (by_blocks ls is k e f s h) (by_limits rs l r short g) = absurd (reads_no_blocks laws bytes rs ls is k r short e s h)
+one_refusal laws bytes c d m n (by_limits rs k r short f) (by_lexing y l g) = absurd (reads_no_lexing bytes rs (lex_error.Fault y l) r short g)
+one_refusal laws bytes c d m n (by_limits rs k r short f) (by_columns ls l g t) = absurd (reads_no_columns laws bytes rs ls l r short g t)
+one_refusal laws bytes c d m n (by_limits rs k r short f) (by_item bs l rest is g t v w) = absurd (reads_no_item bytes rs bs l rest r short g w)
+one_refusal laws bytes c d m n (by_limits rs k r short f) (by_blocks ls is l g t v w) = absurd (reads_no_blocks laws bytes rs ls is l r short g v w)
+one_refusal laws bytes c d m n (by_limits rs k r short f) (by_limits qs l q other g) = (refl, limits_against laws bytes rs qs k l r f q g)
+
+-- what is at fault where bytes and tokens aren't is the length of a line
+third_fault : (a b c : Option LexError) (ls : List Line) (e : LexError) → a ≡ None → b ≡ None → lines_unless (option_or a (option_or b c)) ls ≡ Err e → c ≡ Some e
+third_fault None None None ls e p q h = absurd (ok_not_err (Ok ls) ls e refl h)
+third_fault None None (Some x) ls e p q h = let same : x ≡ e = cc in ap Some same
+third_fault None (Some x) c ls e p q h = absurd (not_both (Some x) x q refl)
+third_fault (Some x) b c ls e p q h = absurd (not_both (Some x) x p refl)
+
+length_fault_by : (b : Bool) (line : ℕ) (o : Option LexError) (d : LexCause) (m : ℕ) → (o ≡ Some (lex_error.Fault d m) → d ≡ lex_cause.LongLine) → (if b then Some (lex_error.Fault lex_cause.LongLine line) else o) ≡ Some (lex_error.Fault d m) → d ≡ lex_cause.LongLine
+length_fault_by true line o d m later h = cc
+length_fault_by false line o d m later h = later h
+
+is_long_line : (ls : List Line) (d : LexCause) (m : ℕ) → length_fault ls ≡ Some (lex_error.Fault d m) → d ≡ lex_cause.LongLine
+unfolding length_fault
+is_long_line [] d m h = let z : None ≡ Some (lex_error.Fault d m) = h in cc
+is_long_line (l ∷ ls) d m h = length_fault_by (nat_lt 400 (length l.tokens)) l.line (length_fault ls) d m (is_long_line ls d m) h
+
+lexing_limit : (bytes : List ℕ) (ls : List Line) (d : LexCause) (m : ℕ) → HasLines bytes ls → lex Program bytes ≡ Err (lex_error.Fault d m) → d ≡ lex_cause.LongLine
+unfolding lex
+lexing_limit bytes ls d m h e =
+    let rs = rows Program bytes in
+    is_long_line (logical_lines [] rs) d m (third_fault (byte_fault rs) (token_fault rs) (length_fault (logical_lines [] rs)) (logical_lines [] rs) (lex_error.Fault d m) h.no_byte_fault h.no_token_fault e)
+
+pub only_limits : NestingLaws → (bytes : List ℕ) (rs : List Routine) (c : Cause) (line : ℕ) → Reads bytes rs → IsRefused bytes c line → c ≡ cause.Limit
+only_limits laws bytes rs c line p (by_lexing d m e) = ap lexing_cause (lexing_limit bytes p.lines d m p.lexed e)
+only_limits laws bytes rs c line p (by_columns ls m e f) = absurd (reads_no_columns laws bytes rs ls m p (has_no_long_line bytes ls e) e f)
+only_limits laws bytes rs c line p (by_item bs l rest is e f s h) = absurd (reads_no_item bytes rs bs l rest p (has_no_long_line bytes (bs ++ (l ∷ rest)) e) e h)
+only_limits laws bytes rs c line p (by_blocks ls is m e f s g) = absurd (reads_no_blocks laws bytes rs ls is m p (has_no_long_line bytes ls e) e s g)
+only_limits laws bytes rs c line p (by_limits qs m q short g) = refl

@@ -42,7 +42,7 @@ none_least (n ∷ ns) h = absurd (no_lesser n (least ns) h)
 
 -- a text that spells a program is read as it
 pub given_by : (bytes : List ℕ) (r : Result Prog ReadError) → ((p : Prog) → r ≡ Ok p → IsProgram bytes (routines_of p)) → ((e : ReadError) → r ≡ Err e → IsAnswered bytes e) → (rs : List Routine) → IsProgram bytes rs → IsGiven rs r
-given_by bytes (Ok p) ok err rs h = one_program laws bytes (routines_of p) rs (ok p refl).0 h.0
+given_by bytes (Ok p) ok err rs h = one_program laws bytes (routines_of p) rs (ok p refl).reads h.reads
 given_by bytes (Err (read_error.Fault c line)) ok err rs h = not_refused laws bytes rs c line h (err (read_error.Fault c line) refl)
 given_by bytes (Err read_error.NoMemory) ok err rs h = tt
 

@@ -14,3 +14,4 @@ pub mod Open
 pub mod Piles
 pub mod Indents
 pub mod NestingLaws
+pub mod ProgramLaws

@@ -13,7 +13,8 @@ use Rattle.mpy_lexer.specs.declared.line.LexCause.{LexCause}
 use Rattle.mpy_lexer.specs.declared.line.LexCause.TheVariants as lex_cause
 use Rattle.mpy_lexer.specs.declared.line.LexError.TheVariants as lex_error
 use Rattle.mpy_lexer.specs.Leasts.{least}
-use Rattle.mpy_lexer.specs.Lexing.{lex}
+use Rattle.mpy_lexer.specs.Lexing.{lex, byte_fault, token_fault, length_fault, logical_lines}
+use Rattle.mpy_lexer.specs.PhysicalLines.{rows}
 use Rattle.mpy_parser.specs.Terminals.{terminals}
 use Rattle.mpy_parser.specs.Items.{LineItem, SpellsItem}
 use Rattle.mpy_parser.specs.Nesting.{ItemLine, AreRoutines}
@@ -47,17 +48,29 @@ pub record IsFirstUnspelled (ls : List Line) (line : ℕ) : Type 0 where
   pub unspelled : NotSpelled first
   pub line_is : line ≡ first.line
 
--- The logical lines of the text spell items that nest as these functions.
+-- the logical lines of a text whose bytes and tokens have no fault, however long they are
+pub record HasLines (bytes : List ℕ) (ls : List Line) : Type 0 where
+  pub no_byte_fault : byte_fault (rows Program bytes) ≡ None
+  pub no_token_fault : token_fault (rows Program bytes) ≡ None
+  pub lines : logical_lines [] (rows Program bytes) ≡ ls
+
+-- The logical lines of the text spell items that nest as these functions. Limits are no part of it.
 pub record Reads (bytes : List ℕ) (rs : List Routine) : Type 0 where
   pub lines : List Line
   pub items : List ItemLine
-  pub lexed : lex Program bytes ≡ Ok lines
+  pub lexed : HasLines bytes lines
   pub spelled : AreItems lines items
   pub nested : AreRoutines items rs
 
+-- no logical line has more than 400 tokens
+abbrev pub HasNoLongLine : List ℕ → Type 0
+HasNoLongLine bytes = length_fault (logical_lines [] (rows Program bytes)) ≡ None
+
 -- a program that no limit refuses
-abbrev pub IsProgram : List ℕ → List Routine → Type 0
-IsProgram bytes rs = Reads bytes rs × (limit_lines rs ≡ [])
+pub record IsProgram (bytes : List ℕ) (rs : List Routine) : Type 0 where
+  pub reads : Reads bytes rs
+  pub short : HasNoLongLine bytes
+  pub small : limit_lines rs ≡ []
 
 abbrev pub lexing_cause : LexCause → Cause
 lexing_cause lex_cause.Byte = cause.Byte
@@ -71,7 +84,7 @@ pub data IsRefused (bytes : List ℕ) : Cause → ℕ → Type 0 where
   by_columns : (ls : List Line) (line : ℕ) → lex Program bytes ≡ Ok ls → indent_fault [] ls ≡ Some line → IsRefused bytes cause.Indent line
   by_item : (before : List Line) (l : Line) (rest : List Line) (is : List ItemLine) → lex Program bytes ≡ Ok (before ++ l ∷ rest) → indent_fault [] (before ++ l ∷ rest) ≡ None → AreItems before is → NotSpelled l → IsRefused bytes cause.Syntax l.line
   by_blocks : (ls : List Line) (is : List ItemLine) (line : ℕ) → lex Program bytes ≡ Ok ls → indent_fault [] ls ≡ None → AreItems ls is → block_fault [] is ≡ Some line → IsRefused bytes cause.Block line
-  by_limits : (rs : List Routine) (line : ℕ) → Reads bytes rs → least (limit_lines rs) ≡ Some line → IsRefused bytes cause.Limit line
+  by_limits : (rs : List Routine) (line : ℕ) → Reads bytes rs → HasNoLongLine bytes → least (limit_lines rs) ≡ Some line → IsRefused bytes cause.Limit line
 
 -- a cause and line are answered where they are the first; want of memory may be answered for any text
 abbrev pub IsAnswered : List ℕ → ReadError → Type 0

@@ -5,6 +5,7 @@ use Rattle.mpy_parser.specs.Limits.{limit_lines}
 use Rattle.mpy_parser.specs.Programs.{AreItems, IsFirstUnspelled, by_columns, by_blocks, by_limits}
 use Rattle.mpy_parser.specs.Views.{lines_of}
 use Rattle.mpy_parser.proofs.Fine.{same_indents}
+use Rattle.mpy_parser.proofs.OneAnswer.{has_lines, has_no_long_line}
 use Rattle.mpy_parser.proofs.Steps.{item_refused, none_least}
 use Rattle.mpy_parser.proofs.programs.parse.Goals as goal
 
@@ -34,16 +35,18 @@ build-requires-clause-columns c =
 
 pub returns-in-None-clause-read : goal.returns-in-None-clause-read
 returns-in-None-clause-read c =
-    let items = subst (λ r. IfOk r (λ v. AreItems c.deref-2.result.now (lines_of v.items))) c.in-Ok.is c.in_ok-found.ensures.ok in (
-      record {
+    let items = subst (λ r. IfOk r (λ v. AreItems c.deref-2.result.now (lines_of v.items))) c.in-Ok.is c.in_ok-found.ensures.ok in
+    record {
+      reads = record {
         lines = c.in_ok-lines.lines.items;
         items = lines_of c.in-Ok.found.items;
-        lexed = c.in_ok-lines.ensures.ok;
+        lexed = has_lines c.args.bytes.now c.in_ok-lines.lines.items c.in_ok-lines.ensures.ok;
         spelled = subst (λ ls. AreItems ls (lines_of c.in-Ok.found.items)) c.deref-2.ensures.value items;
         nested = c.in_ok-program.ensures;
-      },
-      none_least (limit_lines (routines_of c.in_ok-program.program)) (sym c.limit_line.ensures ∙ c.in-None.is),
-    )
+      };
+      short = has_no_long_line c.args.bytes.now c.in_ok-lines.lines.items c.in_ok-lines.ensures.ok;
+      small = none_least (limit_lines (routines_of c.in_ok-program.program)) (sym c.limit_line.ensures ∙ c.in-None.is);
+    }
 
 pub returns-clause-refused : goal.returns-clause-refused
 returns-clause-refused c =
@@ -51,8 +54,9 @@ returns-clause-refused c =
     by_limits (routines_of c.in_ok-program.program) c.in-Some-limit_line.line (record {
       lines = c.in_ok-lines.lines.items;
       items = lines_of c.in-Ok.found.items;
-      lexed = c.in_ok-lines.ensures.ok;
+      lexed = has_lines c.args.bytes.now c.in_ok-lines.lines.items c.in_ok-lines.ensures.ok;
       spelled = subst (λ ls. AreItems ls (lines_of c.in-Ok.found.items)) c.deref-2.ensures.value items;
       nested = c.in_ok-program.ensures;
     })
+    (has_no_long_line c.args.bytes.now c.in_ok-lines.lines.items c.in_ok-lines.ensures.ok)
     (sym c.limit_line.ensures ∙ c.in-Some-limit_line.is)

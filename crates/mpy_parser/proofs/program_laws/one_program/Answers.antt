@@ -1,0 +1,6 @@
+use Rattle.mpy_parser.proofs.OneAnswer.{one_program}
+use Rattle.mpy_parser.proofs.Steps.{laws}
+use Rattle.mpy_parser.proofs.program_laws.one_program.Goals as goal
+
+pub returns : goal.returns
+returns c = record { holds = one_program laws }
