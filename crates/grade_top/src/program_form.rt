@@ -1,15 +1,16 @@
 //! A program of one function of one parameter, whose body returns a formula of it.
-ghost use Rattle.std.specs.Prelude.{◌≡◌, ◌≤◌, length, IfOk, MatchOption};
-ghost use Rattle.mpy_tree.specs.View.{block_of, routine_of, routines_of, term_of as expr_term};
-ghost use Rattle.grade_top.specs.ProgramForm.{HaveOtherForm, IsFormula};
-ghost use Rattle.grade_top.specs.ProgramReading.{IsProgramOf, IsProgramRead};
-ghost use Rattle.grade_top.specs.Views.{function_of, term_of};
+ghost use Rattle.std.specs.Prelude.{◌≡◌, ◌≢◌, ◌≤◌, ◌∷◌, [], length, IfOk, MatchOption};
+ghost use Rattle.mpy_tree.specs.Syntax.{Statement, end, step};
+ghost use Rattle.mpy_tree.specs.View.{block_of, routine_of, routines_of, statement_of, term_of as expr_term};
+ghost use Rattle.grade_top.specs.ProgramForm.{HaveOtherForm, IsFormula, IsSumOrProduct};
+ghost use Rattle.grade_top.specs.ProgramReading.{Gives, GivesNothing, IsFormulaOf, IsProgramOf, IsProgramRead};
+ghost use Rattle.grade_top.specs.Views.{function_of, operator_of, term_of};
 
 use crate::formula::{Formula, Operation};
 use crate::scan::is_builtin;
 use crate::task::Function;
 use mpy_parser::{ReadError, read_prog};
-use mpy_tree::{Act, ArithOp, Cause, Expr, Func, Name, NoMemory, Prog, Stmts};
+use mpy_tree::{Act, ArithOp, Cause, Expr, Func, Name, NoMemory, Prog, Stmt, Stmts};
 use std::alloc::{AllocError, Global};
 
 /// The function that is read, or the first cause of refusal with its line.
@@ -20,7 +21,9 @@ pub(crate) enum ProgramRead {
 }
 
 /// The operation of an operator, if formulas have it.
-fn operation(op: ArithOp) -> Option<Operation> {
+fn operation(op: ArithOp) -> Option<Operation>
+    ensures { MatchOption result (IsSumOrProduct op → ⊥) (λ o. (operator_of o ≡ op) × IsSumOrProduct op) }
+{
     match op {
         ArithOp::Add => Some(Operation::Add),
         ArithOp::Sub => Some(Operation::Sub),
@@ -30,7 +33,11 @@ fn operation(op: ArithOp) -> Option<Operation> {
 }
 
 /// The formula of the parameter that an expression is, if it is one.
-fn formula_in(alloc: Global, param: &Name, e: &Expr) -> Result<Option<Formula>, NoMemory> {
+fn formula_in(alloc: Global, param: &Name, e: &Expr) -> Result<Option<Formula>, NoMemory>
+    ensures { IfOk result (λ o. MatchOption o
+        (IsFormula param.now (expr_term e.now) → ⊥)
+        (λ f. IsFormulaOf param.now (expr_term e.now) (term_of param.now f))) }
+{
     match e {
         Expr::Int(n) => Ok(Some(Formula::Number(*n))),
         Expr::Name(x) => {
@@ -58,21 +65,49 @@ fn formula_in(alloc: Global, param: &Name, e: &Expr) -> Result<Option<Formula>, 
     }
 }
 
-/// The function that a program is, if it is one that is graded.
-fn function_in(alloc: Global, entry: &Name, program: &Prog) -> Result<Option<Function>, NoMemory> {
-    let [func] = program.funcs.items.as_slice() else {
-        return Ok(None);
-    };
+/// The one item of a list, if it has one item.
+fn only<T>(items: &[T]) -> Option<&T>
+    ensures { MatchOption result ((x : T) → items.now ≢ x ∷ []) (λ x. items.now ≡ x.now ∷ []) }
+{
+    match items {
+        [x] => Some(x),
+        _ => None,
+    }
+}
+
+/// The one statement of a body, if it has one.
+fn only_statement(body: &Stmts) -> Option<&Stmt>
+    ensures { MatchOption result ((s : Statement) → block_of body.now ≢ step s end) (λ s. block_of body.now ≡ step (statement_of s.now) end) }
+{
+    only(&body.items)
+}
+
+/// What a statement returns, if it returns something.
+fn returned(statement: &Stmt) -> Option<&Expr>
+    ensures { MatchOption result (GivesNothing (statement_of statement.now)) (λ e. Gives (statement_of statement.now) statement.now.line (expr_term e.now)) }
+{
+    match &statement.act {
+        Act::Return(Some(e)) => Some(e),
+        _ => None,
+    }
+}
+
+/// The program that a function is, if it is one that is graded.
+fn form_of(alloc: Global, entry: &Name, func: &Func) -> Result<Option<Function>, NoMemory>
+    ensures { IfOk result (λ o. MatchOption o
+        (HaveOtherForm entry.now (routine_of func.now ∷ []))
+        (λ f. IsProgramOf entry.now (routine_of func.now ∷ []) (function_of f))) }
+{
     if !func.name.is(entry) || is_builtin(entry.bytes()) {
         return Ok(None);
     }
-    let [param] = func.params.items() else {
+    let Some(param) = only(func.params.items()) else {
         return Ok(None);
     };
-    let [statement] = func.body.items.as_slice() else {
+    let Some(statement) = only_statement(&func.body) else {
         return Ok(None);
     };
-    let Act::Return(Some(e)) = &statement.act else {
+    let Some(e) = returned(statement) else {
         return Ok(None);
     };
     let Some(body) = formula_in(alloc, param, e)? else {
@@ -84,6 +119,18 @@ fn function_in(alloc: Global, entry: &Name, program: &Prog) -> Result<Option<Fun
         body_line: statement.line,
         body,
     }))
+}
+
+/// The function that a program is, if it is one that is graded.
+fn function_in(alloc: Global, entry: &Name, program: &Prog) -> Result<Option<Function>, NoMemory>
+    ensures { IfOk result (λ o. MatchOption o
+        (HaveOtherForm entry.now (routines_of program.now))
+        (λ f. IsProgramOf entry.now (routines_of program.now) (function_of f))) }
+{
+    let Some(func) = only(&program.funcs.items) else {
+        return Ok(None);
+    };
+    form_of(alloc, entry, func)
 }
 
 /// The function that the bytes spell under the entry's name, or why there is none.
