@@ -12,7 +12,6 @@ pub mod Fronts
 pub mod Keeping
 pub mod Leasts
 pub mod OneReading
-pub mod ParserLaws
 pub mod ProgramLaws
 pub mod Ranges
 pub mod RuleNames

@@ -6,11 +6,12 @@ use Rattle.mpy_tree.specs.declared.refusal.Source.TheVariants as source
 use Rattle.mpy_tree.specs.Syntax.{Term, a_term, at, Give, Block, end, step, Routine}
 use Rattle.mpy_lexer.specs.declared.line.LexCause.{LexCause}
 use Rattle.mpy_lexer.specs.declared.line.LexCause.TheVariants as lex_cause
+use Rattle.mpy_parser.proofs.OneAnswer.{one_program as one_reading, not_refused}
+use Rattle.mpy_parser.proofs.Steps.{laws}
 use Rattle.mpy_parser.specs.Programs.{IsRefused, by_lexing, by_columns, by_item, by_blocks, by_limits, lexing_cause}
 use Rattle.grade_top.specs.ProgramForm.{Function, IsProgram, IsProgramRefused, program}
 use Rattle.grade_top.specs.Texts.{Texts}
 use Rattle.grade_top.specs.Decisions.{IsFirstCause, StopsAtReference, StopsAtSubmission}
-use Rattle.grade_top.proofs.ParserLaws.{one_reading, not_refused}
 
 same_item : {A : Type 0} (x y : A) → x ∷ [] ≡ y ∷ [] → x ≡ y
 same_item x y h = cc
@@ -37,11 +38,11 @@ same_function entry f other h =
     λ i. record { line = line i; param = param i; body_line = body_line i; body = body i }
 
 pub one_program : (bytes entry : List ℕ) (f other : Function) → IsProgram bytes entry f → IsProgram bytes entry other → f ≡ other
-one_program bytes entry f other is also = same_function entry f other (one_reading bytes (program entry f) (program entry other) is.read also.read)
+one_program bytes entry f other is also = same_function entry f other (one_reading laws bytes (program entry f) (program entry other) is.read.reads also.read.reads)
 
 pub program_unrefused : (bytes entry : List ℕ) (c : Cause) (line : ℕ) (f : Function) → IsProgram bytes entry f → IsProgramRefused bytes entry c line → ⊥
-program_unrefused bytes entry cause.NotYet line f is refused = refused.1.other f is.form (one_reading bytes refused.1.functions (program entry f) refused.1.read is.read)
-program_unrefused bytes entry c line f is refused = not_refused bytes (program entry f) c line is.read refused
+program_unrefused bytes entry cause.NotYet line f is refused = refused.1.other f is.form (one_reading laws bytes refused.1.functions (program entry f) refused.1.read.reads is.read.reads)
+program_unrefused bytes entry c line f is refused = not_refused laws bytes (program entry f) c line is.read refused
 
 -- the causes that the parser answers
 abbrev OfParser : Cause → Type 0
@@ -65,7 +66,7 @@ of_parser bytes c line (by_lexing d m e) = lexing_of_parser d
 of_parser bytes c line (by_columns ls m e f) = tt
 of_parser bytes c line (by_item before l rest is e f g h) = tt
 of_parser bytes c line (by_blocks ls is m e f g h) = tt
-of_parser bytes c line (by_limits rs m r f) = tt
+of_parser bytes c line (by_limits rs m r s f) = tt
 
 pub refused_by_parser : (bytes entry : List ℕ) (c : Cause) (line : ℕ) → IsRefused bytes c line → IsProgramRefused bytes entry c line
 refused_by_parser bytes entry cause.NotYet line h = absurd (of_parser bytes cause.NotYet line h)

@@ -41,6 +41,6 @@ shallow entry f none =
 
 pub few_literals : (bytes entry : List ℕ) (f : Function) → IsRead bytes (program entry f) → literals_in f.body ≤ 2 ^ 31
 few_literals bytes entry f read =
-    let most : 2 ^ depth f.body ≤ 2 ^ 32 = pow_mono {i = depth f.body} {j = 32} (shallow entry f read.1) in
+    let most : 2 ^ depth f.body ≤ 2 ^ 32 = pow_mono {i = depth f.body} {j = 32} (shallow entry f read.small) in
     let half = literals_by_depth f.body in
     omega arith
