@@ -1,5 +1,6 @@
 pub mod AgreementLaws
 pub mod Appending
+pub mod Bodies
 pub mod BoundsLaws
 pub mod BoundsRanges
 pub mod Claims

@@ -1,10 +1,10 @@
 -- How large a program may be, and how many literals it may have.
-use Rattle.std.proofs.Common.{◌≡◌, ℕ, suc, ◌+◌, ◌*◌, ◌^◌, ◌≤◌, max, Bool, true, false, List, [], ◌∷◌, ◌++◌, arith}
+use Rattle.std.proofs.Common.{◌≡◌, ℕ, suc, ◌+◌, ◌*◌, ◌^◌, ◌≤◌, max, Bool, true, false, List, [], ◌∷◌, ◌++◌, refl, arith}
 use Rattle.std.specs.Prelude.{◌||◌}
 use Rattle.std.proofs.lemmas.Bool.{ltb-false}
 use Rattle.std.proofs.Math.Nat.{pow-suc}
 use Rattle.std.proofs.Math.Pow.{pow_mono}
-use Rattle.mpy_tree.specs.Syntax.{Term, Number, Binary}
+use Rattle.mpy_tree.specs.Syntax.{Term, Number, Binary, a_term, at, Give, end, step}
 use Rattle.mpy_parser.specs.Limits.{depth, has_long, is_large, is_large_header, limit_lines, line_if}
 use Rattle.mpy_parser.specs.Programs.{IsProgram as IsRead}
 use Rattle.grade_top.specs.ProgramForm.{Function, program}
@@ -31,12 +31,12 @@ second_line false false m n h = cc
 
 first_false : (a b : Bool) → (a || b) ≡ false → a ≡ false
 first_false true b h = h
-first_false false b h = h
+first_false false b h = refl
 
 -- a program that no limit refuses isn't deep
 shallow : (entry : List ℕ) (f : Function) → limit_lines (program entry f) ≡ [] → depth f.body ≤ 32
 shallow entry f none =
-    let small : is_large f.body ≡ false = second_line (is_large_header (record { line = f.line; name = entry; params = f.param ∷ []; body = _ })) (is_large f.body) f.line f.body_line none in
+    let small : is_large f.body ≡ false = second_line (is_large_header (record { line = f.line; name = entry; params = f.param ∷ []; body = step (at f.body_line (Give (a_term f.body))) end })) (is_large f.body) f.line f.body_line none in
     ltb-false 32 (depth f.body) (first_false _ (has_long f.body) small)
 
 pub few_literals : (bytes entry : List ℕ) (f : Function) → IsRead bytes (program entry f) → literals_in f.body ≤ 2 ^ 31
