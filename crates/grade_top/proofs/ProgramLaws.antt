@@ -1,4 +1,4 @@
--- A text spells one program that is graded at most, or is refused for it.
+-- A text spells one program that is graded at most, and none where it is refused.
 use Rattle.std.proofs.Common.{◌≡◌, ℕ, List, [], ◌∷◌, ap, sym, ◌∙◌}
 use Rattle.mpy_tree.specs.declared.refusal.Cause.{Cause}
 use Rattle.mpy_tree.specs.declared.refusal.Cause.TheVariants as cause
@@ -68,11 +68,7 @@ of_parser bytes c line (by_item before l rest is e f g h) = tt
 of_parser bytes c line (by_blocks ls is m e f g h) = tt
 of_parser bytes c line (by_limits rs m r s f) = tt
 
-pub refused_by_parser : (bytes entry : List ℕ) (c : Cause) (line : ℕ) → IsRefused bytes c line → IsProgramRefused bytes entry c line
-refused_by_parser bytes entry cause.NotYet line h = absurd (of_parser bytes cause.NotYet line h)
-refused_by_parser bytes entry c line h = h
-
--- a program is refused neither as a task nor as its reference
+-- where a program is refused, its source is refused for that cause; no program is refused for a cause of the whole task
 pub stops_at_reference : (t : Texts) (c : Cause) (line : ℕ) → StopsAtReference t c line → IsFirstCause t source.Reference c line
 stops_at_reference t cause.EmptyReference line h = absurd (of_parser t.reference cause.EmptyReference line h.refused)
 stops_at_reference t c line h = h
