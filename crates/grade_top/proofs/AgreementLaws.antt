@@ -16,13 +16,13 @@ use Rattle.grade_top.specs.Tables.{number_in, number_at, IsTable}
 use Rattle.grade_top.specs.Searches.{MeetsAll}
 use Rattle.grade_top.proofs.FormulaMeaning.{IsOver, ends_by_value}
 
-number_by : (o : Option ℤ) → number_in (outcome_by o) ≡ o
-number_by None = refl
-number_by (Some n) = refl
+number_by : (line : ℕ) (o : Option ℤ) → number_in (outcome_by line o) ≡ o
+number_by line None = refl
+number_by line (Some n) = refl
 
 -- the number at a place is the formula's value there
 pub number_is : (b : Bounds) (f : Function) (k : ℕ) → IsOver f.param f.body → number_at b f k ≡ formula_value b.limits (b.low +ℤ pos k) f.body
-number_is b f k over = ap number_in (ends_by_value b f (b.low +ℤ pos k) over) ∙ number_by (formula_value b.limits (b.low +ℤ pos k) f.body)
+number_is b f k over = ap number_in (ends_by_value b f (b.low +ℤ pos k) over) ∙ number_by f.body_line (formula_value b.limits (b.low +ℤ pos k) f.body)
 
 -- a run with a number ends with that value
 pub ends_with_number : (o : Outcome) (n : ℤ) → number_in o ≡ Some n → o ≡ outcome.Value (value.Int n)
@@ -33,9 +33,9 @@ ends_with_number (outcome.Value (value.Text cs)) n h = cc
 ends_with_number (outcome.Fault kind line) n h = cc
 
 -- a formula's program that ends with a value ends with its number
-pub value_by_number : (o : Option ℤ) (v : Value) → outcome_by o ≡ outcome.Value v → (n : ℤ) × (o ≡ Some n) × (v ≡ value.Int n)
-value_by_number None v h = cc
-value_by_number (Some n) v h = (n, refl, cc)
+pub value_by_number : (line : ℕ) (o : Option ℤ) (v : Value) → outcome_by line o ≡ outcome.Value v → (n : ℤ) × (o ≡ Some n) × (v ≡ value.Int n)
+value_by_number line None v h = cc
+value_by_number line (Some n) v h = (n, refl, cc)
 
 -- an input is the lowest one and so many more
 pub input_place : (low high z : ℤ) → low ≤ℤ z → z ≤ℤ high → z ≡ low +ℤ pos (nat_abs (z -ℤ low))
@@ -59,10 +59,10 @@ agrees_by_table b r p t over_r over_p table meets = λ z v input ends.
     let k = nat_abs (z -ℤ b.low) in
     let place : z ≡ b.low +ℤ pos k = input_place b.low b.high z input.low input.high in
     let below : k < inputs_count b = place_below b.low b.high z input.low input.high in
-    let found = value_by_number (formula_value b.limits z r.body) v (sym (ends_by_value b r z over_r) ∙ ends) in
+    let found = value_by_number r.body_line (formula_value b.limits z r.body) v (sym (ends_by_value b r z over_r) ∙ ends) in
     let listed : slice_get t.values.items k ≡ Some (Some found.0) = table.each k below ∙ ap Some (number_is b r k over_r ∙ ap (λ y. formula_value b.limits y r.body) (sym place) ∙ found.1) in
     let given : formula_value b.limits z p.body ≡ Some found.0 = ap (λ y. formula_value b.limits y p.body) place ∙ meets k found.0 listed in
-    ends_by_value b p z over_p ∙ ap outcome_by given ∙ ap outcome.Value (sym found.2)
+    ends_by_value b p z over_p ∙ ap (outcome_by p.body_line) given ∙ ap outcome.Value (sym found.2)
 
 -- what agrees meets the table
 pub meets_by_agreement : (b : Bounds) (r p : Function) (t : Numbers) → b.low ≤ℤ b.high → IsOver r.param r.body → IsOver p.param p.body → IsTable b r t → Agrees b r p → MeetsAll b.limits b.low t.values.items p.body
@@ -72,5 +72,5 @@ meets_by_agreement b r p t ordered over_r over_p table agrees = λ k n listed.
     let ends = ends_with_number (ends_on b r (b.low +ℤ pos k)) n wanted in
     let within = place_input b.low b.high k ordered below in
     let given = agrees (b.low +ℤ pos k) (value.Int n) (record { low = within.0; high = within.1 }) ends in
-    let found = value_by_number (formula_value b.limits (b.low +ℤ pos k) p.body) (value.Int n) (sym (ends_by_value b p (b.low +ℤ pos k) over_p) ∙ given) in
+    let found = value_by_number p.body_line (formula_value b.limits (b.low +ℤ pos k) p.body) (value.Int n) (sym (ends_by_value b p (b.low +ℤ pos k) over_p) ∙ given) in
     found.1 ∙ ap Some (same_number found.0 n (sym found.2))

@@ -1,5 +1,5 @@
 -- What follows from how a call ends.
-use Rattle.std.proofs.Common.{◌≡◌, ℕ, ◌<◌, List, refl, sym, ap, ◌∙◌, arith, Some, None}
+use Rattle.std.proofs.Common.{◌≡◌, ℕ, ◌<◌, List, refl, sym, ap, subst, ◌∙◌, arith, Some, None}
 use Rattle.std.specs.Prelude.{Option}
 use Rattle.std.proofs.lemmas.Option.{same_Some}
 use Rattle.grade_io.specs.Devices.{Devices}
@@ -14,12 +14,14 @@ use Rattle.grade_top.specs.Texts.{Texts, AllFit, IsFirstLong}
 use Rattle.grade_top.specs.BoundsForm.{BoundsLines, Bounds, IsOutOfRange, lines_of, range_fault}
 use Rattle.grade_top.specs.Agreement.{Task, EndsSomewhere, IsFailure}
 use Rattle.grade_top.specs.Answers.{Answer, Correct, Corrected, NoCorrection, IsAnswer}
-use Rattle.grade_top.specs.Decisions.{IsFirstCause, IsTask}
+use Rattle.grade_top.specs.ProgramForm.{IsProgramRefused}
+use Rattle.grade_top.specs.Decisions.{IsFirstCause, IsTask, StopsAtReference, StopsAtSubmission}
 use Rattle.grade_top.specs.Words.{Command, Grade, Nothing, GradeWords}
 use Rattle.grade_top.specs.Ends.{Answered, TooLong, Refused, Unasked, Outcome, Ends, IsDue, status_of, status_of_answer}
 use Rattle.grade_top.specs.Claims.{IsGraded, IsUnrefused, IsUsage, NoFault}
 use Rattle.grade_top.proofs.BoundsLaws.{lines_again}
 use Rattle.grade_top.proofs.OneReading.{one_bounds, one_task}
+use Rattle.grade_top.proofs.ProgramLaws.{program_unrefused}
 
 usage_outcome : (g : GradeWords) (before after : Devices) (o : Outcome) → IsDue (Grade g) before.shelf after.shelf o → status.Usage ≡ status_of o → ⊥
 usage_outcome g before after (Answered k Correct) due e = cc
@@ -51,23 +53,29 @@ in_range t k line read out =
     let none : None ≡ Some line = sym read.bounds.in_range ∙ ap range_fault same ∙ out.fault in
     cc
 
+reference_unrefused : (t : Texts) (k : Task) (c : Cause) (line : ℕ) → IsTask t k → StopsAtReference t c line → ⊥
+reference_unrefused t k c line read stops =
+    let same = one_bounds t.bounds k.bounds stops.bounds read.bounds stops.read in
+    program_unrefused t.reference k.bounds.entry c line k.reference read.reference (subst (λ (b : Bounds). IsProgramRefused t.reference b.entry c line) (sym same) stops.refused)
+
+submission_unrefused : (t : Texts) (k : Task) (c : Cause) (line : ℕ) → IsTask t k → StopsAtSubmission t c line → ⊥
+submission_unrefused t k c line read stops =
+    let same = one_bounds t.bounds k.bounds stops.bounds read.bounds stops.read in
+    program_unrefused t.submission k.bounds.entry c line k.submission read.submission (subst (λ (b : Bounds). IsProgramRefused t.submission b.entry c line) (sym same) stops.refused)
+
 -- no cause of refusal comes first where nothing refuses the task
 never_refused : (before : Devices) (g : GradeWords) (t : Texts) (k : Task) (s : Source) (c : Cause) (line : ℕ) → IsUnrefused before g t k → IsFirstCause t s c line → ⊥
 never_refused before g t k source.Bounds cause.NotYet line fine h = h.1 (lines_of k.bounds fine.read.bounds.param) fine.read.bounds.spelled
 never_refused before g t k source.Bounds cause.BoundRange line fine h = in_range t k line fine.read h
-never_refused before g t k source.Reference cause.NotYet line fine h =
-    let same = one_bounds t.bounds k.bounds h.1.bounds fine.read.bounds h.1.read in
-    h.1.unread k.reference (rw (sym same) fine.read.reference)
-never_refused before g t k source.Submission cause.NotYet line fine h =
-    let same = one_bounds t.bounds k.bounds h.1.bounds fine.read.bounds h.1.read in
-    h.1.unread k.submission (rw (sym same) fine.read.submission)
 never_refused before g t k source.Rules cause.NotYet line fine h = h.1.unread k.rules fine.read.rules
 never_refused before g t k source.Submission cause.TooLarge line fine h =
-    let same = one_task t k h.1.task fine.read h.1.read in
-    fine.small (rw same h.1.large)
+    let same = one_task t k h.task fine.read h.read in
+    fine.small (rw same h.large)
 never_refused before g t k source.Reference cause.EmptyReference line fine h =
-    let same = one_task t k h.1.task fine.read h.1.read in
-    h.1.empty (rw (sym same) fine.ends)
+    let same = one_task t k h.task fine.read h.read in
+    h.empty (rw (sym same) fine.ends)
+never_refused before g t k source.Reference c line fine h = reference_unrefused t k c line fine.read h
+never_refused before g t k source.Submission c line fine h = submission_unrefused t k c line fine.read h
 never_refused before g t k _ _ line fine h = absurd h
 
 -- the submission of a correction doesn't agree

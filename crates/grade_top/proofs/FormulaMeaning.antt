@@ -85,19 +85,19 @@ value_by l calls s line x z (Apply g es) over set = absurd over
 begins : (x : List ℕ) (z : ℤ) → bound (x ∷ []) (value.Int z ∷ []) x ≡ Some (value.Int z)
 begins x z = rw (same_as_itself x) refl
 
-returned : (line : ℕ) (o : Option ℤ) → outcome_of (given_by line (then_on (given (result_by 2 o) Returned) (λ s. Next s))) ≡ outcome_by o
-returned line None = refl
-returned line (Some v) = refl
+returned : (line body_line : ℕ) (o : Option ℤ) → outcome_of (given_by line (then_on (given (result_by body_line o) Returned) (λ s. Next s))) ≡ outcome_by body_line o
+returned line body_line None = refl
+returned line body_line (Some v) = refl
 
 below_depth : (l : Limits) (entry : List ℕ) (f : Function) (z : ℤ) (d : ℕ) → 1 ≤ d → IsOver f.param f.body
-    → outcome_of (calls_below l (program entry f) d entry (value.Int z ∷ []) 1) ≡ outcome_by (formula_value l z f.body)
+    → outcome_of (calls_below l (program entry f) d entry (value.Int z ∷ []) 1) ≡ outcome_by f.body_line (formula_value l z f.body)
 below_depth l entry f z zero some over = absurd (omega arith)
 below_depth l entry f z (suc d) some over =
-    rw (same_as_itself entry, value_by l (calls_below l (program entry f) d) (bound (f.param ∷ []) (value.Int z ∷ [])) 2 f.param z f.body over (begins f.param z))
-    (returned 1 (formula_value l z f.body))
+    rw (same_as_itself entry, value_by l (calls_below l (program entry f) d) (bound (f.param ∷ []) (value.Int z ∷ [])) f.body_line f.param z f.body over (begins f.param z))
+    (returned f.line f.body_line (formula_value l z f.body))
 
 -- how the program of a formula ends
-pub ends_by_value : (b : Bounds) (f : Function) (z : ℤ) → IsOver f.param f.body → ends_on b f z ≡ outcome_by (formula_value b.limits z f.body)
+pub ends_by_value : (b : Bounds) (f : Function) (z : ℤ) → IsOver f.param f.body → ends_on b f z ≡ outcome_by f.body_line (formula_value b.limits z f.body)
 ends_by_value b f z over = below_depth b.limits b.entry f z b.limits.depth b.limits.depth_range.0 over
 
 pub over_formula : (x : List ℕ) (e : Term) → IsFormula x e → IsOver x e

@@ -23,11 +23,6 @@ pub when_some : {A : Type 0} (b : Bool) (o : Option A) (x : A) → cond b o None
 when_some true o x e = (refl, e)
 when_some false o x e = absurd cc
 
--- and one that is taken only where it doesn't pass
-pub unless_some : {A : Type 0} (b : Bool) (o : Option A) (x : A) → cond b None o ≡ Some x → (b ≡ false) × (o ≡ Some x)
-unless_some true o x e = absurd cc
-unless_some false o x e = (refl, e)
-
 -- which way a test went
 pub one_way : {A : Type 0} (b : Bool) (x y z : A) → cond b x y ≡ z → ((b ≡ true) × (x ≡ z)) ⊎ ((b ≡ false) × (y ≡ z))
 one_way true x y z e = inl (refl, e)

@@ -1,9 +1,8 @@
 pub mod AgreementLaws
 pub mod Appending
+pub mod Bodies
 pub mod BoundsLaws
 pub mod BoundsRanges
-pub mod ChainLaws
-pub mod ChainLoop
 pub mod Claims
 pub mod Counting
 pub mod Decimals
@@ -11,8 +10,6 @@ pub mod Digits
 pub mod Endings
 pub mod FormulaMeaning
 pub mod Fronts
-pub mod GroupingLaws
-pub mod GroupingSteps
 pub mod Keeping
 pub mod Leasts
 pub mod OneReading
@@ -23,6 +20,6 @@ pub mod RulesLaws
 pub mod RulesLoops
 pub mod SelectionLaws
 pub mod SevenItems
+pub mod Sizes
 pub mod Soundness
 pub mod VerdictLaws
-pub mod WrittenFormulas

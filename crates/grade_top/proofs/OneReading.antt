@@ -5,13 +5,12 @@ use Rattle.std.proofs.Math.Bridge.{le_prop}
 use Rattle.std.proofs.lemmas.Option.{same_Some}
 use Rattle.mpy_tree.specs.declared.limits.Limits.{Limits}
 use Rattle.grade_top.specs.BoundsForm.{BoundsLines, Bounds, IsBounds, lines_of}
-use Rattle.grade_top.specs.ProgramForm.{Function, IsProgram}
 use Rattle.grade_top.specs.RulesForm.{Rule, IsRules}
 use Rattle.grade_top.specs.Agreement.{Task}
 use Rattle.grade_top.specs.Decisions.{IsTask}
 use Rattle.grade_top.specs.Texts.{Texts}
 use Rattle.grade_top.proofs.BoundsLaws.{lines_again}
-use Rattle.grade_top.proofs.ProgramLaws.{program_is_read}
+use Rattle.grade_top.proofs.ProgramLaws.{one_program}
 use Rattle.grade_top.proofs.RulesLaws.{rules_are_read}
 
 -- a range, and its one proof
@@ -57,9 +56,6 @@ one_bounds bytes k other is also =
 
 pub one_rules : (bytes : List ℕ) (rules others : List Rule) → IsRules bytes rules → IsRules bytes others → rules ≡ others
 one_rules bytes rules others is also = same_Some rules others (sym (rules_are_read bytes rules is) ∙ rules_are_read bytes others also)
-
-pub one_program : (bytes entry : List ℕ) (f other : Function) → IsProgram bytes entry f → IsProgram bytes entry other → f ≡ other
-one_program bytes entry f other is also = same_Some f other (sym (program_is_read entry bytes f is) ∙ program_is_read entry bytes other also)
 
 pub one_task : (t : Texts) (k other : Task) → IsTask t k → IsTask t other → k ≡ other
 one_task t k other is also =

@@ -1,123 +1,78 @@
--- The program that is read is spelled by the bytes, and a program that is spelled is read.
-use Rattle.std.proofs.Common.{◌≡◌, ◌≤◌, ℕ, List, ◌++◌, Option, Some, None, refl, sym, ap, subst, ◌∙◌, append_assoc, codes, true, false, cond}
-use Rattle.std.specs.Prelude.{option_map, MatchOption}
-use Rattle.std.proofs.lemmas.Bool.{not_from_false, not-true}
-use Rattle.std.proofs.lemmas.List.{append-nil}
-use Rattle.std.proofs.lemmas.Option.{same_Some}
-use Rattle.std.proofs.lemmas.Slice.Eq.{bytes_eq-Decides}
-use Rattle.mpy_tree.specs.Syntax.{Term}
-use Rattle.mpy_tree.specs.Printing.{program_text, text_of}
-use Rattle.mpy_tree.specs.Values.{same_bytes}
-use Rattle.grade_top.specs.Names.{is_in, builtins, is_plain_name}
-use Rattle.grade_top.specs.ProgramForm.{Function, program, IsFormula, IsBare, depth_of, IsProgram, HaveNoProgram}
-use Rattle.grade_top.specs.Scanning.{after, name_after}
-use Rattle.grade_top.specs.ChainReading.{written_at}
-use Rattle.grade_top.specs.ChainGrouping.{term_written, shallow}
-use Rattle.grade_top.specs.ProgramReading.{heading_at, formula_read, function_read}
-use Rattle.grade_top.proofs.Fronts.{bind_some, when_some, unless_some, after_again, after_takes, name_after_takes, name_after_again}
-use Rattle.grade_top.proofs.ChainLaws.{written_text, written_take, written_again, no_operation}
-use Rattle.grade_top.proofs.GroupingLaws.{written_is_formula, written_is_text}
-use Rattle.grade_top.proofs.GroupingSteps.{shallow_is, shallow_value, is_shallow}
-use Rattle.grade_top.proofs.WrittenFormulas.{written_of, written_is_small, written_again_is, formula_text}
+-- A text spells one program that is graded at most, and none where it is refused.
+use Rattle.std.proofs.Common.{◌≡◌, ℕ, List, [], ◌∷◌, ap, sym, ◌∙◌}
+use Rattle.mpy_tree.specs.declared.refusal.Cause.{Cause}
+use Rattle.mpy_tree.specs.declared.refusal.Cause.TheVariants as cause
+use Rattle.mpy_tree.specs.declared.refusal.Source.TheVariants as source
+use Rattle.mpy_tree.specs.Syntax.{Term, a_term, at, Give, Block, end, step, Routine}
+use Rattle.mpy_lexer.specs.declared.line.LexCause.{LexCause}
+use Rattle.mpy_lexer.specs.declared.line.LexCause.TheVariants as lex_cause
+use Rattle.mpy_parser.proofs.OneAnswer.{one_program as one_reading, not_refused}
+use Rattle.mpy_parser.proofs.Steps.{laws}
+use Rattle.mpy_parser.specs.Programs.{IsRefused, by_lexing, by_columns, by_item, by_blocks, by_limits, lexing_cause}
+use Rattle.grade_top.specs.ProgramForm.{Function, IsProgram, IsProgramRefused, program}
+use Rattle.grade_top.specs.Texts.{Texts}
+use Rattle.grade_top.specs.Decisions.{IsFirstCause, StopsAtReference, StopsAtSubmission}
 
--- ---- the heading
+same_item : {A : Type 0} (x y : A) → x ∷ [] ≡ y ∷ [] → x ≡ y
+same_item x y h = cc
 
-abbrev heading_text : List ℕ → List ℕ → List ℕ → List ℕ
-heading_text entry param rest = codes "def " ++ (entry ++ (codes "(" ++ (param ++ (codes "):\n    return " ++ rest))))
+-- a body of one `return`
+abbrev returning : ℕ → Term → Block
+returning line e = step (at line (Give (a_term e))) end
 
-flat_text : (entry : List ℕ) (f : Function) → program_text (program entry f) ≡ heading_text entry f.param (text_of f.body ++ codes "\n")
-flat_text entry f =
-    let def = codes "def " in
-    let open_at = codes "(" in
-    let close_at = codes "):\n" in
-    let line = codes "    " ++ ((codes "return " ++ text_of f.body) ++ codes "\n") in
-    ap (λ (t : List ℕ). (((def ++ entry) ++ open_at) ++ f.param ++ close_at) ++ t) (append-nil line)
-    ∙ append_assoc (((def ++ entry) ++ open_at) ++ f.param) close_at line
-    ∙ append_assoc ((def ++ entry) ++ open_at) f.param (close_at ++ line)
-    ∙ append_assoc (def ++ entry) open_at (f.param ++ (close_at ++ line))
-    ∙ append_assoc def entry (open_at ++ (f.param ++ (close_at ++ line)))
+same_line : (line other : ℕ) (e f : Term) → returning line e ≡ returning other f → line ≡ other
+same_line line other e f h = cc
 
-heading_take : (entry bytes : List ℕ) (x : List ℕ × List ℕ) → heading_at entry bytes ≡ Some x → (bytes ≡ heading_text entry x.0 x.1) × (is_plain_name x.0 ≡ true)
-unfolding heading_at
-heading_take entry bytes x e =
-    let name = bind_some (after (codes "def ") bytes) _ x e in
-    let open_at = bind_some (after entry name.0) _ x name.2 in
-    let param = bind_some (name_after (codes "(") open_at.0) _ x open_at.2 in
-    let rest = bind_some (after (codes "):\n    return ") param.0.1) _ x param.2 in
-    let taken = name_after_takes (codes "(") open_at.0 param.0 param.1 in
-    let text : bytes ≡ heading_text entry param.0.0 rest.0 =
-    after_takes (codes "def ") bytes name.0 name.1
-    ∙ ap (λ (t : List ℕ). codes "def " ++ t) (after_takes entry name.0 open_at.0 open_at.1
-    ∙ ap (λ (t : List ℕ). entry ++ t) (taken.0
-    ∙ ap (λ (t : List ℕ). codes "(" ++ (param.0.0 ++ t)) (after_takes (codes "):\n    return ") param.0.1 rest.0 rest.1))) in
-    subst (λ (y : List ℕ × List ℕ). (bytes ≡ heading_text entry y.0 y.1) × (is_plain_name y.0 ≡ true)) (same_Some (param.0.0, rest.0) x rest.2) (text, taken.1)
+same_term : (line other : ℕ) (e f : Term) → returning line e ≡ returning other f → e ≡ f
+same_term line other e f h = cc
 
-heading_again : (entry param rest : List ℕ) → is_plain_name param ≡ true → heading_at entry (heading_text entry param rest) ≡ Some (param, rest)
-unfolding heading_at
-heading_again entry param rest plain =
-    let end = codes "):\n    return " ++ rest in
-    let name = name_after_again (codes "(") param end plain refl in
-    rw (after_again (codes "def ") (entry ++ (codes "(" ++ (param ++ end))), after_again entry (codes "(" ++ (param ++ end)), name, after_again (codes "):\n    return ") rest) refl
+-- functions whose programs are equal
+same_function : (entry : List ℕ) (f other : Function) → program entry f ≡ program entry other → f ≡ other
+same_function entry f other h =
+    let routine = same_item _ _ h in
+    let bodies = ap (λ (r : Routine). r.body) routine in
+    let line = ap (λ (r : Routine). r.line) routine in
+    let param = same_item _ _ (ap (λ (r : Routine). r.params) routine) in
+    let body_line = same_line f.body_line other.body_line f.body other.body bodies in
+    let body = same_term f.body_line other.body_line f.body other.body bodies in
+    λ i. record { line = line i; param = param i; body_line = body_line i; body = body i }
 
--- ---- the formula
+pub one_program : (bytes entry : List ℕ) (f other : Function) → IsProgram bytes entry f → IsProgram bytes entry other → f ≡ other
+one_program bytes entry f other is also = same_function entry f other (one_reading laws bytes (program entry f) (program entry other) is.read.reads also.read.reads)
 
-record IsBody (param text : List ℕ) (e : Term) : Type 0 where
-  spelled : text ≡ text_of e ++ codes "\n"
-  formula : IsFormula param e
-  bare : IsBare e
-  within : depth_of e ≤ 32
+pub program_unrefused : (bytes entry : List ℕ) (c : Cause) (line : ℕ) (f : Function) → IsProgram bytes entry f → IsProgramRefused bytes entry c line → ⊥
+program_unrefused bytes entry cause.NotYet line f is refused = refused.1.other f is.form (one_reading laws bytes refused.1.functions (program entry f) refused.1.read.reads is.read.reads)
+program_unrefused bytes entry c line f is refused = not_refused laws bytes (program entry f) c line is.read refused
 
-formula_take : (param text : List ℕ) (e : Term) → formula_read param text ≡ Some e → IsBody param text e
-unfolding formula_read
-formula_take param text e read =
-    let written = bind_some (written_at param text) _ e read in
-    let w = written.0.0 in
-    let whole = term_written param w in
-    let end = when_some (same_bytes written.0.1 (codes "\n")) (shallow whole) e written.2 in
-    let last : written.0.1 ≡ codes "\n" = (bytes_eq-Decides written.0.1 (codes "\n")).0 end.0 in
-    let taken = written_take param text written.0 written.1 in
-    let is = written_is_formula param w taken.first taken.links in
-    let text_is : text ≡ text_of whole ++ codes "\n" = taken.text ∙ ap (λ (t : List ℕ). written_text param w ++ t) last ∙ ap (λ (t : List ℕ). t ++ codes "\n") (sym (written_is_text param w taken.first taken.links)) in
-    subst (λ (t : Term). IsBody param text t) (shallow_value whole e end.1) (record { spelled = text_is; formula = is.0; bare = is.1; within = is_shallow whole e end.1 })
+-- the causes that the parser answers
+abbrev OfParser : Cause → Type 0
+OfParser cause.Byte = Unit {0}
+OfParser cause.Tab = Unit {0}
+OfParser cause.Token = Unit {0}
+OfParser cause.Limit = Unit {0}
+OfParser cause.Indent = Unit {0}
+OfParser cause.Syntax = Unit {0}
+OfParser cause.Block = Unit {0}
+OfParser _ = ⊥
 
-formula_again : (param : List ℕ) (e : Term) → is_plain_name param ≡ true → IsFormula param e → IsBare e → depth_of e ≤ 32 → formula_read param (text_of e ++ codes "\n") ≡ Some e
-unfolding formula_read
-formula_again param e plain formula bare within =
-    let w = written_of e in
-    let small = written_is_small param e formula in
-    let read = written_again param (codes "\n") w plain small.0 small.1 refl no_operation in
-    rw (formula_text param e formula bare, read, written_again_is param e formula bare) (shallow_is e within)
+lexing_of_parser : (c : LexCause) → OfParser (lexing_cause c)
+lexing_of_parser lex_cause.Byte = tt
+lexing_of_parser lex_cause.Tab = tt
+lexing_of_parser lex_cause.Token = tt
+lexing_of_parser lex_cause.LongLine = tt
 
--- ---- the function
+of_parser : (bytes : List ℕ) (c : Cause) (line : ℕ) → IsRefused bytes c line → OfParser c
+of_parser bytes c line (by_lexing d m e) = lexing_of_parser d
+of_parser bytes c line (by_columns ls m e f) = tt
+of_parser bytes c line (by_item before l rest is e f g h) = tt
+of_parser bytes c line (by_blocks ls is m e f g h) = tt
+of_parser bytes c line (by_limits rs m r s f) = tt
 
--- what is read is spelled so
-pub read_is_program : (entry bytes : List ℕ) (f : Function) → function_read entry bytes ≡ Some f → IsProgram bytes entry f
-unfolding function_read
-read_is_program entry bytes f e =
-    let heading = bind_some (cond (is_in entry builtins) None (heading_at entry bytes)) _ f e in
-    let own = unless_some (is_in entry builtins) (heading_at entry bytes) heading.0 heading.1 in
-    let body = bind_some (formula_read heading.0.0 heading.0.1) _ f heading.2 in
-    let head = heading_take entry bytes heading.0 own.1 in
-    let is = formula_take heading.0.0 heading.0.1 body.0 body.1 in
-    let g : Function = record { param = heading.0.0; body = body.0 } in
-    subst (λ (h : Function). IsProgram bytes entry h) (same_Some g f body.2)
-    (record {
-      text = head.0 ∙ ap (λ (t : List ℕ). heading_text entry heading.0.0 t) is.spelled ∙ sym (flat_text entry g);
-      no_builtin = not_from_false (is_in entry builtins) own.0;
-      param = head.1;
-      formula = is.formula;
-      bare = is.bare;
-      shallow = is.within;
-    })
+-- where a program is refused, its source is refused for that cause; no program is refused for a cause of the whole task
+pub stops_at_reference : (t : Texts) (c : Cause) (line : ℕ) → StopsAtReference t c line → IsFirstCause t source.Reference c line
+stops_at_reference t cause.EmptyReference line h = absurd (of_parser t.reference cause.EmptyReference line h.refused)
+stops_at_reference t c line h = h
 
--- what is spelled so is read
-pub program_is_read : (entry bytes : List ℕ) (f : Function) → IsProgram bytes entry f → function_read entry bytes ≡ Some f
-unfolding function_read
-program_is_read entry bytes f is =
-    let own : is_in entry builtins ≡ false = not-true (is_in entry builtins) is.no_builtin in
-    rw (is.text ∙ flat_text entry f, own, heading_again entry f.param (text_of f.body ++ codes "\n") is.param, formula_again f.param f.body is.param is.formula is.bare is.shallow) refl
-
--- an answer that is what reading gives says whether there is a program
-pub answers_as_read : {V : Type 0} (view : V → Function) (entry bytes : List ℕ) (o : Option V) → option_map view o ≡ function_read entry bytes → MatchOption o (HaveNoProgram bytes entry) (λ v. IsProgram bytes entry (view v))
-answers_as_read view entry bytes None e = λ f is. let read = program_is_read entry bytes f is in cc
-answers_as_read view entry bytes (Some v) e = read_is_program entry bytes (view v) (sym e)
+pub stops_at_submission : (t : Texts) (c : Cause) (line : ℕ) → StopsAtSubmission t c line → IsFirstCause t source.Submission c line
+stops_at_submission t cause.TooLarge line h = absurd (of_parser t.submission cause.TooLarge line h.refused)
+stops_at_submission t c line h = h

@@ -23,18 +23,17 @@ use Rattle.grade_top.proofs.FormulaMeaning.{ends_by_value, over_formula, over_re
 use Rattle.grade_top.proofs.Keeping.{kept, free_is_kept}
 use Rattle.grade_top.proofs.SelectionLaws.{selection_rewrites, rewriting_selected}
 
--- programs of one function run alike
-ends_alike : (b : Bounds) (p q : Function) (z : ℤ) → p.param ≡ q.param → p.body ≡ q.body → ends_on b p z ≡ ends_on b q z
-ends_alike b p q z params bodies =
-    ap (λ x. ends_on b (record { param = x; body = p.body }) z) params ∙ ap (λ e. ends_on b (record { param = q.param; body = e }) z) bodies
+-- the function with another body
+abbrev with_body : Function → Term → Function
+with_body f e = record f { body = e }
 
-agrees_alike : (b : Bounds) (r p q : Function) → p.param ≡ q.param → p.body ≡ q.body → Agrees b r p → Agrees b r q
-agrees_alike b r p q params bodies agrees = λ z v input ends. sym (ends_alike b p q z params bodies) ∙ agrees z v input ends
+agrees_alike : (b : Bounds) (r p q : Function) → p ≡ q → Agrees b r p → Agrees b r q
+agrees_alike b r p q same agrees = subst (λ (f : Function). Agrees b r f) same agrees
 
 -- the submission itself, at no cost
 pub correct_is_best : (k : Task) → IsSound k → Agrees k.bounds k.reference k.submission → IsBest k k.submission 0 []
 correct_is_best k sound agrees = record {
-  rewriting = record { param = refl; body = kept k.rules k.submission.param 2 k.submission.body sound.submission };
+  rewriting = record { rest = refl; body = kept k.rules k.submission.param k.submission.body_line k.submission.body sound.submission };
   agrees = agrees;
   least = λ q other others rewriting other_agrees. omega arith;
 }
@@ -43,15 +42,15 @@ correct_is_best k sound agrees = record {
 as_selected : (k : Task) (q : Function) (cost : ℕ) (edits : List Edit) → IsRewriting k.rules k.submission q cost edits → Agrees k.bounds k.reference q
     → (j : ℕ) × (j < selections_of k.rules k.submission.body) × Agrees k.bounds k.reference (function_by k j) × (cost_of (alternatives k.rules) k.submission.body j ≡ cost)
 as_selected k q cost edits rewriting agrees =
-    let s = rewriting_selected k.rules 2 k.submission.body q.body cost edits 0 rewriting.body in
-    (s.number, omega (arith, s.below), agrees_alike k.bounds k.reference q (function_by k s.number) rewriting.param (sym s.term) agrees, s.cost_is)
+    let s = rewriting_selected k.rules k.submission.body_line k.submission.body q.body cost edits 0 rewriting.body in
+    (s.number, omega (arith, s.below), agrees_alike k.bounds k.reference q (function_by k s.number) (rewriting.rest ∙ ap (with_body k.submission) (sym s.term)) agrees, s.cost_is)
 
 -- the cheapest selection that agrees makes the best rewriting
 pub selected_is_best : (k : Task) (j cost : ℕ) → IsSound k → Agrees k.bounds k.reference (function_by k j) → cost ≡ cost_of (alternatives k.rules) k.submission.body j
     → ((i : ℕ) → i < selections_of k.rules k.submission.body → Agrees k.bounds k.reference (function_by k i) → cost ≤ cost_of (alternatives k.rules) k.submission.body i)
-    → IsBest k (function_by k j) cost (edits_of (alternatives k.rules) 2 k.submission.body j)
+    → IsBest k (function_by k j) cost (edits_of (alternatives k.rules) k.submission.body_line k.submission.body j)
 selected_is_best k j cost sound agrees is least = record {
-  rewriting = record { param = refl; body = rw is (selection_rewrites k.rules k.submission.param 2 k.submission.body j sound.submission) };
+  rewriting = record { rest = refl; body = rw is (selection_rewrites k.rules k.submission.param k.submission.body_line k.submission.body j sound.submission) };
   agrees = agrees;
   least = λ q other others rewriting other_agrees.
       let s = as_selected k q other others rewriting other_agrees in
@@ -64,11 +63,11 @@ none_selected k none = λ q cost edits rewriting agrees. let s = as_selected k q
 same_int : (m n : ℤ) → value.Int m ≡ value.Int n → m ≡ n
 same_int m n h = cc
 
-differ_by : (o : Option ℤ) (n : ℤ) → o ≢ Some n → outcome_by o ≢ outcome.Value (value.Int n)
-differ_by o n differ same = let found = value_by_number o (value.Int n) same in differ (found.1 ∙ ap Some (same_int _ _ (sym found.2)))
+differ_by : (line : ℕ) (o : Option ℤ) (n : ℤ) → o ≢ Some n → outcome_by line o ≢ outcome.Value (value.Int n)
+differ_by line o n differ same = let found = value_by_number line o (value.Int n) same in differ (found.1 ∙ ap Some (same_int _ _ (sym found.2)))
 
 -- a failure of the tables is one of the task
-pub failure_is : (k : Task) (wanted given : Numbers) (f : Failure) → k.bounds.low ≤ℤ k.bounds.high → IsSound k → IsTable k.bounds k.reference wanted → IsTable k.bounds k.submission given → IsFailing wanted given f → IsFailure k (failure_of f)
+pub failure_is : (k : Task) (wanted given : Numbers) (f : Failure) → k.bounds.low ≤ℤ k.bounds.high → IsSound k → IsTable k.bounds k.reference wanted → IsTable k.bounds k.submission given → IsFailing wanted given f → IsFailure k (failure_of k.submission.body_line f)
 failure_is k wanted given f ordered sound table other failing =
     let b = k.bounds in
     let i = failing.place in
@@ -81,8 +80,8 @@ failure_is k wanted given f ordered sound table other failing =
     record {
       is_input = rw input (record { low = within.0; high = within.1 });
       reference = ap (ends_on b k.reference) input ∙ ends_with_number (ends_on b k.reference (b.low +ℤ pos i)) f.wanted wants;
-      submission = ap (ends_on b k.submission) input ∙ ends_by_value b k.submission (b.low +ℤ pos i) over ∙ ap outcome_by (sym (number_is b k.submission i over) ∙ gives);
-      differ = differ_by f.gives f.wanted failing.differ;
+      submission = ap (ends_on b k.submission) input ∙ ends_by_value b k.submission (b.low +ℤ pos i) over ∙ ap (outcome_by k.submission.body_line) (sym (number_is b k.submission i over) ∙ gives);
+      differ = differ_by k.submission.body_line f.gives f.wanted failing.differ;
     }
 
 -- where all is met the submission agrees
@@ -112,21 +111,21 @@ has_number b r wanted over table ends =
     let i = nat_abs (ends.input -ℤ b.low) in
     let place : ends.input ≡ b.low +ℤ pos i = input_place b.low b.high ends.input ends.is_input.low ends.is_input.high in
     let below : i < inputs_count b = place_below b.low b.high ends.input ends.is_input.low ends.is_input.high in
-    let found = value_by_number (formula_value b.limits ends.input r.body) ends.wanted (sym (ends_by_value b r ends.input over) ∙ ends.ends) in
+    let found = value_by_number r.body_line (formula_value b.limits ends.input r.body) ends.wanted (sym (ends_by_value b r ends.input over) ∙ ends.ends) in
     (i, found.0, table.each i below ∙ ap Some (number_is b r i over ∙ ap (λ y. formula_value b.limits y r.body) (sym place) ∙ found.1))
 
 -- a correction costs something, since the submission fails
-pub costs_something : (k : Task) (j cost : ℕ) (f : Failure) → IsSound k → Agrees k.bounds k.reference (function_by k j) → cost ≡ cost_of (alternatives k.rules) k.submission.body j → IsFailure k (failure_of f) → 0 < cost
+pub costs_something : (k : Task) (j cost : ℕ) (f : Failure) → IsSound k → Agrees k.bounds k.reference (function_by k j) → cost ≡ cost_of (alternatives k.rules) k.submission.body j → IsFailure k (failure_of k.submission.body_line f) → 0 < cost
 costs_something k j zero f sound agrees is fails =
-    let same = free_is_kept k.rules 2 k.submission.body (chosen (alternatives k.rules) k.submission.body j) _ _ sound.costs (selection_rewrites k.rules k.submission.param 2 k.submission.body j sound.submission) (sym is) in
-    let right = agrees_alike k.bounds k.reference (function_by k j) k.submission refl same agrees in
+    let same = free_is_kept k.rules k.submission.body_line k.submission.body (chosen (alternatives k.rules) k.submission.body j) _ _ sound.costs (selection_rewrites k.rules k.submission.param k.submission.body_line k.submission.body j sound.submission) (sym is) in
+    let right = agrees_alike k.bounds k.reference (function_by k j) k.submission (ap (with_body k.submission) same) agrees in
     absurd (fails.differ (sym fails.submission ∙ right f.input (value.Int f.wanted) fails.is_input fails.reference))
 costs_something k j (suc n) f sound agrees is fails = omega arith
 
 over_selected : (k : Task) (j : ℕ) → IsSound k → IsOver k.submission.param (chosen (alternatives k.rules) k.submission.body j)
 over_selected k j sound =
-    over_rewriting k.rules k.submission.param 2 k.submission.body (chosen (alternatives k.rules) k.submission.body j) _ _ (over_formula k.submission.param k.submission.body sound.submission)
-    (selection_rewrites k.rules k.submission.param 2 k.submission.body j sound.submission)
+    over_rewriting k.rules k.submission.param k.submission.body_line k.submission.body (chosen (alternatives k.rules) k.submission.body j) _ _ (over_formula k.submission.param k.submission.body sound.submission)
+    (selection_rewrites k.rules k.submission.param k.submission.body_line k.submission.body j sound.submission)
 
 -- a selection agrees where its formula meets the table
 agrees_selected : (k : Task) (wanted : Numbers) (j : ℕ) → IsSound k → IsTable k.bounds k.reference wanted
@@ -162,7 +161,7 @@ meets_is k alts wanted j seen low =
 pub found_is_answer : (k : Task) (alts : List Alternative) (wanted given : Numbers) (n : ℕ) (f : Failure) (j cost : ℕ) → IsSearched k alts wanted given n f
     → MeetsWanted k alts wanted j → cost ≡ cost_of alts k.submission.body j
     → ((i : ℕ) → i < n → MeetsWanted k alts wanted i → cost ≤ cost_of alts k.submission.body i)
-    → IsAnswer k (Corrected cost (failure_of f) (edits_of (alternatives k.rules) 2 k.submission.body j) (function_by k j))
+    → IsAnswer k (Corrected cost (failure_of k.submission.body_line f) (edits_of (alternatives k.rules) k.submission.body_line k.submission.body j) (function_by k j))
 found_is_answer k alts wanted given n f j cost s meets is least =
     let agrees = agrees_selected k wanted j s.sound s.table (subst (λ (T : Type 0). T) (meets_is k alts wanted j s.seen s.table.low) meets) in
     let cost_is = is ∙ ap (λ a. cost_of a k.submission.body j) s.seen in
@@ -176,7 +175,7 @@ found_is_answer k alts wanted given n f j cost s meets is least =
     )
 
 pub nothing_is_answer : (k : Task) (alts : List Alternative) (wanted given : Numbers) (n : ℕ) (f : Failure) → IsSearched k alts wanted given n f
-    → ((i : ℕ) → i < n → MeetsWanted k alts wanted i → ⊥) → IsAnswer k (NoCorrection (failure_of f))
+    → ((i : ℕ) → i < n → MeetsWanted k alts wanted i → ⊥) → IsAnswer k (NoCorrection (failure_of k.submission.body_line f))
 nothing_is_answer k alts wanted given n f s none = (
   none_selected k (λ i below other. none i (omega (arith, s.all)) (subst (λ (T : Type 0). T) (sym (meets_is k alts wanted i s.seen s.table.low)) (meets_selected k wanted i s.ordered s.sound s.table other))),
   failure_is k wanted given f s.ordered s.sound s.table s.other s.failing,

@@ -7,7 +7,7 @@ use Rattle.mpy_tree.specs.declared.refusal.Source.TheVariants as source
 use Rattle.mpy_tree.specs.declared.refusal.Refusal.{Refusal}
 use Rattle.grade_top.specs.Texts.{Texts}
 use Rattle.grade_top.specs.BoundsForm.{Bounds, IsBounds, HaveNoBounds, IsOutOfRange}
-use Rattle.grade_top.specs.ProgramForm.{Function, IsProgram, HaveNoProgram}
+use Rattle.grade_top.specs.ProgramForm.{Function, IsProgram, IsProgramRefused}
 use Rattle.grade_top.specs.RulesForm.{IsRules, HaveNoRules}
 use Rattle.grade_top.specs.Agreement.{Task, EndsSomewhere, IsTooLarge}
 use Rattle.grade_top.specs.Answers.{Answer, IsAnswer}
@@ -19,19 +19,19 @@ pub record IsTask (t : Texts) (k : Task) : Type 0 where
   pub submission : IsProgram t.submission k.bounds.entry k.submission
   pub rules : IsRules t.rules k.rules
 
--- the bounds are read, and the reference is none
-pub record StopsAtReference (t : Texts) : Type 0 where
+-- the bounds are read, and the reference is refused
+pub record StopsAtReference (t : Texts) (c : Cause) (line : ℕ) : Type 0 where
   pub bounds : Bounds
   pub read : IsBounds t.bounds bounds
-  pub unread : HaveNoProgram t.reference bounds.entry
+  pub refused : IsProgramRefused t.reference bounds.entry c line
 
--- the bounds and the reference are read, and the submission is none
-pub record StopsAtSubmission (t : Texts) : Type 0 where
+-- the bounds and the reference are read, and the submission is refused
+pub record StopsAtSubmission (t : Texts) (c : Cause) (line : ℕ) : Type 0 where
   pub bounds : Bounds
   pub reference : Function
   pub read : IsBounds t.bounds bounds
   pub read_reference : IsProgram t.reference bounds.entry reference
-  pub unread : HaveNoProgram t.submission bounds.entry
+  pub refused : IsProgramRefused t.submission bounds.entry c line
 
 -- all but the rules are read
 pub record StopsAtRules (t : Texts) : Type 0 where
@@ -43,28 +43,30 @@ pub record StopsAtRules (t : Texts) : Type 0 where
   pub read_submission : IsProgram t.submission bounds.entry submission
   pub unread : HaveNoRules t.rules
 
--- the task is read, and is too large
-pub record StopsAsTooLarge (t : Texts) : Type 0 where
+-- the task is read, and is too large; the line is that of the submission's `def`
+pub record StopsAsTooLarge (t : Texts) (line : ℕ) : Type 0 where
   pub task : Task
   pub read : IsTask t task
   pub large : IsTooLarge task
+  pub line_is : line ≡ task.submission.line
 
--- the task is read and not too large, and its reference gives a value on no input
-pub record StopsAsEmpty (t : Texts) : Type 0 where
+-- the task is read and not too large, and its reference gives a value on no input; the line is that of the reference's `def`
+pub record StopsAsEmpty (t : Texts) (line : ℕ) : Type 0 where
   pub task : Task
   pub read : IsTask t task
   pub small : IsTooLarge task → ⊥
   pub empty : EndsSomewhere task.bounds task.reference → ⊥
+  pub line_is : line ≡ task.reference.line
 
 -- the first cause of refusal, with its line
 abbrev pub IsFirstCause : Texts → Source → Cause → ℕ → Type 0
 IsFirstCause t source.Bounds cause.NotYet line = (line ≡ 1) × HaveNoBounds t.bounds
 IsFirstCause t source.Bounds cause.BoundRange line = IsOutOfRange t.bounds line
-IsFirstCause t source.Reference cause.NotYet line = (line ≡ 1) × StopsAtReference t
-IsFirstCause t source.Submission cause.NotYet line = (line ≡ 1) × StopsAtSubmission t
+IsFirstCause t source.Reference cause.EmptyReference line = StopsAsEmpty t line
+IsFirstCause t source.Reference c line = StopsAtReference t c line
+IsFirstCause t source.Submission cause.TooLarge line = StopsAsTooLarge t line
+IsFirstCause t source.Submission c line = StopsAtSubmission t c line
 IsFirstCause t source.Rules cause.NotYet line = (line ≡ 1) × StopsAtRules t
-IsFirstCause t source.Submission cause.TooLarge line = (line ≡ 1) × StopsAsTooLarge t
-IsFirstCause t source.Reference cause.EmptyReference line = (line ≡ 1) × StopsAsEmpty t
 IsFirstCause t _ _ line = ⊥
 
 abbrev pub IsRefusal : Texts → Refusal → Type 0

@@ -34,7 +34,7 @@ formula_value l z (Var x) = Some z
 formula_value l z (Binary op a b) = combined l op (formula_value l z a) (formula_value l z b)
 formula_value l z _ = None
 
--- how the program of a formula ends that has this value
-abbrev pub outcome_by : Option ℤ → Outcome
-outcome_by None = outcome.Fault Overflow 2
-outcome_by (Some v) = outcome.Value (value.Int v)
+-- how the program of a formula ends that has this value, where its `return` stands on the line
+abbrev pub outcome_by : ℕ → Option ℤ → Outcome
+outcome_by line None = outcome.Fault Overflow line
+outcome_by line (Some v) = outcome.Value (value.Int v)

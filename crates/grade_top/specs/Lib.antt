@@ -2,15 +2,12 @@ pub mod Agreement
 pub mod Answers
 pub mod BoundsForm
 pub mod BoundsReading
-pub mod ChainGrouping
-pub mod ChainReading
 pub mod Claims
 pub mod Decided
 pub mod Decisions
 pub mod Ends
 pub mod Fetched
 pub mod FormulaValues
-pub mod GroupingView
 pub mod Names
 pub mod OneTask
 pub mod Outcomes

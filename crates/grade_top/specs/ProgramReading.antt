@@ -1,31 +1,29 @@
--- Reading a program from the left.
-use Rattle.std.specs.Prelude.{ℕ, List, Option, Some, None, if◌then◌else◌, codes}
-use Rattle.mpy_tree.specs.Syntax.{Term}
-use Rattle.mpy_tree.specs.Values.{same_bytes}
-use Rattle.grade_top.specs.Names.{is_in, builtins}
-use Rattle.grade_top.specs.ProgramForm.{Function}
-use Rattle.grade_top.specs.Scanning.{◌>>=◌, after, name_after}
-use Rattle.grade_top.specs.ChainReading.{written_at}
-use Rattle.grade_top.specs.ChainGrouping.{term_written, shallow}
+-- What a program's text is, as the code answers it.
+use Rattle.std.specs.Prelude.{◌≡◌, ◌≢◌, ℕ, List}
+use Rattle.mpy_tree.specs.Syntax.{Term, a_term, at, Give, Statement, Routine}
+use Rattle.grade_top.specs.declared.program_form.ProgramRead.{ProgramRead}
+use Rattle.grade_top.specs.declared.program_form.ProgramRead.TheVariants.{Read, Refused}
+use Rattle.grade_top.specs.ProgramForm.{Function, IsForm, IsFormula, IsProgram, IsProgramRefused, program}
+use Rattle.grade_top.specs.Views.{function_of}
 
--- the parameter of the function of this name, and what follows its `return`
-unfoldable pub heading_at : List ℕ → List ℕ → Option (List ℕ × List ℕ)
-heading_at entry bytes = do
-  name ← after (codes "def ") bytes
-  parenthesis ← after entry name
-  param ← name_after (codes "(") parenthesis
-  rest ← after (codes "):\n    return ") param.1
-  Some (param.0, rest)
+-- the term is a formula of the parameter, and the one that was read
+pub record IsFormulaOf (x : List ℕ) (e read : Term) : Type 0 where
+  pub same : read ≡ e
+  pub formula : IsFormula x e
 
--- the formula on the last line
-unfoldable pub formula_read : List ℕ → List ℕ → Option Term
-formula_read param text = do
-  written ← written_at param text
-  if same_bytes written.1 (codes "\n") then shallow (term_written param written.0) else None
+-- the statement returns the term
+abbrev pub Gives : Statement → ℕ → Term → Type 0
+Gives s line e = s ≡ at line (Give (a_term e))
 
--- the function of this name, which is no builtin's
-unfoldable pub function_read : List ℕ → List ℕ → Option Function
-function_read entry bytes = do
-  heading ← if is_in entry builtins then None else heading_at entry bytes
-  body ← formula_read heading.0 heading.1
-  Some (record { param = heading.0; body = body })
+abbrev pub GivesNothing : Statement → Type 0
+GivesNothing s = (line : ℕ) (e : Term) → Gives s line e → ⊥
+
+-- the functions are the program of this one
+pub record IsProgramOf (entry : List ℕ) (rs : List Routine) (f : Function) : Type 0 where
+  pub functions : rs ≡ program entry f
+  pub form : IsForm entry f
+
+-- the bytes spell the function, or are refused so
+abbrev pub IsProgramRead : List ℕ → List ℕ → ProgramRead → Type 0
+IsProgramRead bytes entry (Read f) = IsProgram bytes entry (function_of f)
+IsProgramRead bytes entry (Refused c line) = IsProgramRefused bytes entry c line

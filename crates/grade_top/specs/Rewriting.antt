@@ -65,10 +65,10 @@ Rewrites rules line (Binary op a b) e' cost edits =
     × (e' ≡ Binary op o.left o.right) × (cost ≡ o.left_cost + o.right_cost) × (edits ≡ o.left_edits ++ o.right_edits)
 Rewrites rules line _ e' cost edits = ⊥
 
--- the same of a function, whose `return` stands on line 2; its parameter stays
+-- the same of a function, on the line of its `return`; all but the body stays
 pub record IsRewriting (rules : List Rule) (s p : Function) (cost : ℕ) (edits : List Edit) : Type 0 where
-  pub param : p.param ≡ s.param
-  pub body : Rewrites rules 2 s.body p.body cost edits
+  pub rest : p ≡ record s { body = p.body }
+  pub body : Rewrites rules s.body_line s.body p.body cost edits
 
 -- how many number literals a term has
 abbrev pub literals_in : Term → ℕ

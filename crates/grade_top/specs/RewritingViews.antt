@@ -13,7 +13,7 @@ abbrev pub alternative_of : code_alternative.Alternative → Alternative
 alternative_of a = record { rule = a.rule; cost = a.cost; literal = a.literal }
 
 abbrev pub edit_of : code_edit.Edit → Edit
-edit_of e = record { line = 2; rule = e.rule; old = Number e.old; new = Number e.new }
+edit_of e = record { line = e.line; rule = e.rule; old = Number e.old; new = Number e.new }
 
 abbrev pub alternatives_seen : Rewritings → List Alternative
 alternatives_seen r = map alternative_of r.alternatives.now
@@ -29,7 +29,7 @@ abbrev pub cost_under : Rewritings → Formula → ℕ → ℕ
 cost_under r f j = cost_of (alternatives_seen r) (formula_in r f) j
 
 abbrev pub edits_under : Rewritings → Formula → ℕ → List Edit
-edits_under r f j = edits_of (alternatives_seen r) 2 (formula_in r f) j
+edits_under r f j = edits_of (alternatives_seen r) r.line (formula_in r f) j
 
 abbrev pub rest_under : Rewritings → Formula → ℕ → ℕ
 rest_under r f j = rest_of (alternatives_seen r) (formula_in r f) j

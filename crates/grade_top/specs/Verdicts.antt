@@ -13,17 +13,18 @@ use Rattle.grade_top.specs.Answers.{Answer, Correct, Corrected, NoCorrection, Is
 use Rattle.grade_top.specs.FormulaValues.{outcome_by}
 use Rattle.grade_top.specs.Selections.{chosen, edits_of}
 
-abbrev pub failure_of : code_failure.Failure → Failure
-failure_of f = record { input = f.input; gives = outcome_by f.gives; wanted = value.Int f.wanted }
+-- the submission's `return` stands on the line
+abbrev pub failure_of : ℕ → code_failure.Failure → Failure
+failure_of line f = record { input = f.input; gives = outcome_by line f.gives; wanted = value.Int f.wanted }
 
 -- the function that a selection makes of the submission, and its edits
 abbrev pub function_by : Task → ℕ → Function
-function_by k j = record { param = k.submission.param; body = chosen (alternatives k.rules) k.submission.body j }
+function_by k j = record k.submission { body = chosen (alternatives k.rules) k.submission.body j }
 
 abbrev pub answer_of : Task → code_answer.Answer → Answer
 answer_of k code_answer.TheVariants.Correct = Correct
-answer_of k (code_answer.TheVariants.Corrected j cost fails) = Corrected cost (failure_of fails) (edits_of (alternatives k.rules) 2 k.submission.body j) (function_by k j)
-answer_of k (code_answer.TheVariants.NoCorrection fails) = NoCorrection (failure_of fails)
+answer_of k (code_answer.TheVariants.Corrected j cost fails) = Corrected cost (failure_of k.submission.body_line fails) (edits_of (alternatives k.rules) k.submission.body_line k.submission.body j) (function_by k j)
+answer_of k (code_answer.TheVariants.NoCorrection fails) = NoCorrection (failure_of k.submission.body_line fails)
 
 abbrev pub CostsSomething : Rule → Type 0
 CostsSomething r = 1 ≤ r.cost
@@ -33,7 +34,7 @@ pub record IsSound (k : Task) : Type 0 where
   pub reference : IsFormula k.reference.param k.reference.body
   pub submission : IsFormula k.submission.param k.submission.body
   pub costs : AllByRecursion CostsSomething k.rules
-  pub few : literals_in k.submission.body < 2 ^ 31
+  pub few : literals_in k.submission.body ≤ 2 ^ 31
 
 -- so many selections are tried, all of them
 pub record IsTried (k : Task) (n : ℕ) : Type 0 where

@@ -35,7 +35,7 @@ abbrev pub bounds_of : code_bounds.Bounds → Bounds
 bounds_of b = record { limits = b.limits; entry = b.entry; low = b.low; high = b.high }
 
 abbrev pub function_of : code_function.Function → Function
-function_of f = record { param = f.param; body = term_of f.param f.body }
+function_of f = record { line = f.line; param = f.param; body_line = f.body_line; body = term_of f.param f.body }
 
 abbrev pub rule_of : code_rule.Rule → Rule
 rule_of r = record { name = r.name; cost = r.cost; literals = r.literals.items }

@@ -50,6 +50,7 @@ fn selections_to_try(task: &Task, alternatives: &[Alternative]) -> Option<u64>
     ensures { MatchOption result (IsTooLarge (task_of task.now)) (IsTried (task_of task.now)) }
 {
     let rewritings = Rewritings {
+        line: task.submission.body_line,
         param: &task.submission.param,
         alternatives,
     };
@@ -78,6 +79,7 @@ fn find_answer(
     let search = Search {
         limits: &task.bounds.limits,
         rewritings: Rewritings {
+            line: task.submission.body_line,
             param: &task.submission.param,
             alternatives,
         },

@@ -8,7 +8,7 @@ ghost use Rattle.grade_top.specs.Texts.{AllFit};
 use crate::answer::{Answer, Verdict, find_verdict};
 use crate::bounds_form::{BoundsRead, read_bounds};
 use crate::fetch::Sources;
-use crate::program_form::read_program;
+use crate::program_form::{ProgramRead, read_program};
 use crate::rules_form::read_rules;
 use crate::task::Task;
 use mpy_tree::{Cause, NoMemory, Refusal, Source};
@@ -40,6 +40,7 @@ fn refused(source: Source, cause: Cause, line: u32) -> Refusal
 
 /// Reads the texts in their order.
 fn read_task(alloc: Global, sources: &Sources) -> Result<TaskRead, NoMemory>
+    requires { AllFit (texts_of sources.now) }
     ensures { IfOk result (IsReadOr (texts_of sources.now)) }
 {
     let bounds = match read_bounds(alloc, &sources.bounds)? {
@@ -51,11 +52,17 @@ fn read_task(alloc: Global, sources: &Sources) -> Result<TaskRead, NoMemory>
             return Ok(TaskRead::Refused(refused(Source::Bounds, Cause::NotYet, 1)));
         }
     };
-    let Some(reference) = read_program(alloc, &sources.reference, &bounds.entry)? else {
-        return Ok(TaskRead::Refused(refused(Source::Reference, Cause::NotYet, 1)));
+    let reference = match read_program(alloc, &sources.reference, &bounds.entry)? {
+        ProgramRead::Read(reference) => reference,
+        ProgramRead::Refused { cause, line } => {
+            return Ok(TaskRead::Refused(refused(Source::Reference, cause, line)));
+        }
     };
-    let Some(submission) = read_program(alloc, &sources.submission, &bounds.entry)? else {
-        return Ok(TaskRead::Refused(refused(Source::Submission, Cause::NotYet, 1)));
+    let submission = match read_program(alloc, &sources.submission, &bounds.entry)? {
+        ProgramRead::Read(submission) => submission,
+        ProgramRead::Refused { cause, line } => {
+            return Ok(TaskRead::Refused(refused(Source::Submission, cause, line)));
+        }
     };
     let Some(rules) = read_rules(alloc, &sources.rules)? else {
         return Ok(TaskRead::Refused(refused(Source::Rules, Cause::NotYet, 1)));
@@ -78,9 +85,13 @@ pub(crate) fn decide(alloc: Global, sources: &Sources) -> Result<Decision, NoMem
         TaskRead::Refused(refusal) => return Ok(Decision::Refused(refusal)),
     };
     match find_verdict(alloc, &task)? {
-        Verdict::TooLarge => Ok(Decision::Refused(refused(Source::Submission, Cause::TooLarge, 1))),
+        Verdict::TooLarge => {
+            let line = task.submission.line;
+            Ok(Decision::Refused(refused(Source::Submission, Cause::TooLarge, line)))
+        }
         Verdict::EmptyReference => {
-            Ok(Decision::Refused(refused(Source::Reference, Cause::EmptyReference, 1)))
+            let line = task.reference.line;
+            Ok(Decision::Refused(refused(Source::Reference, Cause::EmptyReference, line)))
         }
         Verdict::Answered(answer) => Ok(Decision::Answered(task, answer)),
     }

@@ -51,7 +51,7 @@ fn is_cheaper(cost: u64, best: Option<Found>) -> bool
 
 /// The best of the selections up to this one, from the best of those before it.
 fn best_with(search: &Search<'_>, selection: u64, best: Option<Found>) -> Option<Found>
-    requires few { literals_in (formula_in search.now.rewritings search.now.formula.now) < 2 ^ 31 }
+    requires few { literals_in (formula_in search.now.rewritings search.now.formula.now) ≤ 2 ^ 31 }
     requires best { IsLeast search.now selection best }
     ensures { IsLeast search.now (selection + 1) result }
 {
@@ -67,7 +67,7 @@ fn best_with(search: &Search<'_>, selection: u64, best: Option<Found>) -> Option
 
 /// The cheapest of the first selections that agrees, if any does.
 pub(crate) fn least(search: &Search<'_>, selections: u64) -> Option<Found>
-    requires { literals_in (formula_in search.now.rewritings search.now.formula.now) < 2 ^ 31 }
+    requires { literals_in (formula_in search.now.rewritings search.now.formula.now) ≤ 2 ^ 31 }
     ensures { IsLeast search.now selections result }
 {
     let mut best = None;

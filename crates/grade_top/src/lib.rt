@@ -13,17 +13,15 @@ ghost use Rattle.grade_top.specs.Words.{Asks, AsksGrade, Command, GradeWords, No
 mod alternatives;
 mod answer;
 mod bounds_form;
-mod chain;
 mod decide;
 mod evaluation;
 mod failure;
 mod fetch;
 mod formula;
-mod formula_text;
 mod grade;
-mod grouping;
 mod laws;
 mod least;
+mod number_text;
 mod numbers;
 mod outcome;
 mod program;
@@ -35,7 +33,6 @@ mod rewritings;
 mod rules_form;
 mod scan;
 mod search;
-mod shallow;
 mod tables;
 mod task;
 #[cfg(test)]

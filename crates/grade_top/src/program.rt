@@ -46,13 +46,13 @@ pub(crate) fn program_of(alloc: Global, entry: &Name, function: &Function) -> Re
     let body = expression(alloc, &function.param, &function.body)?;
     let mut stmts = Vec::new(alloc);
     stmts.push(Stmt {
-        line: 2,
+        line: function.body_line,
         act: Act::Return(Some(body)),
     })?;
     let mut params = Vec::new(alloc);
     params.push(function.param.copy()?)?;
     let func = Func {
-        line: 1,
+        line: function.line,
         name: entry.copy()?,
         params: Names::from_vec(params),
         body: Stmts { items: stmts },

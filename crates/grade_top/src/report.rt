@@ -1,8 +1,7 @@
 //! The report of an answer.
-ghost use Rattle.std.specs.Prelude.{◌≡◌, ◌++◌, ◌∷◌, [], IfOk, OnOk, codes, map, slice_get};
+ghost use Rattle.std.specs.Prelude.{◌≡◌, ◌++◌, ℕ, IfOk, OnOk, map, slice_get};
 ghost use Rattle.std.specs.Option.{option_map};
-ghost use Rattle.mpy_tree.specs.Printing.{block_text, program_text as text_of_program, return_text as text_of_return, value_text};
-ghost use Rattle.mpy_tree.specs.Syntax.{Give, a_term, at, end, step};
+ghost use Rattle.mpy_tree.specs.Printing.{program_text as text_of_program};
 ghost use Rattle.grade_top.specs.FormulaValues.{outcome_by};
 ghost use Rattle.grade_top.specs.ProgramForm.{program};
 ghost use Rattle.grade_top.specs.Reports.{edit_by, edit_line, edits_text as text_of_edits, fails_text as text_of_failure, outcome_text as text_of_outcome, report_of};
@@ -11,20 +10,22 @@ ghost use Rattle.grade_top.specs.Rewriting.{alternatives};
 ghost use Rattle.grade_top.specs.RewritingViews.{edit_of};
 ghost use Rattle.grade_top.specs.Selections.{edits_of};
 ghost use Rattle.grade_top.specs.Verdicts.{answer_of, failure_of, function_by};
-ghost use Rattle.grade_top.specs.Views.{function_of, rule_of, rules_of, task_of, term_of};
+ghost use Rattle.grade_top.specs.Views.{function_of, rule_of, rules_of, task_of};
 
 use crate::alternatives::alternatives_by;
 use crate::answer::Answer;
 use crate::failure::Failure;
-use crate::formula_text::{push_formula, push_number, push_signed};
+use crate::number_text::{push_number, push_signed};
+use crate::program::program_of;
 use crate::rewritings::{Edit, Rewritings, push_edits, rewritten};
 use crate::task::{Function, Rule, Task};
+use mpy_printer::print_prog;
 use mpy_tree::{Name, NoMemory};
 use std::alloc::Global;
 
 /// Adds what a run gives: a number, or the fault of a number outside the width.
 fn push_outcome(alloc: Global, out: &mut Vec<u8>, gives: Option<i32>) -> Result<(), NoMemory>
-    ensures { OnOk result (out.new.items ≡ out.old.items ++ text_of_outcome (outcome_by gives)) }
+    ensures { (line : ℕ) → OnOk result (out.new.items ≡ out.old.items ++ text_of_outcome (outcome_by line gives)) }
 {
     match gives {
         Some(n) => push_signed(alloc, out, n)?,
@@ -35,7 +36,7 @@ fn push_outcome(alloc: Global, out: &mut Vec<u8>, gives: Option<i32>) -> Result<
 
 /// The line for an input on which the submission fails.
 fn fails_line(alloc: Global, entry: &Name, fails: &Failure) -> Result<Vec<u8>, NoMemory>
-    ensures { IfOk result (λ v. v.items ≡ text_of_failure entry.now (failure_of fails.now)) }
+    ensures { (line : ℕ) → IfOk result (λ v. v.items ≡ text_of_failure entry.now (failure_of line fails.now)) }
 {
     let mut text = b"fails ".to_vec(alloc)?;
     text.extend_from_slice(entry.bytes())?;
@@ -54,7 +55,7 @@ fn edit_text(alloc: Global, edit: &Edit, rule: &Rule) -> Result<Vec<u8>, NoMemor
     ensures { IfOk result (λ v. v.items ≡ edit_by (edit_of edit.now) (rule_of rule.now)) }
 {
     let mut text = b"line ".to_vec(alloc)?;
-    push_number(alloc, &mut text, 2)?;
+    push_number(alloc, &mut text, u64::from(edit.line))?;
     text.extend_from_slice(b" [")?;
     text.extend_from_slice(rule.name.bytes())?;
     text.extend_from_slice(b", ")?;
@@ -87,61 +88,32 @@ fn edit_lines(alloc: Global, rules: &[Rule], edits: &[Edit]) -> Result<Vec<u8>, 
     Ok(text)
 }
 
-/// A `return` of a function's formula.
-fn return_text(alloc: Global, function: &Function) -> Result<Vec<u8>, NoMemory>
-    ensures { IfOk result (λ v. v.items ≡ text_of_return (a_term (term_of function.now.param function.now.body))) }
-{
-    let mut text = b"return ".to_vec(alloc)?;
-    push_formula(alloc, &mut text, &function.body, &function.param)?;
-    Ok(text)
-}
-
-/// The body of a function, a line.
-fn body_text(alloc: Global, function: &Function) -> Result<Vec<u8>, NoMemory>
-    ensures { IfOk result (λ v. v.items ≡ block_text 1 (step (at 2 (Give (a_term (term_of function.now.param function.now.body)))) end)) }
-{
-    let mut statement = return_text(alloc, function)?;
-    statement.extend_from_slice(b"\n")?;
-    let mut line = b"    ".to_vec(alloc)?;
-    line.extend_from_slice(statement.as_slice())?;
-    Ok(line)
-}
-
-/// The text of the program that has this function as its entry.
-fn program_text(alloc: Global, entry: &Name, function: &Function) -> Result<Vec<u8>, NoMemory>
-    ensures { IfOk result (λ v. v.items ≡ text_of_program (program entry.now (function_of function.now))) }
-{
-    let mut text = b"def ".to_vec(alloc)?;
-    text.extend_from_slice(entry.bytes())?;
-    text.extend_from_slice(b"(")?;
-    text.extend_from_slice(function.param.bytes())?;
-    text.extend_from_slice(b"):\n")?;
-    text.extend_from_slice(body_text(alloc, function)?.as_slice())?;
-    Ok(text)
-}
-
 /// The function that a selection makes of the submission.
 fn corrected(alloc: Global, task: &Task, selection: u64) -> Result<Function, NoMemory>
     ensures { IfOk result (λ f. function_of f ≡ function_by (task_of task.now) selection) }
 {
     let alternatives = alternatives_by(alloc, &task.rules)?;
     let rewritings = Rewritings {
+        line: task.submission.body_line,
         param: &task.submission.param,
         alternatives: alternatives.as_slice(),
     };
     let (body, _) = rewritten(alloc, &rewritings, &task.submission.body, selection)?;
     Ok(Function {
+        line: task.submission.line,
         param: task.submission.param.copy()?,
+        body_line: task.submission.body_line,
         body,
     })
 }
 
 /// The edits by which a selection makes it.
 fn edits_by(alloc: Global, task: &Task, selection: u64) -> Result<Vec<Edit>, NoMemory>
-    ensures { IfOk result (λ v. map edit_of v.items ≡ edits_of (alternatives (task_of task.now).rules) 2 (task_of task.now).submission.body selection) }
+    ensures { IfOk result (λ v. map edit_of v.items ≡ edits_of (alternatives (task_of task.now).rules) (task_of task.now).submission.body_line (task_of task.now).submission.body selection) }
 {
     let alternatives = alternatives_by(alloc, &task.rules)?;
     let rewritings = Rewritings {
+        line: task.submission.body_line,
         param: &task.submission.param,
         alternatives: alternatives.as_slice(),
     };
@@ -155,13 +127,14 @@ fn corrected_text(alloc: Global, task: &Task, selection: u64) -> Result<Vec<u8>,
     ensures { IfOk result (λ v. v.items ≡ text_of_program (program (task_of task.now).bounds.entry (function_by (task_of task.now) selection))) }
 {
     let function = corrected(alloc, task, selection)?;
-    let text = program_text(alloc, &task.bounds.entry, &function)?;
+    let program = program_of(alloc, &task.bounds.entry, &function)?;
+    let text = print_prog(alloc, &program)?;
     Ok(text)
 }
 
 /// The lines for the edits by which a selection makes it.
 fn correction_lines(alloc: Global, task: &Task, selection: u64) -> Result<Vec<u8>, NoMemory>
-    ensures { IfOk result (λ v. v.items ≡ text_of_edits (task_of task.now).rules (edits_of (alternatives (task_of task.now).rules) 2 (task_of task.now).submission.body selection)) }
+    ensures { IfOk result (λ v. v.items ≡ text_of_edits (task_of task.now).rules (edits_of (alternatives (task_of task.now).rules) (task_of task.now).submission.body_line (task_of task.now).submission.body selection)) }
 {
     let edits = edits_by(alloc, task, selection)?;
     let text = edit_lines(alloc, &task.rules, &edits)?;
@@ -176,7 +149,7 @@ fn correction_report(
     cost: u64,
     fails: &Failure,
 ) -> Result<Vec<u8>, NoMemory>
-    ensures { IfOk result (λ v. v.items ≡ report_of (task_of task.now) (Corrected cost (failure_of fails.now) (edits_of (alternatives (task_of task.now).rules) 2 (task_of task.now).submission.body selection) (function_by (task_of task.now) selection))) }
+    ensures { IfOk result (λ v. v.items ≡ report_of (task_of task.now) (Corrected cost (failure_of (task_of task.now).submission.body_line fails.now) (edits_of (alternatives (task_of task.now).rules) (task_of task.now).submission.body_line (task_of task.now).submission.body selection) (function_by (task_of task.now) selection))) }
 {
     let mut text = b"cost ".to_vec(alloc)?;
     push_number(alloc, &mut text, cost)?;

@@ -14,17 +14,19 @@ use crate::formula::Formula;
 use mpy_tree::{Name, NoMemory};
 use std::alloc::Global;
 
-/// A number literal that a rule, counted from 0, replaces.
+/// A number literal on a line that a rule, counted from 0, replaces.
 #[derive(Clone, Copy, Debug, PartialEq, Eq, Drop)]
 pub(crate) struct Edit {
+    pub(crate) line: u32,
     pub(crate) rule: usize,
     pub(crate) old: u32,
     pub(crate) new: u32,
 }
 
-/// The rewritings of formulas of a parameter.
+/// The rewritings of formulas of a parameter on a line.
 #[derive(Clone, Copy, Drop)]
 pub(crate) struct Rewritings<'a> {
+    pub(crate) line: u32,
     pub(crate) param: &'a Name,
     pub(crate) alternatives: &'a [Alternative],
 }
@@ -74,7 +76,7 @@ fn cost_of(taken: Option<Alternative>) -> u64
 
 /// The cost of a selection, and the selection of what follows the formula.
 pub(crate) fn cost(rewritings: &Rewritings<'_>, formula: &Formula, selection: u64) -> (u64, u64)
-    requires { literals_in (formula_in rewritings.now formula.now) < 2 ^ 31 }
+    requires { literals_in (formula_in rewritings.now formula.now) ≤ 2 ^ 31 }
     ensures cost { result.0 ≡ cost_under rewritings.now formula.now selection }
     ensures most { result.0 ≤ literals_in (formula_in rewritings.now formula.now) * 4294967295 }
     ensures rest { result.1 ≡ rest_under rewritings.now formula.now selection }
@@ -186,6 +188,7 @@ pub(crate) fn push_edits(
             let (taken, rest) = next(rewritings, selection);
             if let Some(alternative) = taken {
                 edits.push(Edit {
+                    line: rewritings.line,
                     rule: alternative.rule,
                     old: *n,
                     new: alternative.literal,

@@ -15,10 +15,12 @@ pub(crate) struct Bounds {
     ghost range: { IsTrue (int_le low high && (fits_width limits.width low && fits_width limits.width high)) },
 }
 
-/// A function of one parameter: its name, and what it returns.
+/// A function of one parameter: its name, what it returns, and the lines of the `def` and the `return`.
 #[derive(Drop)]
 pub(crate) struct Function {
+    pub(crate) line: u32,
     pub(crate) param: Name,
+    pub(crate) body_line: u32,
     pub(crate) body: Formula,
 }
 

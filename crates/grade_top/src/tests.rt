@@ -22,7 +22,7 @@ const CORRECTED: &str =
     "cost 1\nfails f(4): gives 8, wanted 12\nline 2 [lit, 1]: replace 2 by 3\nprogram\ndef f(x):\n    return x * 3\n";
 
 /// The requests, each with its answer.
-fn cases() -> [Case; 7] {
+fn cases() -> [Case; 9] {
     let same = "def f(x):\n    return x + 1\n";
     let double = "def f(x):\n    return x * 2\n";
     let triple = "def f(x):\n    return x * 3\n";
@@ -58,6 +58,22 @@ fn cases() -> [Case; 7] {
             rules: "",
             status: Status::Refused,
             written: "refused ref.py line 1: EmptyReference\n",
+        },
+        Case {
+            bounds: BOUNDS,
+            reference: "# a\n\ndef f(x): return 99\n",
+            submission: double,
+            rules: "",
+            status: Status::Refused,
+            written: "refused ref.py line 3: EmptyReference\n",
+        },
+        Case {
+            bounds: BOUNDS,
+            reference: triple,
+            submission: "\n\n\ndef f(x):\n\n    return 2 + 2 + 2 + 2 + 2 + 2 + 2 + 2 + 2 + 2 + 2 + 2 + x\n",
+            rules: "rule a cost 1: $n => {1, 2, 3}\n",
+            status: Status::Refused,
+            written: "refused sub.py line 4: TooLarge\n",
         },
         Case {
             bounds: BOUNDS,
@@ -124,6 +140,123 @@ fn requests_are_answered(rt: HostRuntime) -> Result<(), Fail> {
         let ended = grade_top(alloc, &words, &mut shelf, &mut out);
         assert_eq!(rt; ended, case.status);
         assert_eq!(rt; out.bytes(), case.written.as_bytes());
+    }
+    Ok(())
+}
+
+/// A function that returns so many times the part, and then 0.
+fn long_text(alloc: Global, part: &str, times: usize) -> Result<String, AllocError> {
+    let mut text = String::from_str(alloc, "def f(x):\n    return ")?;
+    for _ in 0..times {
+        text.push_str(part)?;
+    }
+    text.push_str("0\n")?;
+    Ok(text)
+}
+
+/// Each text as the reference and as the submission, with the cause and the line of its refusal.
+#[test]
+fn programs_are_refused(rt: HostRuntime) -> Result<(), Fail> {
+    let alloc = rt.alloc();
+    let words = words(alloc, REQUEST.as_slice())?;
+    let deep = long_text(alloc, "0 + ", 32)?;
+    let broad = long_text(alloc, "0 + ", 200)?;
+    let rows: [(&str, u32, &str); 24] = [
+        ("def f(x):\n    return x \u{7}\n", 2, "Byte"),
+        ("# fine\ndef f(x):\n\treturn x\n", 3, "Tab"),
+        ("def f(x):\n    return x @ 2\n", 2, "Token"),
+        ("def f(x):\n    return 2147483648\n", 2, "Token"),
+        ("def f(x):\n    return 01\n", 2, "Token"),
+        (broad.as_str(), 2, "Limit"),
+        ("def f(x):\n    return 1\n  return 2\n", 3, "Indent"),
+        ("def f(x):\n    return x +\n", 2, "Syntax"),
+        ("def f(if):\n    return 1\n", 1, "Syntax"),
+        ("\n\ndef f(x):\nreturn x\n", 3, "Block"),
+        (deep.as_str(), 2, "Limit"),
+        ("", 1, "NotYet"),
+        (
+            "def f(x):\n    return x\ndef g(x):\n    return x\n",
+            1,
+            "NotYet",
+        ),
+        ("# another\ndef g(x):\n    return x\n", 1, "NotYet"),
+        ("def f(x, y):\n    return x\n", 1, "NotYet"),
+        ("def f():\n    return 1\n", 1, "NotYet"),
+        ("def f(x):\n    return -x\n", 1, "NotYet"),
+        ("def f(x):\n    return x // 2\n", 1, "NotYet"),
+        ("def f(x):\n    return x + y\n", 1, "NotYet"),
+        ("def f(x):\n    return 1 * f(x)\n", 1, "NotYet"),
+        ("def f(x):\n    return\n", 1, "NotYet"),
+        ("def f(x):\n    pass\n", 1, "NotYet"),
+        ("def f(x):\n    x = 1\n    return x\n", 1, "NotYet"),
+        (
+            "def f(x):\n    for i in range(3):\n        x = x + i\n    return x\n",
+            1,
+            "NotYet",
+        ),
+    ];
+    for (text, line, cause) in rows {
+        for (name, other) in [("ref.py", "sub.py"), ("sub.py", "ref.py")] {
+            let mut shelf = MemShelf::new(alloc, Vec::new(alloc));
+            shelf.add("b.txt", BOUNDS.as_bytes())?;
+            shelf.add(name, text.as_bytes())?;
+            shelf.add(other, b"def f(x):\n    return x * 3\n")?;
+            shelf.add("rules.eml", b"")?;
+            let mut out = MemSink::new(alloc, 1000, Vec::new(alloc));
+            let ended = grade_top(alloc, &words, &mut shelf, &mut out);
+            let wanted = format!(in alloc; "refused {name} line {line}: {cause}\n")?;
+            assert_eq!(rt; ended, Status::Refused);
+            assert_eq!(rt; out.bytes(), wanted.as_bytes());
+        }
+    }
+    Ok(())
+}
+
+/// Each submission with the report's line of its edit and the corrected formula.
+#[test]
+fn layout_is_free(rt: HostRuntime) -> Result<(), Fail> {
+    let alloc = rt.alloc();
+    let words = words(alloc, REQUEST.as_slice())?;
+    let rows = [
+        (
+            "# double\n\n\ndef f(x):  # of one number\n\n    # twice\n    return (x * 2)  # done\n\n",
+            "line 7 [lit, 1]: replace 2 by 3\n",
+            "x * 3\n",
+        ),
+        (
+            "def f(x): return x * 2\n",
+            "line 1 [lit, 1]: replace 2 by 3\n",
+            "x * 3\n",
+        ),
+        (
+            "def f(x):\n  return((2)*x)",
+            "line 2 [lit, 1]: replace 2 by 3\n",
+            "3 * x\n",
+        ),
+        (
+            "def f(\n    x\n):\n    return (2 *\n        x)\n",
+            "line 4 [lit, 1]: replace 2 by 3\n",
+            "3 * x\n",
+        ),
+        (
+            "def f(x):\r\n    return x*(x-2)\r\n",
+            "line 2 [lit, 1]: replace 2 by 1\n",
+            "x * (x - 1)\n",
+        ),
+    ];
+    for (submission, edit, formula) in rows {
+        let mut shelf = MemShelf::new(alloc, Vec::new(alloc));
+        shelf.add("b.txt", BOUNDS.as_bytes())?;
+        shelf.add("ref.py", b"def f(x):\n    return x * 3\n")?;
+        shelf.add("sub.py", submission.as_bytes())?;
+        shelf.add("rules.eml", b"rule lit cost 1: $n => {1, 3}\n")?;
+        let mut out = MemSink::new(alloc, 1000, Vec::new(alloc));
+        let ended = grade_top(alloc, &words, &mut shelf, &mut out);
+        let wanted = format!(in alloc;
+            "cost 1\nfails f(4): gives 8, wanted 12\n{edit}program\ndef f(x):\n    return {formula}"
+        )?;
+        assert_eq!(rt; ended, Status::Corrected);
+        assert_eq!(rt; out.bytes(), wanted.as_bytes());
     }
     Ok(())
 }

@@ -5,4 +5,4 @@ use Rattle.grade_top.specs.ProgramForm.{program}
 use Rattle.grade_top.proofs.report.corrected_text.Goals as goal
 
 pub returns : goal.returns
-returns c = c.in_ok-text.ensures ∙ ap (λ f. program_text (program c.args.task.now.bounds.entry f)) c.in_ok-function.ensures
+returns c = c.in_ok-text.ensures ∙ ap program_text (c.in_ok-program.ensures ∙ ap (program c.args.task.now.bounds.entry) c.in_ok-function.ensures)
