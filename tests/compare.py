@@ -251,6 +251,38 @@ def spoiled(rng, text):
     return rng.choice((b'\xef\xbb\xbf' + text, text[:-1], text + b'\n', text.replace(b'\n', b'\r\n'), b''))
 
 
+def a_request_in_another_layout(rng):
+    """A small request whose programs are written in other ways: one that is graded, or sometimes another."""
+    request = a_small_request(rng)
+    for name in rng.choice((('ref.py', 'sub.py'), ('sub.py',))):
+        request.files[name] = laid_out(rng, request.files[name].decode()).encode()
+    return request
+
+
+def laid_out(rng, text):
+    head, body, _ = text.split('\n')
+    parts = body[len('    return '):].split(' ')
+    for place in range(0, len(parts), 2):
+        if rng.random() < 0.2:
+            parts[place] = '(' + parts[place] + ')'
+    if rng.random() < 0.3:
+        first = rng.randrange(0, len(parts), 2)
+        last = rng.randrange(first, len(parts), 2)
+        parts[first] = '(' + parts[first]
+        parts[last] += ')'
+    if rng.random() < 0.08:
+        place = rng.randrange(len(parts))
+        parts[place] = rng.choice(('//', '%', '**', '<')) if place % 2 else rng.choice(('-', '+', 'not ', '[')) + parts[place]
+    gap = lambda: rng.choice((' ', ' ', '', '  ', '\t', ' \t '))
+    expression = parts[0] + ''.join(gap() + part for part in parts[1:])
+    end = rng.choice(('\n', '\n', '\r\n'))
+    other = lambda: rng.choice(('', '', '', '# of the course' + end, end, '   ' + end, '\t# é' + end))
+    column = ' ' * rng.choice((1, 2, 4, 4, 8))
+    head = head.replace('(', gap() + '(' + gap()).replace('):', gap() + ')' + gap() + ':')
+    between = gap() if rng.random() < 0.2 else gap() + rng.choice(('', '# a formula')) + end + other() + column
+    return other() + head + between + 'return ' + expression + gap() + rng.choice(('', '#')) + rng.choice((end, end, '')) + other()
+
+
 def a_large_request(rng):
     """About as many runs as are allowed. Both programs are one, so that the model needs few of them."""
     literals = rng.choice((1, 2, 3, 4, 5, 6, 8, 10, 13, 16, 20, 31))
@@ -303,7 +335,8 @@ def a_request_of_other_words(rng):
 
 
 KINDS = (
-    (62, a_small_request),
+    (47, a_small_request),
+    (15, a_request_in_another_layout),
     (14, a_request_at_a_limit),
     (16, a_spoiled_request),
     (3, a_large_request),
@@ -414,7 +447,7 @@ def main():
     parser.add_argument('count', type=int)
     parser.add_argument('--program', default=built)
     parser.add_argument('--first', type=int, default=0)
-    parser.add_argument('--stage', type=int, default=1, help='how far the program is built, as the model counts it')
+    parser.add_argument('--stage', type=int, default=2, help='how far the program is built, as the model counts it')
     asked = parser.parse_args()
     path = os.environ.get('MODEL')
     if not path:
