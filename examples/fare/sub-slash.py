@@ -1,0 +1,2 @@
+def fare(km):
+    return 5 + 6 / 2 * km
