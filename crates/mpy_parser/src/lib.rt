@@ -32,9 +32,7 @@ pub use nesting_laws::{
     nested_in_one_way, nested_without_block_fault, nested_without_fault,
     nested_without_indent_fault, same_indent_fault,
 };
-pub use program_laws::{
-    not_read_and_refused, one_program, one_refusal, refused_for_a_limit,
-};
+pub use program_laws::{not_read_and_refused, one_program, one_refusal, refused_for_a_limit};
 pub use programs::read_prog;
 pub use read_error::ReadError;
 use std::alloc::AllocError;
