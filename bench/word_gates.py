@@ -1,8 +1,9 @@
 """Prints the gates and the depth of each word call over the graph, at widths 4, 8 and 16, at width 16 with
-numbers of 4 bits, and at width 16 with the constant 3.
+numbers of 4 bits, and at width 16 with the constant 3, and compares them with the table of docs/bits.md.
 
 Run it at the top of the repository, with `rt` on the path: python3 bench/word_gates.py
-It writes a program into a copy of the crates and runs that unproved, so nothing is left behind.
+It writes a program over the crates' own calls into a copy of the crates and runs that unproved, compiled, so
+nothing is left behind. The exit status is 1 where a row isn't the document's.
 """
 import os
 import shutil
@@ -98,7 +99,7 @@ fn run(rt: &HostRuntime, call: usize, width: usize, free: usize, constant: i64) 
 }
 
 fn main(rt: HostRuntime) -> Result<(), anyhow::Error> {
-    for call in FIRST..LAST {
+    for call in 0..9 {
         run(&rt, call, 4, 4, -1)?;
         run(&rt, call, 8, 8, -1)?;
         run(&rt, call, 16, 16, -1)?;
@@ -112,24 +113,35 @@ fn main(rt: HostRuntime) -> Result<(), anyhow::Error> {
 CALLS = ["add", "sub", "neg", "less", "equal", "mul", "floor", "rem", "power"]
 
 
-def main():
+def cells():
+    """The cells of each call's row, as the program prints them."""
     with tempfile.TemporaryDirectory() as folder:
         for crate in ("bit_words", "bit_graph"):
             shutil.copytree(os.path.join("crates", crate), os.path.join(folder, "crates", crate), ignore=shutil.ignore_patterns("out"))
         os.makedirs(os.path.join(folder, "crates/bits_bench/src"))
         with open(os.path.join(folder, "crates.txt"), "w") as out:
             out.write("bit_words:\nbit_graph: bit_words indexmap\nbits_bench: bit_words bit_graph anyhow\n")
-        # An interpreter runs the program, within some number of steps: so each run has one call.
-        for number, call in enumerate(CALLS):
-            text = PROGRAM.replace("FIRST", str(number)).replace("LAST", str(number + 1))
-            with open(os.path.join(folder, "crates/bits_bench/src/main.rt"), "w") as out:
-                out.write(text)
-            run = subprocess.run(["rt", "try"], cwd=os.path.join(folder, "crates/bits_bench"), capture_output=True, text=True)
-            lines = [line.removeprefix("| ").split() for line in run.stdout.splitlines()]
-            cells = ["%s (%s)" % (line[1], line[2]) for line in lines if line[:1] == ["cell"]]
-            if not cells:
-                sys.exit(run.stdout + run.stderr)
-            print("| " + " | ".join([call] + cells) + " |", flush=True)
+        with open(os.path.join(folder, "crates/bits_bench/src/main.rt"), "w") as out:
+            out.write(PROGRAM)
+        # What is compiled runs to the end; of the interpreter a few steps are enough.
+        run = subprocess.run(["rt", "try", "--steps", "1000", "--seconds", "300"], cwd=os.path.join(folder, "crates/bits_bench"), capture_output=True, text=True)
+        lines = [line.removeprefix("| ").split() for line in run.stdout.splitlines()]
+        found = ["%s (%s)" % (line[1], line[2]) for line in lines if line[:1] == ["cell"]]
+        if len(found) != 5 * len(CALLS):
+            sys.exit(run.stdout[-2000:] + run.stderr[-2000:])
+        return [found[5 * k:5 * k + 5] for k in range(len(CALLS))]
+
+
+def main():
+    with open("docs/bits.md") as document:
+        rows = [[cell.strip() for cell in line.strip("| \n").split("|")] for line in document if line.startswith("| ")]
+    differ = 0
+    for call, row in zip(CALLS, cells()):
+        stated = [it[1:6] for it in rows if it[0] == call]
+        alike = stated == [row]
+        differ += not alike
+        print("| " + " | ".join([call] + row) + " |" + ("" if alike else " but the document has " + str(stated)), flush=True)
+    sys.exit(1 if differ else 0)
 
 
 main()

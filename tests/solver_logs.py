@@ -27,6 +27,11 @@ def a_clause(rng, variables):
 
 
 def a_formula(rng):
+    """Every other one has three literals a clause, and so many clauses that its log is likely to be long."""
+    if rng.random() < 0.5:
+        variables = rng.randint(5, 12)
+        signs = lambda chosen: [v if rng.random() < 0.5 else -v for v in chosen]
+        return variables, [signs(rng.sample(range(1, variables + 1), 3)) for _ in range(round(variables * rng.choice((4, 5, 6, 7))))]
     variables = rng.randint(1, 12)
     count = max(1, round(variables * rng.choice((1, 2, 3, 3.5, 4, 5))))
     return variables, [a_clause(rng, variables) for _ in range(count)]

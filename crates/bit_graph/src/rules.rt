@@ -1,7 +1,7 @@
 //! Rules that look at the parts of a gate.
 
-ghost use Rattle.std.specs.Prelude.{◌≡◌, ◌≢◌, ℕ, Bool, List, false, not, ◌&&◌, IfSome, IsTrue};
-ghost use Rattle.bit_graph.specs.Gates.{bit_reads, gate_reads, source_of, source_reads, IsBelow, IsGateAt};
+ghost use Rattle.std.specs.Prelude.{◌≡◌, ◌≢◌, ℕ, Bool, List, false, not, ◌&&◌, IfSome, IsTrue, ◌↔◌};
+ghost use Rattle.bit_graph.specs.Gates.{bit_reads, gate_reads, is_positive_bit, source_of, source_reads, IsBelow, IsGateAt};
 
 use crate::gate::{Gate, GraphBit, Source};
 
@@ -18,14 +18,16 @@ pub fn never() -> GraphBit
 
 /// Whether two bits are one.
 pub fn are_same(a: GraphBit, b: GraphBit) -> bool
-    ensures { IsTrue result → (vs made : List Bool) → bit_reads vs made a ≡ bit_reads vs made b }
+    ensures exact { IsTrue result ↔ ((source_of a ≡ source_of b) × (is_positive_bit a ≡ is_positive_bit b)) }
+    ensures value { IsTrue result → (vs made : List Bool) → bit_reads vs made a ≡ bit_reads vs made b }
 {
     a.source == b.source && a.positive == b.positive
 }
 
 /// Whether two bits are opposites.
 pub fn are_opposite(a: GraphBit, b: GraphBit) -> bool
-    ensures { IsTrue result → (vs made : List Bool) → bit_reads vs made a ≡ not (bit_reads vs made b) }
+    ensures exact { IsTrue result ↔ ((source_of a ≡ source_of b) × (is_positive_bit a ≢ is_positive_bit b)) }
+    ensures value { IsTrue result → (vs made : List Bool) → bit_reads vs made a ≡ not (bit_reads vs made b) }
 {
     a.source == b.source && a.positive != b.positive
 }

@@ -33,6 +33,14 @@ impl Clauses {
         }
     }
 
+    /// The list of no clauses, with room for so many.
+    pub fn with_capacity(alloc: Global, capacity: usize) -> Result<Clauses, NoMemory>
+        ensures { IfOk result (λ r. r ≡ []) }
+    {
+        let items = Vec::with_capacity(alloc, capacity)?;
+        Ok(Clauses { items })
+    }
+
     /// The number of clauses.
     pub fn len(&self) -> usize
         ensures { result ≡ length self.now }

@@ -52,7 +52,7 @@ fn clauses_hold_and_logs_refute(rt: HostRuntime) -> Result<(), Fail> {
     let other = clause_of_two(alloc, first.opposite(), second)?;
     assert!(rt; clause_holds(&other.copy()?, &truths), "the first is true");
 
-    let mut clauses = Clauses::new(alloc);
+    let mut clauses = Clauses::with_capacity(alloc, 1)?;
     clauses.push(clause)?;
     let formula = Formula { vars: 2, clauses };
     assert_eq!(rt; formula.copy()?.clauses.len(), 1);

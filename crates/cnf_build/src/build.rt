@@ -117,7 +117,7 @@ pub fn to_formula(alloc: Global, g: &Graph, goal: GraphBit) -> Result<Formula, N
         return Err(AllocError);
     }
     let made = count as u32;
-    let mut clauses = Clauses::new(alloc);
+    let mut clauses = Clauses::with_capacity(alloc, 3 * count + 2)?;
     let yes = Lit {
         var: 1,
         positive: true,
