@@ -1,9 +1,12 @@
 """The program of bench/speed, proved and built in a copy of the crates that it uses.
 
+Its files end in `.txt`, since the gate takes each source file below the repository for one of a crate of its own.
+
 Proofs that `rt check` kept in the crates' `out/` are taken over, so where it was run before the build takes a minute
 or two, and else much longer. The current folder is the top of the repository, in which nothing is left behind.
 """
 import os
+import pathlib
 import shutil
 import subprocess
 import sys
@@ -31,6 +34,8 @@ class Built:
             shutil.copytree(os.path.join('crates', name), os.path.join(work, 'crates', name))
         folder = os.path.join(work, 'crates', NAME)
         shutil.copytree('bench/speed', folder)
+        for path in sorted(pathlib.Path(folder).rglob('*.txt')):
+            path.rename(path.with_suffix(''))
         with open(os.path.join(work, 'crates.txt'), 'w') as out:
             for name in crates:
                 out.write('%s: %s\n' % (name, ' '.join(lines[name])))
