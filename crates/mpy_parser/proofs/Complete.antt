@@ -21,7 +21,7 @@ use Rattle.mpy_parser.specs.Reading.{◌>>=◌, behind_not, behind_minus, behind
 use Rattle.mpy_parser.proofs.Shorter.{with_conditional_tail_short, with_joints_short, with_comparison_short, with_power_short, with_suffixes_short, name_or_call_short}
 use Rattle.mpy_parser.proofs.Readings.{reading_short, reading_step, joint_turn, suffix_turn, last_element, next_element}
 use Rattle.mpy_parser.proofs.Sound.{closing, IsSome_terms}
-use Rattle.mpy_parser.proofs.Stopping.{goes_on, stops_at, Stops, no_if, no_more_joints, no_comparison, no_power, no_more_suffixes, no_arguments, not_first, never_not, never_minus, never_colon, never_closing_bracket, never_closed}
+use Rattle.mpy_parser.proofs.Stopping.{goes_on, stops_at, Stops, Stops-above, Stops-unary, no_if, no_more_joints, no_comparison, no_power, no_more_suffixes, no_arguments, not_first, never_not, never_minus, never_colon, never_closing_bracket, never_closed}
 
 -- what is read at the front: at least what is spelled there, and exactly that where it stops
 abbrev pub Found : Level → List Terminal → Term → List Terminal → Type 0

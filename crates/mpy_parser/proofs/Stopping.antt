@@ -71,7 +71,7 @@ above_le level.Power = omega arith
 above_le level.Postfix = omega arith
 above_le level.Atom = omega arith
 
-Stops-above : (k : Level) (ts : List Terminal) → Stops k ts → Stops (above k) ts
+pub Stops-above : (k : Level) (ts : List Terminal) → Stops k ts → Stops (above k) ts
 Stops-above k ts h = Stops-more k (above k) ts (above_le k) h
 
 -- no word goes on at the level of a minus alone
@@ -97,7 +97,7 @@ stops_unary word.LeftBracket h = absurd (omega arith)
 stops_unary word.LeftParen h = absurd (omega arith)
 stops_unary _ h = tt
 
-Stops-unary : (ts : List Terminal) → Stops level.Power ts → Stops level.Unary ts
+pub Stops-unary : (ts : List Terminal) → Stops level.Power ts → Stops level.Unary ts
 Stops-unary (terminal.Word w ∷ ts) h = stops_unary w h
 Stops-unary [] h = tt
 Stops-unary (terminal.Name x ∷ ts) h = tt
