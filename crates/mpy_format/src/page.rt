@@ -38,7 +38,11 @@ pub(crate) fn format_file<S: Shelf, K: Sink>(
         Err(FetchError::Failed) => return Status::ReadFailed,
         Err(FetchError::NoMemory) => return Status::NoMemory,
         Err(FetchError::Long) => {
-            return say(out, refusal_line(alloc, file, Cause::Long, 0), Status::Refused);
+            return say(
+                out,
+                refusal_line(alloc, file, Cause::Long, 0),
+                Status::Refused,
+            );
         }
     };
     match formatted(alloc, bytes.as_slice()) {
