@@ -1,5 +1,5 @@
 -- A text spells one program that is graded at most, and none where it is refused.
-use Rattle.std.proofs.Common.{◌≡◌, ℕ, List, [], ◌∷◌, ap, sym, ◌∙◌}
+use Rattle.std.proofs.Common.{◌≡◌, ℕ, List, [], ◌∷◌, ap}
 use Rattle.mpy_tree.specs.declared.refusal.Cause.{Cause}
 use Rattle.mpy_tree.specs.declared.refusal.Cause.TheVariants as cause
 use Rattle.mpy_tree.specs.declared.refusal.Source.TheVariants as source

@@ -1,5 +1,5 @@
 -- What is read is what the search needs.
-use Rattle.std.proofs.Common.{◌≡◌, ℕ, List, [], ◌∷◌}
+use Rattle.std.proofs.Common.{List, [], ◌∷◌}
 use Rattle.std.specs.List.{AllByRecursion}
 use Rattle.grade_top.specs.Texts.{Texts}
 use Rattle.grade_top.specs.RulesForm.{Rule, IsRule}

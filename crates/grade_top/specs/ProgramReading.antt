@@ -1,5 +1,5 @@
 -- What a program's text is, as the code answers it.
-use Rattle.std.specs.Prelude.{◌≡◌, ◌≢◌, ℕ, List}
+use Rattle.std.specs.Prelude.{◌≡◌, ℕ, List}
 use Rattle.mpy_tree.specs.Syntax.{Term, a_term, at, Give, Statement, Routine}
 use Rattle.grade_top.specs.declared.program_form.ProgramRead.{ProgramRead}
 use Rattle.grade_top.specs.declared.program_form.ProgramRead.TheVariants.{Read, Refused}
