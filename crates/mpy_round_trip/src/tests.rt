@@ -22,33 +22,16 @@ const PARTS: [&str; 11] = [
     "a",
 ];
 
-/// The places of a part in an expression: what stands before it, the level that is asked of it, and what follows.
-const PLACES: [(&str, usize, &str); 34] = [
+/// What stands before a part, the level that is asked of it, and what follows.
+type Place = (&'static str, usize, &'static str);
+
+/// The places of parts that are no operands of an operator between two.
+const PLACES: [Place; 14] = [
     ("", 1, " if b else c"),
     ("a if ", 1, " else c"),
     ("a if b else ", 0, ""),
-    ("", 1, " or b"),
-    ("a or ", 2, ""),
-    ("", 2, " and b"),
-    ("a and ", 3, ""),
     ("not ", 3, ""),
-    ("", 5, " == b"),
-    ("a != ", 5, ""),
-    ("", 5, " <= b"),
-    ("a in ", 5, ""),
-    ("", 5, " not in b"),
-    ("a not in ", 5, ""),
-    ("", 5, " + b"),
-    ("a + ", 6, ""),
-    ("", 5, " - b"),
-    ("a - ", 6, ""),
-    ("", 6, " * b"),
-    ("a * ", 7, ""),
-    ("", 6, " // b"),
-    ("a % ", 7, ""),
     ("-", 7, ""),
-    ("", 9, " ** b"),
-    ("a ** ", 7, ""),
     ("", 9, "[b]"),
     ("", 9, "[b:c]"),
     ("a[", 0, "]"),
@@ -59,6 +42,13 @@ const PLACES: [(&str, usize, &str); 34] = [
     ("[", 0, "]"),
     ("[a, ", 0, ", b]"),
 ];
+
+// The places of both operands of operators, each written between the levels that it asks of them.
+macro_rules! operands {
+    ($($left:literal $operator:literal $right:literal),*) => {
+        [$(("", $left, concat!(" ", $operator, " b")), (concat!("a ", $operator, " "), $right, "")),*]
+    };
+}
 
 fn answer(alloc: Global, text: &str) -> Result<Result<Prog, (Cause, u32)>, Fail> {
     if text.len() > 65536 {
@@ -89,18 +79,30 @@ fn printed(alloc: Global, expression: &str) -> Result<String, Fail> {
     }
 }
 
-/// A part stands in parentheses exactly where its level is below the one asked for.
+/// Whether each part in the place stands in parentheses exactly where its level is below the one asked for.
+fn is_closed_where_needed(alloc: Global, place: Place) -> Result<bool, Fail> {
+    let (before, asked, behind) = place;
+    for (level, part) in PARTS.iter().enumerate() {
+        let closed = format!(in alloc; "{before}({part}){behind}")?;
+        let bare = format!(in alloc; "{before}{part}{behind}")?;
+        let needed = if level < asked { &closed } else { &bare };
+        let wanted = format!(in alloc; "def f():\n    return {needed}\n")?;
+        if printed(alloc, closed.as_str())? != wanted {
+            return Ok(false);
+        }
+    }
+    Ok(true)
+}
+
 #[test]
 fn levels(rt: HostRuntime) -> Result<(), Fail> {
     let alloc = rt.alloc();
-    for (before, asked, behind) in &PLACES {
-        for (level, part) in PARTS.iter().enumerate() {
-            let closed = format!(in alloc; "{before}({part}){behind}")?;
-            let bare = format!(in alloc; "{before}{part}{behind}")?;
-            let needed = if level < *asked { &closed } else { &bare };
-            let wanted = format!(in alloc; "def f():\n    return {needed}\n")?;
-            assert_eq!(rt; printed(alloc, closed.as_str())?, wanted);
-        }
+    let operands: [Place; 32] = operands!(
+        1 "or" 2, 2 "and" 3, 5 "==" 5, 5 "!=" 5, 5 "<" 5, 5 "<=" 5, 5 ">" 5, 5 ">=" 5, 5 "in" 5, 5 "not in" 5,
+        5 "+" 6, 5 "-" 6, 6 "*" 7, 6 "//" 7, 6 "%" 7, 9 "**" 7
+    );
+    for place in operands.iter().chain(PLACES.iter()) {
+        assert!(rt; is_closed_where_needed(alloc, *place)?, "{place:?}");
     }
     Ok(())
 }
