@@ -17,8 +17,11 @@ fn main(rt: HostRuntime) -> ExitCode {
     let mut out = HostSink::new(&rt);
     let mut status = Status::Usage;
     for file in words.skip(1) {
-        status = format_file(rt.alloc(), file.as_str(), &mut shelf, &mut out);
-        if status != Status::Correct && status != Status::Refused {
+        let said = format_file(rt.alloc(), file.as_str(), &mut shelf, &mut out);
+        if status != Status::Refused || said != Status::Correct {
+            status = said;
+        }
+        if said != Status::Correct && said != Status::Refused {
             break;
         }
     }
