@@ -30,6 +30,9 @@ fn kind_of(alloc: Global, bytes: &[u8]) -> Result<&'static str, Fail> {
 }
 
 fn form_of(alloc: Global, entry: &Name, bytes: &[u8]) -> Result<&'static str, Fail> {
+    if bytes.len() > 1000 {
+        return Err("a long text")?;
+    }
     let function = match read_program(alloc, bytes, entry)? {
         ProgramRead::Read(function) => function,
         ProgramRead::Refused { .. } => return Ok("another form"),
