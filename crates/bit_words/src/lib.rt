@@ -13,8 +13,6 @@ pub mod power;
 pub mod product;
 pub mod quotient;
 pub mod sums;
-#[cfg(test)]
-mod tests;
 pub mod word;
 pub mod words;
 

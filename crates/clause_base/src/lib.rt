@@ -9,8 +9,6 @@ pub mod lit;
 pub mod lits;
 pub mod log;
 pub mod solved;
-#[cfg(test)]
-mod tests;
 pub mod truths;
 
 use std::alloc::AllocError;

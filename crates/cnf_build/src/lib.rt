@@ -2,5 +2,3 @@
 #![tactic(auto)]
 
 pub mod build;
-#[cfg(test)]
-mod tests;

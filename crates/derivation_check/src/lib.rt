@@ -4,5 +4,3 @@
 pub mod checker;
 mod marks;
 pub mod soundness;
-#[cfg(test)]
-mod tests;

@@ -17,5 +17,3 @@ pub use status::{Status, status_number};
 pub use sure::{SureShelf, SureSink};
 pub use text::write_text;
 
-#[cfg(test)]
-mod tests;

@@ -26,8 +26,6 @@ mod numbers;
 mod outcome;
 mod program;
 mod program_form;
-#[cfg(test)]
-mod reading_tests;
 mod report;
 mod rewritings;
 mod rules_form;
@@ -35,8 +33,6 @@ mod scan;
 mod search;
 mod tables;
 mod task;
-#[cfg(test)]
-mod tests;
 mod words;
 
 pub use grade_io::{Status, status_number};

@@ -8,9 +8,6 @@ use std::process::ExitCode;
 use std::rt::Env;
 use std::{env, io};
 
-#[cfg(test)]
-mod tests;
-
 /// The words after the program's name. There are none where a word isn't UTF-8.
 ///
 /// # Errors

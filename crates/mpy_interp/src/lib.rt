@@ -13,7 +13,5 @@ mod numbers;
 mod operators;
 mod program;
 mod stop;
-#[cfg(test)]
-mod tests;
 
 pub use program::run;

@@ -11,8 +11,6 @@ mod numbers;
 mod pieces;
 mod rows;
 mod signs;
-#[cfg(test)]
-mod tests;
 mod token;
 mod words;
 

@@ -22,8 +22,6 @@ mod stacks;
 mod statements;
 mod terminals;
 mod terms;
-#[cfg(test)]
-mod tests;
 mod words;
 
 pub use levels::Level;

@@ -12,8 +12,6 @@ mod lines;
 mod literals;
 mod operators;
 mod statements;
-#[cfg(test)]
-mod tests;
 
 use crate::expressions::write_expr;
 use crate::functions::write_funcs;

@@ -4,8 +4,6 @@
 mod laws;
 mod reading_proper;
 mod reread;
-#[cfg(test)]
-mod tests;
 
 pub use laws::{spelled_by_its_text, spelled_by_no_other};
 pub use reading_proper::what_is_read_is_proper;

@@ -10,8 +10,6 @@ mod operators;
 mod outcome;
 mod refusal;
 mod sequences;
-#[cfg(test)]
-mod tests;
 mod tree;
 mod typing;
 mod value;

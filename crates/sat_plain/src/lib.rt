@@ -5,8 +5,6 @@ mod explain;
 mod occurrences;
 mod propagate;
 mod search;
-#[cfg(test)]
-mod tests;
 mod trail;
 
 pub use search::solve;

@@ -1,53 +1,23 @@
 //! The solver on formulas of two variables.
 
-ghost use Rattle.std.specs.Prelude.{◌≡◌, ◌+◌, ◌<◌, true, IfOk, OnOk, length};
-ghost use Rattle.clause_base.specs.Formulas.{clauses_in_range};
+ghost use Rattle.std.specs.Prelude.{◌≡◌, ◌<◌, IfOk, length};
 
-use crate::solve;
+use crate::all_signs::{all_signs, push_signs};
 use clause_base::NoMemory;
 use clause_base::clause::Clause;
 use clause_base::formula::{Clauses, Formula};
 use clause_base::lit::Lit;
 use clause_base::lits::Lits;
 use clause_base::solved::Solved;
+use sat_plain::solve;
 use std::alloc::Global;
 use std::test::Fail;
 
-const ONE: Lit = Lit {
-    var: 1,
-    positive: true,
-};
-
-const NOT_ONE: Lit = Lit {
-    var: 1,
-    positive: false,
-};
-
-/// The clause of a literal of variable 1 and one of variable 2.
-fn push_two(alloc: Global, clauses: &mut Clauses, first: Lit, second: bool) -> Result<(), NoMemory>
-    requires variable { first.var ≡ 1 }
-    requires range { clauses_in_range 2 clauses.old ≡ true }
-    ensures range { OnOk result (clauses_in_range 2 clauses.new ≡ true) }
-    ensures more { OnOk result (length clauses.new ≡ length clauses.old + 1) }
-{
-    let second = Lit {
-        var: 2,
-        positive: second,
-    };
-    let lits = Lits::from_slice(alloc, &[first, second])?;
-    clauses.push(Clause::new(lits))?;
-    Ok(())
-}
-
 /// The four clauses of both variables.
-fn all_signs(alloc: Global) -> Result<Formula, NoMemory>
+fn contradiction(alloc: Global) -> Result<Formula, NoMemory>
     ensures { IfOk result (λ f. length f.clauses ≡ 4) }
 {
-    let mut clauses = Clauses::new(alloc);
-    push_two(alloc, &mut clauses, ONE, true)?;
-    push_two(alloc, &mut clauses, ONE, false)?;
-    push_two(alloc, &mut clauses, NOT_ONE, true)?;
-    push_two(alloc, &mut clauses, NOT_ONE, false)?;
+    let clauses = all_signs(alloc)?;
     Ok(Formula { vars: 2, clauses })
 }
 
@@ -56,9 +26,13 @@ fn implied(alloc: Global) -> Result<Formula, NoMemory>
     ensures { IfOk result (λ f. length f.clauses ≡ 2) }
 {
     let mut clauses = Clauses::new(alloc);
-    let lits = Lits::from_slice(alloc, &[ONE])?;
+    let one = Lit {
+        var: 1,
+        positive: true,
+    };
+    let lits = Lits::from_slice(alloc, &[one])?;
     clauses.push(Clause::new(lits))?;
-    push_two(alloc, &mut clauses, NOT_ONE, true)?;
+    push_signs(alloc, &mut clauses, false, true)?;
     Ok(Formula { vars: 2, clauses })
 }
 
@@ -91,7 +65,7 @@ fn decided(alloc: Global, f: &Formula, budget: u32) -> Answer
 #[test]
 fn decides(rt: HostRuntime) -> Result<(), Fail> {
     let alloc = rt.alloc();
-    let all = all_signs(alloc)?;
+    let all = contradiction(alloc)?;
     assert_eq!(rt; decided(alloc, &all, 10), Answer::Refuted(2, true));
     assert_eq!(rt; decided(alloc, &all, 1), Answer::Spent(1));
     assert_eq!(rt; decided(alloc, &all, 0), Answer::Spent(0));

@@ -1,5 +1,5 @@
 //! Texts and their lines, by a separate model of the rules, and the calls on tokens with ample memory.
-use crate::{Form, Kind, LexCause, LexError, Line, Spelling, Token, Tokens, lines};
+use mpy_lexer::{Form, Kind, LexCause, LexError, Line, Spelling, Token, Tokens, lines};
 use std::alloc::Global;
 use std::test::Fail;
 

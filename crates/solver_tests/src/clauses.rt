@@ -3,14 +3,14 @@
 ghost use Rattle.std.specs.Prelude.{◌≡◌, ◌≢◌, [], ◌∷◌, IfOk};
 ghost use Rattle.clause_base.specs.declared.lit.Lit.{Lit};
 
-use crate::NoMemory;
-use crate::clause::Clause;
-use crate::formula::{Clauses, Formula};
-use crate::hints::Hints;
-use crate::lit::Lit;
-use crate::lits::Lits;
-use crate::log::{Log, Step, Steps};
-use crate::truths::{Truths, clause_holds};
+use clause_base::NoMemory;
+use clause_base::clause::Clause;
+use clause_base::formula::{Clauses, Formula};
+use clause_base::hints::Hints;
+use clause_base::lit::Lit;
+use clause_base::lits::Lits;
+use clause_base::log::{Log, Step, Steps};
+use clause_base::truths::{Truths, clause_holds};
 use std::alloc::Global;
 use std::test::Fail;
 

@@ -1,5 +1,5 @@
 //! What the devices in memory do with ample memory, and which calls of theirs fail: no clause says it.
-use crate::{
+use grade_io::{
     FetchError, MemShelf, MemSink, PutError, Shelf, Sink, StoreError, SureShelf, SureSink,
     write_text,
 };

@@ -1,0 +1,17 @@
+//! Tests of the grader and its devices: requests over devices in memory, and the real files and output.
+#![tactic(auto)]
+
+#[cfg(test)]
+mod devices;
+#[cfg(test)]
+mod forms;
+#[cfg(test)]
+mod host;
+#[cfg(test)]
+mod layout;
+#[cfg(test)]
+mod refusals;
+#[cfg(test)]
+mod requests;
+#[cfg(test)]
+mod words;

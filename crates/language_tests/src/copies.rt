@@ -1,0 +1,86 @@
+//! Copies and equality of programs, and lists of numbers, characters, values and names.
+
+use crate::programs::program;
+use mpy_tree::{Chars, Ints, Name, Names, Value, Values, copy_prog, same};
+use std::alloc::Global;
+use std::test::Fail;
+
+/// A statement and an expression of each kind.
+const USUAL: &str =
+    "def f(v):\n    x = [1, 'ab', x, -1, not 1, v[1:2], f(False), 1 + 2, 1 < 2, 1 and 2, 1 or 2, v[1], 1 if 2 else 3]\n    x += 1\n    v[0] = 1\n    v[0] -= 1\n    v.append(2)\n    pass\n    while True:\n        if x:\n            break\n        else:\n            continue\n    for i in v:\n        pass\n    return\n    return 4\n";
+
+/// Parts of that text, each with what may stand in its place so that it is another program.
+const CHANGES: [(&str, &str); 14] = [
+    ("[1,", "[2,"),
+    ("'ab'", "'b'"),
+    ("-1", "1"),
+    ("1:2", "1:"),
+    ("1 + 2", "1 - 2"),
+    ("1 < 2", "1 <= 2"),
+    ("1 and 2", "2 and 1"),
+    ("1 if 2 else 3", "2 if 1 else 3"),
+    ("(v)", "(w)"),
+    ("x +=", "y +="),
+    ("-= 1", "*= 1"),
+    ("        else:\n            continue\n", ""),
+    ("break", "pass"),
+    ("return 4", "return"),
+];
+
+#[test]
+fn copies_are_the_same(rt: HostRuntime) -> Result<(), Fail> {
+    let alloc = rt.alloc();
+    let first = program(alloc, USUAL)?;
+    assert!(rt; same(&first, &copy_prog(alloc, &first)?));
+    let moved = format!(in alloc; "\n# On other lines.\n{USUAL}")?;
+    assert!(rt; same(&first, &program(alloc, moved.as_str())?));
+    Ok(())
+}
+
+#[test]
+fn each_difference_counts(rt: HostRuntime) -> Result<(), Fail> {
+    let alloc = rt.alloc();
+    let first = program(alloc, USUAL)?;
+    for (part, instead) in &CHANGES {
+        let text = USUAL.replacen(alloc, *part, *instead, 1)?;
+        let other = program(alloc, text.as_str())?;
+        assert!(rt; !same(&first, &other), "with {instead:?} for {part:?}");
+        assert!(rt; !same(&other, &first), "with {part:?} for {instead:?}");
+    }
+    Ok(())
+}
+
+fn chars(alloc: Global) -> Result<Chars, Fail> {
+    Ok(Chars::from_vec(Vec::from_slice(alloc, b"ab")?))
+}
+
+#[test]
+fn lists_are_joined_and_cut(rt: HostRuntime) -> Result<(), Fail> {
+    let numbers = Ints::from_vec(Vec::from_slice(rt.alloc(), &[1, 2])?);
+    let text = chars(rt.alloc())?;
+    let thrice = numbers.repeat(rt.alloc(), 3)?;
+    assert_eq!(rt; thrice.items(), [1, 2, 1, 2, 1, 2].as_slice());
+    assert_eq!(rt; numbers.concat(rt.alloc(), &thrice)?.len(), 8);
+    assert_eq!(rt; thrice.part(rt.alloc(), 1, 3)?.items(), [2, 1].as_slice());
+    assert_eq!(rt; text.concat(rt.alloc(), &text)?.bytes(), b"abab".as_slice());
+    assert_eq!(rt; text.repeat(rt.alloc(), 2)?.bytes(), b"abab".as_slice());
+    assert_eq!(rt; text.part(rt.alloc(), 1, 2)?.bytes(), b"b".as_slice());
+    assert_eq!(rt; text.characters(rt.alloc())?.len(), 2);
+    Ok(())
+}
+
+#[test]
+fn lists_are_copied(rt: HostRuntime) -> Result<(), Fail> {
+    let mut values = Vec::new(rt.alloc());
+    values.push(Value::Int(1))?;
+    values.push(Value::Bool(true))?;
+    values.push(Value::List(Ints::from_vec(Vec::from_slice(rt.alloc(), &[5])?)))?;
+    values.push(Value::Text(chars(rt.alloc())?))?;
+    let copies = Values::from_vec(values).copy()?;
+    assert_eq!(rt; copies.items().len(), 4);
+    let mut names = Vec::new(rt.alloc());
+    names.push(Name::from_vec(Vec::from_slice(rt.alloc(), b"x")?))?;
+    let copies = Names::from_vec(names).copy()?;
+    assert_eq!(rt; copies.items().len(), 1);
+    Ok(())
+}
