@@ -1,11 +1,11 @@
-"""Compares the digests in the tests of bit_words with those of Python's integers.
+"""Compares the digests in the tests of words with those of Python's integers.
 
 Run it at the top of the repository: python3 tests/word_digests.py
 """
 import re
 import sys
 
-TESTS = "crates/bit_words/src/tests.rt"
+TESTS = "crates/solver_tests/src/plain.rt"
 OVERFLOW, OTHER = 1, 2
 MASK = 0xFFFFFFFF
 

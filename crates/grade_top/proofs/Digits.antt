@@ -9,7 +9,7 @@ use Rattle.std.proofs.lemmas.Bool.{false≢true, and_parts, and_from, or_cases, 
 use Rattle.std.proofs.lemmas.Option.{cond_some}
 use Rattle.std.proofs.lemmas.Str.Parse.{IsNumeralModel, numerals_by_fold}
 use Rattle.std.proofs.lemmas.Fmt.{digits_decimal, digits_value-decimal, decimal_nonempty, first_decimal, decimal_digit, decimal-digits_value, length-decimal-le}
-use Rattle.grade_top.specs.Names.{is_between, is_name_start, is_name_byte}
+use Rattle.mpy_lexer.specs.Bytes.{is_name_start, is_name_byte}
 use Rattle.grade_top.specs.Scanning.{value_after, is_numeral, number_of}
 
 pub digit_within : (ds : List ℕ) (i : ℕ) → list_all is_ascii_digit ds ≡ true → i < length ds → (48 ≤ get_or ds i 0) × (get_or ds i 0 ≤ 57)
@@ -72,7 +72,7 @@ digits_in_word : (ds : List ℕ) → list_all is_ascii_digit ds ≡ true → lis
 digits_in_word [] all = refl
 digits_in_word (c ∷ cs) all =
     let both = and_parts _ _ all in
-    and_from _ _ (or_right (is_name_start c) (is_between 48 57 c) both.0) (digits_in_word cs both.1)
+    and_from _ _ (or_right (is_name_start c) (is_ascii_digit c) both.0) (digits_in_word cs both.1)
 
 pub decimal_in_word : (n : ℕ) → n < 2 ^ 64 → list_all is_name_byte (decimal n) ≡ true
 decimal_in_word n short = digits_in_word (decimal n) (digits_decimal own n short)

@@ -9,7 +9,9 @@ use Rattle.std.proofs.lemmas.List.{take_at, drop_at, take-append-drop}
 use Rattle.std.proofs.lemmas.Option.{cond_some, some_pair_parts}
 use Rattle.std.proofs.lemmas.Slice.Eq.{bytes_eq-Decides}
 use Rattle.mpy_tree.specs.Values.{same_bytes}
-use Rattle.grade_top.specs.Names.{is_between, is_name_start, is_name_byte, is_name, is_plain_name}
+use Rattle.mpy_lexer.specs.Bytes.{is_name_start, is_name_byte}
+use Rattle.mpy_lexer.specs.TokenForms.{is_name}
+use Rattle.grade_top.specs.Names.{is_plain_name}
 use Rattle.grade_top.specs.Scanning.{◌>>=◌, after, word_len, word_at, number_of, number_at, name_after}
 use Rattle.grade_top.proofs.Digits.{number_takes, number_again, decimal_in_word, is_no_minus}
 
@@ -82,7 +84,7 @@ pub name_in_word : (x : List ℕ) → is_name x ≡ true → list_all is_name_by
 name_in_word [] e = refl
 name_in_word (c ∷ cs) e =
     let both = and_parts (is_name_start c) (list_all is_name_byte cs) e in
-    and_from _ _ (or_left (is_name_start c) (is_between 48 57 c) both.0) both.1
+    and_from _ _ (or_left (is_name_start c) (is_ascii_digit c) both.0) both.1
 
 -- digits begin with no minus
 pub no_minus : (ds rest : List ℕ) → list_all is_ascii_digit ds ≡ true → 0 < length ds → after (codes "-") (ds ++ rest) ≡ None

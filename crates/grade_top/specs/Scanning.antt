@@ -3,7 +3,8 @@ use Rattle.std.specs.Prelude.{ℕ, ◌+◌, ◌-◌, ◌*◌, Bool, false, ◌&&
 use Rattle.std.specs.Char.{is_ascii_digit}
 use Rattle.std.specs.List.{prefix_len, list_all}
 use Rattle.mpy_tree.specs.Values.{same_bytes}
-use Rattle.grade_top.specs.Names.{is_name_byte, is_plain_name}
+use Rattle.mpy_lexer.specs.Bytes.{is_name_byte}
+use Rattle.grade_top.specs.Names.{is_plain_name}
 
 -- goes on with what was read, or ends with nothing
 infixl 10 ◌>>=◌

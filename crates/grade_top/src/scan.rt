@@ -4,8 +4,10 @@ ghost use Rattle.std.specs.Char.{is_ascii_digit};
 ghost use Rattle.std.specs.List.{prefix_len, list_any, list_all};
 ghost use Rattle.std.specs.Option.{option_copied};
 ghost use Rattle.mpy_tree.specs.Values.{same_bytes};
-ghost use Rattle.grade_top.specs.Names.{is_name_start, is_name_byte, is_name, is_short_name, is_plain_name, is_in, reserved_words, builtins};
+ghost use Rattle.grade_top.specs.Names.{is_short_name, is_plain_name, is_in, builtins};
 ghost use Rattle.grade_top.specs.Scanning.{after, word_len, word_at, value_after, is_numeral, number_of, number_at, name_after};
+
+use mpy_lexer::{is_name, is_name_byte, is_reserved};
 
 /// The largest number that a program may write.
 pub(crate) const LARGEST: u32 = 2_147_483_647;
@@ -16,18 +18,6 @@ pub(crate) fn after<'a>(mark: &[u8], text: &'a [u8]) -> Option<&'a [u8]>
     ensures { option_copied result ≡ after mark.now text.now }
 {
     text.strip_prefix(mark)
-}
-
-fn is_name_start(byte: u8) -> bool
-    ensures { result ≡ is_name_start byte }
-{
-    byte.is_ascii_alphabetic() || byte == b'_'
-}
-
-fn is_name_byte(byte: u8) -> bool
-    ensures { result ≡ is_name_byte byte }
-{
-    is_name_start(byte) || byte.is_ascii_digit()
 }
 
 fn word_len(text: &[u8]) -> usize
@@ -45,44 +35,6 @@ pub(crate) fn word_at(text: &[u8]) -> (&[u8], &[u8])
     text.split_at(word_len(text))
 }
 
-const RESERVED: [&[u8]; 35] = [
-    b"and",
-    b"as",
-    b"assert",
-    b"async",
-    b"await",
-    b"break",
-    b"class",
-    b"continue",
-    b"def",
-    b"del",
-    b"elif",
-    b"else",
-    b"except",
-    b"finally",
-    b"for",
-    b"from",
-    b"global",
-    b"if",
-    b"import",
-    b"in",
-    b"is",
-    b"lambda",
-    b"None",
-    b"nonlocal",
-    b"not",
-    b"or",
-    b"pass",
-    b"raise",
-    b"return",
-    b"True",
-    b"False",
-    b"try",
-    b"while",
-    b"with",
-    b"yield",
-];
-
 const BUILTINS: [&[u8]; 5] = [b"len", b"range", b"abs", b"min", b"max"];
 
 fn is_one_of(word: &[u8], names: &[&[u8]]) -> bool
@@ -91,32 +43,11 @@ fn is_one_of(word: &[u8], names: &[&[u8]]) -> bool
     names.iter().any(|name| word == *name)
 }
 
-fn is_reserved(word: &[u8]) -> bool
-    ensures { result ≡ is_in word.now reserved_words }
-{
-    is_one_of(word, &RESERVED)
-}
-
 /// Whether every program may call a function of this name.
 pub(crate) fn is_builtin(word: &[u8]) -> bool
     ensures { result ≡ is_in word.now builtins }
 {
     is_one_of(word, &BUILTINS)
-}
-
-fn are_name_bytes(bytes: &[u8]) -> bool
-    ensures { result ≡ list_all is_name_byte bytes.now }
-{
-    bytes.iter().all(|b| is_name_byte(*b))
-}
-
-fn is_name(word: &[u8]) -> bool
-    ensures { result ≡ is_name word.now }
-{
-    match word {
-        [] => false,
-        [first, rest @ ..] => is_name_start(*first) && are_name_bytes(rest),
-    }
 }
 
 /// Whether the word may name a rule.

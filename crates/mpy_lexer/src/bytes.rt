@@ -29,8 +29,8 @@ pub(crate) fn is_name_start(byte: u8) -> bool
     byte.is_ascii_alphabetic() || byte == b'_'
 }
 
-/// Whether a name may have the byte behind its first one.
-pub(crate) fn is_name_byte(byte: u8) -> bool
+/// Whether a name may have the byte behind its first one: a letter, a digit or an underscore.
+pub fn is_name_byte(byte: u8) -> bool
     ensures { result ≡ is_name_byte byte }
 {
     is_name_start(byte) || byte.is_ascii_digit()

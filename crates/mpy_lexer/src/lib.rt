@@ -14,12 +14,14 @@ mod signs;
 mod token;
 mod words;
 
+pub use bytes::is_name_byte;
 pub use forms::{Form, Kind};
 pub use lexing::{lines, lines_of_their_source};
 pub use line::{LexCause, LexError, Line};
 pub use numbers::number_of;
 use std::alloc::AllocError;
 pub use token::{Spelling, Token, Tokens};
+pub use words::{is_name, is_reserved};
 
 /// Want of memory, where a call has no other refusal.
 pub type NoMemory = AllocError;

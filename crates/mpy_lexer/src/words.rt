@@ -1,9 +1,12 @@
-//! The words that are no names, and the marks.
+//! Names, the words that are none, and the marks.
 ghost use Rattle.std.specs.Prelude.{◌≡◌, ◌≤◌, length, map, nat_eq};
 ghost use Rattle.std.specs.Cmp.Lexicographic.{pointwise};
-ghost use Rattle.std.specs.List.{list_any};
+ghost use Rattle.std.specs.List.{list_all, list_any};
+ghost use Rattle.mpy_lexer.specs.Bytes.{is_name_byte};
+ghost use Rattle.mpy_lexer.specs.TokenForms.{is_name};
 ghost use Rattle.mpy_lexer.specs.Words.{is_reserved, first_len, mark_len};
 
+use crate::bytes::{is_name_byte, is_name_start};
 use crate::forms::Form;
 
 const RESERVED: [&[u8]; 35] = [
@@ -62,9 +65,25 @@ fn is_one_of(word: &[u8], words: &[&[u8]]) -> bool
     words.iter().any(|w| word == *w)
 }
 
+fn are_name_bytes(bytes: &[u8]) -> bool
+    ensures { result ≡ list_all is_name_byte bytes.now }
+{
+    bytes.iter().all(|b| is_name_byte(*b))
+}
+
+/// Whether the word has the form of a name: letters, digits and underscores, the first no digit.
+pub fn is_name(word: &[u8]) -> bool
+    ensures { result ≡ is_name word.now }
+{
+    match word {
+        [] => false,
+        [first, rest @ ..] => is_name_start(*first) && are_name_bytes(rest),
+    }
+}
+
 /// Whether the word is no name though it has the form of one.
 #[tactic(auto, unfolding(crate::specs::Words::is_reserved))]
-pub(crate) fn is_reserved(word: &[u8]) -> bool
+pub fn is_reserved(word: &[u8]) -> bool
     ensures { result ≡ is_reserved word.now }
 {
     is_one_of(word, &RESERVED)
