@@ -16,4 +16,3 @@ pub use mem::{MemShelf, MemSink};
 pub use status::{Status, status_number};
 pub use sure::{SureShelf, SureSink};
 pub use text::write_text;
-
