@@ -1,6 +1,6 @@
 //! What comes of a request, its text and its status.
 ghost use Rattle.std.specs.Prelude.{◌≡◌, IfOk, Some};
-ghost use Rattle.mpy_tree.specs.Refusals.{cause_text, refusal_text as text_of_refusal};
+ghost use Rattle.mpy_tree.specs.Refusals.{refusal_text as text_of_refusal};
 ghost use Rattle.grade_top.specs.Ends.{file_word, status_of, text_of_outcome};
 ghost use Rattle.grade_top.specs.Outcomes.{outcome_of};
 ghost use Rattle.grade_top.specs.Request.{words_of};
@@ -36,42 +36,12 @@ fn file_of<'a>(request: &GradeRequest<'a>, source: Source) -> &'a str
     }
 }
 
-/// The name of a cause, as it prints.
-fn cause_name(cause: Cause) -> &'static str
-    ensures { result.now ≡ cause_text cause }
-{
-    match cause {
-        Cause::Byte => "Byte",
-        Cause::Tab => "Tab",
-        Cause::Indent => "Indent",
-        Cause::Token => "Token",
-        Cause::Syntax => "Syntax",
-        Cause::Block => "Block",
-        Cause::Limit => "Limit",
-        Cause::Name => "Name",
-        Cause::Arity => "Arity",
-        Cause::TypeFault => "Type",
-        Cause::Undetermined => "Undetermined",
-        Cause::Shared => "Shared",
-        Cause::Entry => "Entry",
-        Cause::ResultType => "ResultType",
-        Cause::RuleMeta => "RuleMeta",
-        Cause::RulePrime => "RulePrime",
-        Cause::RuleTwice => "RuleTwice",
-        Cause::BoundRange => "BoundRange",
-        Cause::TooLarge => "TooLarge",
-        Cause::EmptyReference => "EmptyReference",
-        Cause::Long => "Long",
-        Cause::NotYet => "NotYet",
-    }
-}
-
 /// The line for a refusal of a file.
 fn refusal_text(alloc: Global, file: &str, refusal: &Refusal) -> Result<Vec<u8>, NoMemory>
     ensures { IfOk result (λ v. v.items ≡ text_of_refusal file.now refusal.now) }
 {
     let line = refusal.line;
-    let cause = cause_name(refusal.cause);
+    let cause = refusal.cause.name();
     let text = format!(in alloc; "refused {file} line {line}: {cause}\n")?;
     Ok(text.into_bytes())
 }

@@ -1,4 +1,6 @@
 //! Why a source is refused.
+ghost use Rattle.std.specs.Prelude.{◌≡◌};
+ghost use Rattle.mpy_tree.specs.Refusals.{cause_text};
 
 /// The cause of a refusal.
 #[derive(Clone, Copy, PartialEq, Eq, Debug, Drop)]
@@ -47,6 +49,38 @@ pub enum Cause {
     Long,
     /// A form that isn't built yet.
     NotYet,
+}
+
+impl Cause {
+    /// The cause as it prints: its name, but `Type` for `TypeFault`.
+    pub fn name(self) -> &'static str
+        ensures { result.now ≡ cause_text self }
+    {
+        match self {
+            Cause::Byte => "Byte",
+            Cause::Tab => "Tab",
+            Cause::Indent => "Indent",
+            Cause::Token => "Token",
+            Cause::Syntax => "Syntax",
+            Cause::Block => "Block",
+            Cause::Limit => "Limit",
+            Cause::Name => "Name",
+            Cause::Arity => "Arity",
+            Cause::TypeFault => "Type",
+            Cause::Undetermined => "Undetermined",
+            Cause::Shared => "Shared",
+            Cause::Entry => "Entry",
+            Cause::ResultType => "ResultType",
+            Cause::RuleMeta => "RuleMeta",
+            Cause::RulePrime => "RulePrime",
+            Cause::RuleTwice => "RuleTwice",
+            Cause::BoundRange => "BoundRange",
+            Cause::TooLarge => "TooLarge",
+            Cause::EmptyReference => "EmptyReference",
+            Cause::Long => "Long",
+            Cause::NotYet => "NotYet",
+        }
+    }
 }
 
 /// The source that is refused.
