@@ -4,7 +4,7 @@ use Rattle.std.proofs.lemmas.List.{length-map, take-map}
 use Rattle.bit_words.specs.Logic.{OwnsAll, extends_trans}
 use Rattle.bit_words.specs.Words.{nat_of, int_of, nat_read, int_read, is_negative}
 use Rattle.bit_words.specs.Operations.{by_positive, folded}
-use Rattle.bit_words.proofs.Kept.{reads_kept, owns_taken}
+use Rattle.bit_words.proofs.Kept.{reads_kept, owns_taken, owns_kept}
 use Rattle.bit_words.proofs.Floors.{abs_half, turned_is, folded_nat}
 use Rattle.bit_words.proofs.floor.divide_folded.Given as given
 use Rattle.bit_words.proofs.floor.divide_folded.Goals as goal
@@ -68,3 +68,51 @@ pub returns-clause-rest : goal.returns-clause-rest
 returns-clause-rest g c vs some =
     let size = size_is g c vs in
     rw (number_is g c vs, size) at (c.in_ok-quotient.ensures.rest vs (rw size some))
+
+pub negate_where-requires : goal.negate_where-requires
+negate_where-requires g c = record { some = c.requires.long; test = c.magnitude.ensures.extends.kept _ c.sign_of-below.ensures.owned; word = owns_kept c.magnitude.ensures.extends c.requires.left }
+
+pub returns-in_err-turned-clause-extends : goal.returns-in_err-turned-clause-extends
+returns-in_err-turned-clause-extends g c = extends_trans c.magnitude.ensures.extends c.negate_where.ensures.extends
+
+pub sign_of-sign-requires : goal.sign_of-sign-requires
+sign_of-sign-requires g c = record { some = omega (arith, c.in_ok-turned.ensures.width); word = c.in_ok-turned.ensures.owned }
+
+pub flip_where-requires : goal.flip_where-requires
+flip_where-requires g c = record { test = c.sign_of-sign.ensures.owned; word = c.in_ok-turned.ensures.owned }
+
+pub returns-in_err-complement-clause-extends : goal.returns-in_err-complement-clause-extends
+returns-in_err-complement-clause-extends g c = extends_trans c.magnitude.ensures.extends (extends_trans c.negate_where.ensures.extends c.flip_where.ensures.extends)
+
+pub returns-in_err-number-clause-extends : goal.returns-in_err-number-clause-extends
+returns-in_err-number-clause-extends g c = extends_trans c.magnitude.ensures.extends (extends_trans c.negate_where.ensures.extends c.flip_where.ensures.extends)
+
+pub is_zero-requires : goal.is_zero-requires
+is_zero-requires g c = record { word = owns_kept (extends_trans c.negate_where.ensures.extends c.flip_where.ensures.extends) c.in_ok-size.ensures.owned }
+
+pub returns-in_err-none-clause-extends : goal.returns-in_err-none-clause-extends
+returns-in_err-none-clause-extends g c = extends_trans c.magnitude.ensures.extends (extends_trans c.negate_where.ensures.extends (extends_trans c.flip_where.ensures.extends c.is_zero.ensures.extends))
+
+pub divide-requires-clause-left : goal.divide-requires-clause-left
+divide-requires-clause-left g c = owns_kept c.is_zero.ensures.extends (subst (OwnsAll g.L.Logic.owns c.flip_where.new.g) (sym c.in_ok-number.ensures) (owns_taken c.len-width.result c.in_ok-complement.ensures.owned))
+
+pub divide-requires-clause-right : goal.divide-requires-clause-right
+divide-requires-clause-right g c = owns_kept (extends_trans c.negate_where.ensures.extends (extends_trans c.flip_where.ensures.extends c.is_zero.ensures.extends)) c.in_ok-size.ensures.owned
+
+pub returns-in_err-quotient-clause-extends : goal.returns-in_err-quotient-clause-extends
+returns-in_err-quotient-clause-extends g c = extends_trans c.magnitude.ensures.extends (extends_trans c.negate_where.ensures.extends (extends_trans c.flip_where.ensures.extends (extends_trans c.is_zero.ensures.extends c.divide.ensures.extends)))
+
+pub returns-clause-extends : goal.returns-clause-extends
+returns-clause-extends g c = extends_trans c.magnitude.ensures.extends (extends_trans c.negate_where.ensures.extends (extends_trans c.flip_where.ensures.extends (extends_trans c.is_zero.ensures.extends c.divide.ensures.extends)))
+
+pub returns-clause-owned : goal.returns-clause-owned
+returns-clause-owned g c = c.in_ok-quotient.ensures.owned
+
+pub returns-clause-owned_rest : goal.returns-clause-owned_rest
+returns-clause-owned_rest g c = c.in_ok-quotient.ensures.owned_rest
+
+pub returns-clause-owned_sign : goal.returns-clause-owned_sign
+returns-clause-owned_sign g c = (extends_trans c.flip_where.ensures.extends (extends_trans c.is_zero.ensures.extends c.divide.ensures.extends)).kept _ c.sign_of-sign.ensures.owned
+
+pub returns-clause-owned_none : goal.returns-clause-owned_none
+returns-clause-owned_none g c = c.divide.ensures.extends.kept _ c.in_ok-none.ensures.owned

@@ -6,7 +6,7 @@ use Rattle.bit_words.specs.Bits.{differ}
 use Rattle.bit_words.specs.Logic.{extends_trans}
 use Rattle.bit_words.specs.Words.{bit_value, int_of, int_read, nat_of, is_within, is_negative}
 use Rattle.bit_words.specs.Operations.{by_positive, floor_remainder}
-use Rattle.bit_words.proofs.Kept.{reads_kept}
+use Rattle.bit_words.proofs.Kept.{reads_kept, owns_kept}
 use Rattle.bit_words.proofs.Floors.{abs_half, own_fits, remainder_fits, remainder_is, some_abs, small_int, complemented, int_masked, zero_tests}
 use Rattle.bit_words.proofs.floor.rem.Given as given
 use Rattle.bit_words.proofs.floor.rem.Goals as goal
@@ -66,3 +66,42 @@ returns-clause-value g c vs nonzero =
     = rw (part_kept, flipped, below_kept) (remainder_is a b (nat_of (map (reads c.divide_folded.new.g vs) divided.quotient)) (nat_of rest) (more.quotient vs) d) in
     let size : length c.in_ok-part.part ≡ length c.args.a.now = c.in_ok-part.ensures.width ∙ c.requires.alike in
     c.in_ok-number.ensures.value vs (rw (size, z) (fits_width g c vs)) ∙ z
+
+pub sign_of-below-requires : goal.sign_of-below-requires
+sign_of-below-requires g c = record { some = omega arith; word = owns_kept c.divide_folded.ensures.extends c.requires.right }
+
+pub xor-requires : goal.xor-requires
+xor-requires g c = record { left = c.in_ok-divided.ensures.owned_sign; right = c.sign_of-below.ensures.owned }
+
+pub returns-in_err-turn-clause-extends : goal.returns-in_err-turn-clause-extends
+returns-in_err-turn-clause-extends g c = extends_trans c.divide_folded.ensures.extends c.xor.ensures.extends
+
+pub mask-requires : goal.mask-requires
+mask-requires g c = record { test = c.xor.ensures.extends.kept _ c.in_ok-divided.ensures.owned_sign; word = owns_kept (extends_trans c.divide_folded.ensures.extends c.xor.ensures.extends) c.requires.right }
+
+pub returns-in_err-part-clause-extends : goal.returns-in_err-part-clause-extends
+returns-in_err-part-clause-extends g c = extends_trans c.divide_folded.ensures.extends (extends_trans c.xor.ensures.extends c.mask.ensures.extends)
+
+pub flip_where-requires : goal.flip_where-requires
+flip_where-requires g c = record { test = c.mask.ensures.extends.kept _ c.in_ok-turn.ensures.owned; word = owns_kept (extends_trans c.xor.ensures.extends c.mask.ensures.extends) c.in_ok-divided.ensures.owned_rest }
+
+pub returns-in_err-flipped-clause-extends : goal.returns-in_err-flipped-clause-extends
+returns-in_err-flipped-clause-extends g c = extends_trans c.divide_folded.ensures.extends (extends_trans c.xor.ensures.extends (extends_trans c.mask.ensures.extends c.flip_where.ensures.extends))
+
+pub signed_sum-requires : goal.signed_sum-requires
+signed_sum-requires g c = record { some = omega (arith, c.in_ok-part.ensures.width); alike = omega (arith, c.in_ok-part.ensures.width, c.in_ok-flipped.ensures.width, c.in_ok-divided.ensures.width_rest); left = owns_kept c.flip_where.ensures.extends c.in_ok-part.ensures.owned; right = c.in_ok-flipped.ensures.owned; carry = (extends_trans c.xor.ensures.extends (extends_trans c.mask.ensures.extends c.flip_where.ensures.extends)).kept _ c.sign_of-below.ensures.owned }
+
+pub returns-in_err-number-clause-extends : goal.returns-in_err-number-clause-extends
+returns-in_err-number-clause-extends g c = extends_trans c.divide_folded.ensures.extends (extends_trans c.xor.ensures.extends (extends_trans c.mask.ensures.extends (extends_trans c.flip_where.ensures.extends c.signed_sum.ensures.extends)))
+
+pub returns-clause-extends : goal.returns-clause-extends
+returns-clause-extends g c = extends_trans c.divide_folded.ensures.extends (extends_trans c.xor.ensures.extends (extends_trans c.mask.ensures.extends (extends_trans c.flip_where.ensures.extends c.signed_sum.ensures.extends)))
+
+pub returns-clause-owned : goal.returns-clause-owned
+returns-clause-owned g c = c.in_ok-number.ensures.owned
+
+pub returns-clause-owned_none : goal.returns-clause-owned_none
+returns-clause-owned_none g c = (extends_trans c.xor.ensures.extends (extends_trans c.mask.ensures.extends (extends_trans c.flip_where.ensures.extends c.signed_sum.ensures.extends))).kept _ c.in_ok-divided.ensures.owned_none
+
+pub returns-clause-width : goal.returns-clause-width
+returns-clause-width g c = c.in_ok-number.ensures.width ∙ c.in_ok-part.ensures.width ∙ c.requires.alike

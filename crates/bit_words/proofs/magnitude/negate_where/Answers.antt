@@ -1,4 +1,4 @@
-use Rattle.std.proofs.Common.{◌≡◌, ◌<◌, ◌∙◌, ◌-◌, ap, length, map, arith, cond, ◌++◌, ◌∷◌, [], length-append}
+use Rattle.std.proofs.Common.{◌≡◌, ◌<◌, ◌∙◌, ◌-◌, ap, length, map, arith, cond, ◌++◌, ◌∷◌, [], length-append, sym}
 use Rattle.std.specs.Prelude.{ℤ, pos, ◌+ℤ◌, neg_ℤ}
 use Rattle.std.proofs.lemmas.Int.{ints}
 use Rattle.std.proofs.lemmas.List.{length-map, map_push}
@@ -6,6 +6,8 @@ use Rattle.bit_words.specs.Bits.{differ}
 use Rattle.bit_words.specs.Words.{bit_value, int_of}
 use Rattle.bit_words.proofs.Integers.{int_zeros}
 use Rattle.bit_words.proofs.Signs.{repeat_sign, negated_fits, flipped_int}
+use Rattle.bit_words.specs.Logic.{extends_trans}
+use Rattle.bit_words.proofs.Kept.{owns_push}
 use Rattle.bit_words.proofs.magnitude.negate_where.Goals as goal
 
 drop_zero : (x y : ℤ) → x +ℤ pos 0 +ℤ y ≡ x +ℤ y
@@ -30,3 +32,24 @@ returns-clause-value g c vs =
     let width : length c.in_ok-flipped.flipped - 1 ≡ length bits = simp length-map (omega (arith, c.in_ok-flipped.ensures.width, ap length c.in_ok-push.ensures.ok, ap length c.in_ok-wide.ensures, length-append c.in_ok-wide.wide (c.sign_of-sign.result ∷ []))) in
     let fit = negated_fits bits test some in
     c.in_ok-negated.ensures.value vs (rw (width, z) fit) ∙ z
+
+pub flip_where-requires : goal.flip_where-requires
+flip_where-requires g c = record { test = c.requires.test; word = owns_push c.requires.word c.sign_of-sign.ensures.owned (c.in_ok-push.ensures.ok ∙ ap (λ w. w ++ c.sign_of-sign.result ∷ []) c.in_ok-wide.ensures) }
+
+pub returns-in_err-flipped-clause-extends : goal.returns-in_err-flipped-clause-extends
+returns-in_err-flipped-clause-extends g c = c.flip_where.ensures.extends
+
+pub returns-in_err-nothing-clause-extends : goal.returns-in_err-nothing-clause-extends
+returns-in_err-nothing-clause-extends g c = c.flip_where.ensures.extends
+
+pub signed_sum-requires : goal.signed_sum-requires
+signed_sum-requires g c = record { some = omega (arith, c.in_ok-flipped.ensures.width, simp length-append at (ap length c.in_ok-push.ensures.ok)); alike = c.in_ok-nothing.ensures.width ∙ c.len-width.ensures ∙ sym c.in_ok-flipped.ensures.width; left = c.in_ok-flipped.ensures.owned; right = c.in_ok-nothing.ensures.owned; carry = c.flip_where.ensures.extends.kept _ c.requires.test }
+
+pub returns-in_err-negated-clause-extends : goal.returns-in_err-negated-clause-extends
+returns-in_err-negated-clause-extends g c = extends_trans c.flip_where.ensures.extends c.signed_sum.ensures.extends
+
+pub returns-clause-extends : goal.returns-clause-extends
+returns-clause-extends g c = extends_trans c.flip_where.ensures.extends c.signed_sum.ensures.extends
+
+pub returns-clause-owned : goal.returns-clause-owned
+returns-clause-owned g c = c.in_ok-negated.ensures.owned

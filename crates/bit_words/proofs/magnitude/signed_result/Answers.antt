@@ -1,9 +1,10 @@
 use Rattle.std.proofs.Common.{◌≡◌, ◌∙◌, ◌-◌, ◌^◌, ℕ, ap, length, map, arith, Bool, List, true, not}
 use Rattle.bit_words.specs.Words.{nat_of, nat_read, int_read, is_within, signed, IsUnsigned}
-use Rattle.bit_words.proofs.Kept.{reads_kept}
+use Rattle.bit_words.proofs.Kept.{reads_kept, owns_kept}
 use Rattle.bit_words.proofs.Signs.{signed_number}
 use Rattle.bit_words.specs.Words.{int_of}
 use Rattle.bit_words.proofs.magnitude.signed_result.Given as given
+use Rattle.bit_words.specs.Logic.{extends_trans}
 use Rattle.bit_words.proofs.magnitude.signed_result.Goals as goal
 
 both : (g : given.Over) (c : goal.After-drop-wide-inside-2 g) (vs : List Bool) (number : ℕ) →
@@ -31,3 +32,30 @@ returns-clause-over g c vs number u = (both g c vs number u).0
 
 pub returns-clause-value : goal.returns-clause-value
 returns-clause-value g c vs number u = (both g c vs number u).1
+
+pub returns-in_err-wide-clause-extends : goal.returns-in_err-wide-clause-extends
+returns-in_err-wide-clause-extends g c = c.with_sign.ensures.extends
+
+pub narrow-requires : goal.narrow-requires
+narrow-requires g c = record { some = omega arith; wider = omega (arith, c.in_ok-wide.ensures.width); owned = c.in_ok-wide.ensures.owned }
+
+pub returns-in_err-number-clause-extends : goal.returns-in_err-number-clause-extends
+returns-in_err-number-clause-extends g c = extends_trans c.with_sign.ensures.extends c.narrow.ensures.extends
+
+pub or-requires : goal.or-requires
+or-requires g c = record { left = (extends_trans c.with_sign.ensures.extends c.narrow.ensures.extends).kept _ c.requires.over; right = c.in_ok-number.ensures.owned_over }
+
+pub returns-in_err-spilled-clause-extends : goal.returns-in_err-spilled-clause-extends
+returns-in_err-spilled-clause-extends g c = extends_trans c.with_sign.ensures.extends (extends_trans c.narrow.ensures.extends c.or.ensures.extends)
+
+pub returns-clause-extends : goal.returns-clause-extends
+returns-clause-extends g c = extends_trans c.with_sign.ensures.extends (extends_trans c.narrow.ensures.extends c.or.ensures.extends)
+
+pub returns-clause-owned : goal.returns-clause-owned
+returns-clause-owned g c = owns_kept c.or.ensures.extends c.in_ok-number.ensures.owned
+
+pub returns-clause-owned_over : goal.returns-clause-owned_over
+returns-clause-owned_over g c = c.in_ok-spilled.ensures.owned
+
+pub returns-clause-width : goal.returns-clause-width
+returns-clause-width g c = c.in_ok-number.ensures.width ∙ c.len-width.ensures

@@ -5,7 +5,7 @@ use Rattle.std.proofs.lemmas.List.{length-map}
 use Rattle.bit_words.specs.Logic.{extends_trans}
 use Rattle.bit_words.specs.Words.{int_of, int_read, nat_of, nat_read, is_negative, signed, IsUnsigned, OverflowsAs, Holds}
 use Rattle.bit_words.specs.Operations.{exponent_of, int_power}
-use Rattle.bit_words.proofs.Kept.{owns_read, reads_kept, drop_read}
+use Rattle.bit_words.proofs.Kept.{owns_read, reads_kept, drop_read, owns_kept}
 use Rattle.bit_words.proofs.Products.{nat_masked}
 use Rattle.bit_words.proofs.Powers.{power_is, power_over, exponent_is}
 use Rattle.bit_words.proofs.power.power_by.Given as given
@@ -58,3 +58,39 @@ pub returns-clause-value : goal.returns-clause-value
 returns-clause-value g c vs =
     let width = c.in_ok-raised.ensures.width ∙ c.in_ok-size.ensures.width in
     subst (λ (z : ℤ). Holds (int_read g.L.Logic.reads c.signed_result.new.g vs c.in_ok-number.number) (length c.args.a.now) z) (number_is g c vs) (rw width at (c.in_ok-number.ensures.value vs _ (size_is g c vs)))
+
+pub mask-requires : goal.mask-requires
+mask-requires g c = record { test = c.magnitude.ensures.extends.kept _ c.not-positive.ensures.owned; word = owns_kept c.magnitude.ensures.extends c.requires.right }
+
+pub returns-in_err-exponent-clause-extends : goal.returns-in_err-exponent-clause-extends
+returns-in_err-exponent-clause-extends g c = extends_trans c.magnitude.ensures.extends c.mask.ensures.extends
+
+pub unsigned_power-requires : goal.unsigned_power-requires
+unsigned_power-requires g c = record { long = omega (arith, c.in_ok-size.ensures.width); base = owns_kept c.mask.ensures.extends c.in_ok-size.ensures.owned; exponent = c.in_ok-exponent.ensures.owned }
+
+pub returns-in_err-raised-clause-extends : goal.returns-in_err-raised-clause-extends
+returns-in_err-raised-clause-extends g c = extends_trans c.magnitude.ensures.extends (extends_trans c.mask.ensures.extends c.unsigned_power.ensures.extends)
+
+pub and-requires : goal.and-requires
+and-requires g c = record { left = (extends_trans c.magnitude.ensures.extends (extends_trans c.mask.ensures.extends c.unsigned_power.ensures.extends)).kept _ c.sign_of-below.ensures.owned; right = c.unsigned_power.ensures.extends.kept _ (owns_read zero c.in_ok-exponent.ensures.owned c.at-odd.ensures) }
+
+pub returns-in_err-sign-clause-extends : goal.returns-in_err-sign-clause-extends
+returns-in_err-sign-clause-extends g c = extends_trans c.magnitude.ensures.extends (extends_trans c.mask.ensures.extends (extends_trans c.unsigned_power.ensures.extends c.and.ensures.extends))
+
+pub signed_result-requires : goal.signed_result-requires
+signed_result-requires g c = record { some = omega (arith, c.in_ok-raised.ensures.width, c.in_ok-size.ensures.width); sign = c.in_ok-sign.ensures.owned; word = owns_kept c.and.ensures.extends c.in_ok-raised.ensures.owned; over = c.and.ensures.extends.kept _ c.in_ok-raised.ensures.owned_over }
+
+pub returns-in_err-number-clause-extends : goal.returns-in_err-number-clause-extends
+returns-in_err-number-clause-extends g c = extends_trans c.magnitude.ensures.extends (extends_trans c.mask.ensures.extends (extends_trans c.unsigned_power.ensures.extends (extends_trans c.and.ensures.extends c.signed_result.ensures.extends)))
+
+pub returns-clause-extends : goal.returns-clause-extends
+returns-clause-extends g c = extends_trans c.magnitude.ensures.extends (extends_trans c.mask.ensures.extends (extends_trans c.unsigned_power.ensures.extends (extends_trans c.and.ensures.extends c.signed_result.ensures.extends)))
+
+pub returns-clause-owned : goal.returns-clause-owned
+returns-clause-owned g c = c.in_ok-number.ensures.owned
+
+pub returns-clause-owned_over : goal.returns-clause-owned_over
+returns-clause-owned_over g c = c.in_ok-number.ensures.owned_over
+
+pub returns-clause-width : goal.returns-clause-width
+returns-clause-width g c = c.in_ok-number.ensures.width ∙ c.in_ok-raised.ensures.width ∙ c.in_ok-size.ensures.width

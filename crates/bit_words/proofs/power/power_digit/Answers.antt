@@ -1,7 +1,7 @@
-use Rattle.std.proofs.Common.{◌∙◌, ap, length, map}
+use Rattle.std.proofs.Common.{◌∙◌, ap, length, map, arith, sym}
 use Rattle.bit_words.specs.Logic.{extends_trans}
 use Rattle.bit_words.specs.Words.{nat_of}
-use Rattle.bit_words.proofs.Kept.{reads_kept}
+use Rattle.bit_words.proofs.Kept.{reads_kept, owns_kept}
 use Rattle.bit_words.proofs.Quotients.{cond_nat}
 use Rattle.bit_words.proofs.Powers.{power_more}
 use Rattle.bit_words.proofs.power.power_digit.Goals as goal
@@ -33,3 +33,45 @@ returns-clause-value g c vs e u =
     let timed = rw (base, c.in_ok-square.ensures.width, width) at (c.in_ok-times.ensures.value vs) in
     rw (next, out) (power_more (length c.args.a.now) (nat_of (map first c.args.a.now)) e (nat_of (map first c.args.power.now)) (nat_of (map (reads c.product.new.g vs) c.in_ok-square.square)) (nat_of (map (reads c.product-2.new.g vs) c.in_ok-times.times))
     (first c.args.digit) (first c.args.over) (reads c.product.new.g vs c.in_ok-square.left) (reads c.product-2.new.g vs c.in_ok-times.spilled) c.requires.long u squared timed)
+
+pub product-requires-2 : goal.product-requires-2
+product-requires-2 g c = record { alike = omega (arith, c.in_ok-square.ensures.width); left = c.in_ok-square.ensures.owned; right = owns_kept c.product.ensures.extends c.requires.base }
+
+pub returns-in_err-times-clause-extends : goal.returns-in_err-times-clause-extends
+returns-in_err-times-clause-extends g c = extends_trans c.product.ensures.extends c.product-2.ensures.extends
+
+pub and-requires : goal.and-requires
+and-requires g c = record { left = (extends_trans c.product.ensures.extends c.product-2.ensures.extends).kept _ c.requires.digit; right = c.in_ok-times.ensures.owned_over }
+
+pub returns-in_err-lost-clause-extends : goal.returns-in_err-lost-clause-extends
+returns-in_err-lost-clause-extends g c = extends_trans c.product.ensures.extends (extends_trans c.product-2.ensures.extends c.and.ensures.extends)
+
+pub or-requires : goal.or-requires
+or-requires g c = record { left = (extends_trans c.product-2.ensures.extends c.and.ensures.extends).kept _ c.in_ok-square.ensures.owned_over; right = c.in_ok-lost.ensures.owned }
+
+pub returns-in_err-beyond-clause-extends : goal.returns-in_err-beyond-clause-extends
+returns-in_err-beyond-clause-extends g c = extends_trans c.product.ensures.extends (extends_trans c.product-2.ensures.extends (extends_trans c.and.ensures.extends c.or.ensures.extends))
+
+pub or-requires-2 : goal.or-requires-2
+or-requires-2 g c = record { left = (extends_trans c.product.ensures.extends (extends_trans c.product-2.ensures.extends (extends_trans c.and.ensures.extends c.or.ensures.extends))).kept _ c.requires.over; right = c.in_ok-beyond.ensures.owned }
+
+pub returns-in_err-out-clause-extends : goal.returns-in_err-out-clause-extends
+returns-in_err-out-clause-extends g c = extends_trans c.product.ensures.extends (extends_trans c.product-2.ensures.extends (extends_trans c.and.ensures.extends (extends_trans c.or.ensures.extends c.or-2.ensures.extends)))
+
+pub choose_word-requires : goal.choose_word-requires
+choose_word-requires g c = record { test = (extends_trans c.product.ensures.extends (extends_trans c.product-2.ensures.extends (extends_trans c.and.ensures.extends (extends_trans c.or.ensures.extends c.or-2.ensures.extends)))).kept _ c.requires.digit; alike = sym c.in_ok-times.ensures.width; yes = owns_kept (extends_trans c.and.ensures.extends (extends_trans c.or.ensures.extends c.or-2.ensures.extends)) c.in_ok-times.ensures.owned; no = owns_kept (extends_trans c.product-2.ensures.extends (extends_trans c.and.ensures.extends (extends_trans c.or.ensures.extends c.or-2.ensures.extends))) c.in_ok-square.ensures.owned }
+
+pub returns-in_err-next-clause-extends : goal.returns-in_err-next-clause-extends
+returns-in_err-next-clause-extends g c = extends_trans c.product.ensures.extends (extends_trans c.product-2.ensures.extends (extends_trans c.and.ensures.extends (extends_trans c.or.ensures.extends (extends_trans c.or-2.ensures.extends c.choose_word.ensures.extends))))
+
+pub returns-clause-extends : goal.returns-clause-extends
+returns-clause-extends g c = extends_trans c.product.ensures.extends (extends_trans c.product-2.ensures.extends (extends_trans c.and.ensures.extends (extends_trans c.or.ensures.extends (extends_trans c.or-2.ensures.extends c.choose_word.ensures.extends))))
+
+pub returns-clause-owned : goal.returns-clause-owned
+returns-clause-owned g c = c.in_ok-next.ensures.owned
+
+pub returns-clause-owned_over : goal.returns-clause-owned_over
+returns-clause-owned_over g c = c.choose_word.ensures.extends.kept _ c.in_ok-out.ensures.owned
+
+pub returns-clause-width : goal.returns-clause-width
+returns-clause-width g c = c.in_ok-next.ensures.width ∙ c.in_ok-times.ensures.width ∙ c.in_ok-square.ensures.width ∙ c.requires.alike

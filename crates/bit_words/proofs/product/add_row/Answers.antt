@@ -1,7 +1,7 @@
 use Rattle.std.proofs.Common.{◌≡◌, ◌∙◌, ◌+◌, ◌-◌, ap, map, take, arith}
 use Rattle.bit_words.specs.Logic.{extends_trans}
 use Rattle.bit_words.specs.Words.{nat_of}
-use Rattle.bit_words.proofs.Kept.{owns_read, reads_kept}
+use Rattle.bit_words.proofs.Kept.{owns_read, reads_kept, owns_kept}
 use Rattle.bit_words.proofs.Naturals.{nat_more}
 use Rattle.bit_words.proofs.Integers.{nat_read_below}
 use Rattle.bit_words.proofs.Products.{row_more}
@@ -33,3 +33,36 @@ returns-clause-value g c vs digits some higher =
     (first c.at-top.result) (first c.args.digit) (first c.args.over) (summed c.in_ok-sum.carry) (first c.args.some)
     width split (nat_read_below summed c.in_ok-sum.sum c.args.width c.in_ok-sum.ensures.width) some higher (c.in_ok-sum.ensures.total vs) in
     rw (sum_kept, spilled) more
+
+pub returns-in_err-sum-clause-extends : goal.returns-in_err-sum-clause-extends
+returns-in_err-sum-clause-extends g c = c.row_sum.ensures.extends
+
+pub and-requires : goal.and-requires
+and-requires g c = record { left = c.row_sum.ensures.extends.kept _ c.requires.some; right = c.row_sum.ensures.extends.kept _ (owns_read _ c.requires.factor c.at-top.ensures) }
+
+pub returns-in_err-lost-clause-extends : goal.returns-in_err-lost-clause-extends
+returns-in_err-lost-clause-extends g c = extends_trans c.row_sum.ensures.extends c.and.ensures.extends
+
+pub or-requires : goal.or-requires
+or-requires g c = record { left = (extends_trans c.row_sum.ensures.extends c.and.ensures.extends).kept _ c.requires.over; right = c.and.ensures.extends.kept _ c.in_ok-sum.ensures.owned_carry }
+
+pub returns-in_err-carried-clause-extends : goal.returns-in_err-carried-clause-extends
+returns-in_err-carried-clause-extends g c = extends_trans c.row_sum.ensures.extends (extends_trans c.and.ensures.extends c.or.ensures.extends)
+
+pub or-requires-2 : goal.or-requires-2
+or-requires-2 g c = record { left = c.in_ok-carried.ensures.owned; right = c.or.ensures.extends.kept _ c.in_ok-lost.ensures.owned }
+
+pub returns-in_err-spilled-clause-extends : goal.returns-in_err-spilled-clause-extends
+returns-in_err-spilled-clause-extends g c = extends_trans c.row_sum.ensures.extends (extends_trans c.and.ensures.extends (extends_trans c.or.ensures.extends c.or-2.ensures.extends))
+
+pub returns-clause-extends : goal.returns-clause-extends
+returns-clause-extends g c = extends_trans c.row_sum.ensures.extends (extends_trans c.and.ensures.extends (extends_trans c.or.ensures.extends c.or-2.ensures.extends))
+
+pub returns-clause-owned : goal.returns-clause-owned
+returns-clause-owned g c = owns_kept (extends_trans c.and.ensures.extends (extends_trans c.or.ensures.extends c.or-2.ensures.extends)) c.in_ok-sum.ensures.owned
+
+pub returns-clause-owned_over : goal.returns-clause-owned_over
+returns-clause-owned_over g c = c.in_ok-spilled.ensures.owned
+
+pub returns-clause-width : goal.returns-clause-width
+returns-clause-width g c = c.in_ok-sum.ensures.width

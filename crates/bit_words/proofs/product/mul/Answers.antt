@@ -1,9 +1,9 @@
-use Rattle.std.proofs.Common.{◌≡◌, ◌∙◌, ◌*◌, ap, sym, length, subst, List, Bool}
+use Rattle.std.proofs.Common.{◌≡◌, ◌∙◌, ◌*◌, ap, sym, length, subst, List, Bool, arith}
 use Rattle.std.specs.Prelude.{ℤ, ◌*ℤ◌}
 use Rattle.std.specs.Int.RustNames.{unsigned_abs}
 use Rattle.bit_words.specs.Logic.{extends_trans}
 use Rattle.bit_words.specs.Words.{nat_of, int_of, nat_read, int_read, signed, IsUnsigned, OverflowsAs, Holds}
-use Rattle.bit_words.proofs.Kept.{reads_kept}
+use Rattle.bit_words.proofs.Kept.{reads_kept, owns_kept}
 use Rattle.bit_words.proofs.Signs.{product_signed}
 use Rattle.bit_words.proofs.product.mul.Given as given
 use Rattle.bit_words.proofs.product.mul.Goals as goal
@@ -41,3 +41,39 @@ returns-clause-value g c vs =
     let width = c.in_ok-size.ensures.width ∙ c.in_ok-left.ensures.width in
     subst (λ (z : ℤ). Holds (int_read g.L.Logic.reads c.signed_result.new.g vs c.in_ok-number.number) (length c.args.a.now) z) (number_is g c vs)
     (rw width at (c.in_ok-number.ensures.value vs _ (size_is g c vs)))
+
+pub magnitude-requires-2 : goal.magnitude-requires-2
+magnitude-requires-2 g c = record { some = omega arith; word = owns_kept c.magnitude.ensures.extends c.requires.right }
+
+pub returns-in_err-right-clause-extends : goal.returns-in_err-right-clause-extends
+returns-in_err-right-clause-extends g c = extends_trans c.magnitude.ensures.extends c.magnitude-2.ensures.extends
+
+pub product-requires : goal.product-requires
+product-requires g c = record { alike = omega (arith, c.in_ok-left.ensures.width, c.in_ok-right.ensures.width); left = owns_kept c.magnitude-2.ensures.extends c.in_ok-left.ensures.owned; right = c.in_ok-right.ensures.owned }
+
+pub returns-in_err-size-clause-extends : goal.returns-in_err-size-clause-extends
+returns-in_err-size-clause-extends g c = extends_trans c.magnitude.ensures.extends (extends_trans c.magnitude-2.ensures.extends c.product.ensures.extends)
+
+pub xor-requires : goal.xor-requires
+xor-requires g c = record { left = (extends_trans c.magnitude.ensures.extends (extends_trans c.magnitude-2.ensures.extends c.product.ensures.extends)).kept _ c.sign_of-left_sign.ensures.owned; right = (extends_trans c.magnitude.ensures.extends (extends_trans c.magnitude-2.ensures.extends c.product.ensures.extends)).kept _ c.sign_of-right_sign.ensures.owned }
+
+pub returns-in_err-sign-clause-extends : goal.returns-in_err-sign-clause-extends
+returns-in_err-sign-clause-extends g c = extends_trans c.magnitude.ensures.extends (extends_trans c.magnitude-2.ensures.extends (extends_trans c.product.ensures.extends c.xor.ensures.extends))
+
+pub signed_result-requires : goal.signed_result-requires
+signed_result-requires g c = record { some = omega (arith, c.in_ok-size.ensures.width, c.in_ok-left.ensures.width); sign = c.in_ok-sign.ensures.owned; word = owns_kept c.xor.ensures.extends c.in_ok-size.ensures.owned; over = c.xor.ensures.extends.kept _ c.in_ok-size.ensures.owned_over }
+
+pub returns-in_err-number-clause-extends : goal.returns-in_err-number-clause-extends
+returns-in_err-number-clause-extends g c = extends_trans c.magnitude.ensures.extends (extends_trans c.magnitude-2.ensures.extends (extends_trans c.product.ensures.extends (extends_trans c.xor.ensures.extends c.signed_result.ensures.extends)))
+
+pub returns-clause-extends : goal.returns-clause-extends
+returns-clause-extends g c = extends_trans c.magnitude.ensures.extends (extends_trans c.magnitude-2.ensures.extends (extends_trans c.product.ensures.extends (extends_trans c.xor.ensures.extends c.signed_result.ensures.extends)))
+
+pub returns-clause-owned : goal.returns-clause-owned
+returns-clause-owned g c = c.in_ok-number.ensures.owned
+
+pub returns-clause-owned_over : goal.returns-clause-owned_over
+returns-clause-owned_over g c = c.in_ok-number.ensures.owned_over
+
+pub returns-clause-width : goal.returns-clause-width
+returns-clause-width g c = c.in_ok-number.ensures.width ∙ c.in_ok-size.ensures.width ∙ c.in_ok-left.ensures.width

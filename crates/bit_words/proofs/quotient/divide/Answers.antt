@@ -75,3 +75,24 @@ returns-clause-rest g c vs some =
     let last : c.loop-k.k ≡ c.len-width.result = omega arith in
     let none : c.len-width.result - c.len-width.result ≡ 0 = omega arith in
     rw (last, none) at (c.loop-k.invariant.value vs some)
+
+pub returns-in_err-rest-clause-extends : goal.returns-in_err-rest-clause-extends
+returns-in_err-rest-clause-extends g c = c.is_zero.ensures.extends
+
+pub divide_digit-requires : goal.divide_digit-requires
+divide_digit-requires g c = record { long = omega arith; alike = omega arith; rest = c.loop-k.invariant.owned_rest; digit = c.loop-k.invariant.extends.kept _ (owns_read _ c.requires.left c.at-digit.ensures); divisor = owns_kept c.loop-k.invariant.extends c.requires.right; some = c.loop-k.invariant.owned_some }
+
+pub returns-in_err-left-clause-extends : goal.returns-in_err-left-clause-extends
+returns-in_err-left-clause-extends g c = extends_trans c.loop-k.invariant.extends c.divide_digit.ensures.extends
+
+pub returns-in_err-push_low-clause-extends : goal.returns-in_err-push_low-clause-extends
+returns-in_err-push_low-clause-extends g c = extends_trans c.loop-k.invariant.extends c.divide_digit.ensures.extends
+
+pub returns-clause-extends : goal.returns-clause-extends
+returns-clause-extends g c = c.loop-k.invariant.extends
+
+pub returns-clause-owned : goal.returns-clause-owned
+returns-clause-owned g c = c.loop-k.invariant.owned
+
+pub returns-clause-owned_rest : goal.returns-clause-owned_rest
+returns-clause-owned_rest g c = c.loop-k.invariant.owned_rest

@@ -2,7 +2,7 @@ use Rattle.std.proofs.Common.{◌≡◌, ◌<◌, ◌≤◌, ◌∙◌, ◌+◌,
 use Rattle.std.proofs.lemmas.List.{length-map, take_all, take-map}
 use Rattle.bit_words.specs.Logic.{extends_trans}
 use Rattle.bit_words.specs.Words.{bit_value, nat_of}
-use Rattle.bit_words.proofs.Kept.{reads_kept, owns_low_push, owns_taken}
+use Rattle.bit_words.proofs.Kept.{reads_kept, owns_low_push, owns_taken, owns_kept}
 use Rattle.bit_words.proofs.Integers.{nat_read_below, bit_small}
 use Rattle.bit_words.proofs.Quotients.{nat_not, digit_cases, low_same, and_true, and_none, cond_nat}
 use Rattle.bit_words.proofs.quotient.divide_digit.Goals as goal
@@ -46,3 +46,45 @@ returns-clause-value g c vs some half below =
     let digit = digit_cases (2 ^ width) (nat_of bits) (nat_of (map not bits)) (nat_of (map first c.push_low.new.self)) (nat_of (map sums c.in_ok-difference.difference)) (sums c.in_ok-difference.carry) turned
     (nat_read_below sums c.in_ok-difference.difference width c.in_ok-difference.ensures.width) x_small total in
     rw (kept, chosen, sym x) digit
+
+pub carry_sum-requires-clause-left : goal.carry_sum-requires-clause-left
+carry_sum-requires-clause-left g c = owns_low_push c.requires.digit (owns_taken (c.len-width.result - 1) c.requires.rest) (c.in_ok-push_low.ensures.ok ∙ ap (λ w. c.args.digit ∷ w) c.in_ok-shifted.ensures)
+
+pub carry_sum-requires-clause-right : goal.carry_sum-requires-clause-right
+carry_sum-requires-clause-right g c = c.in_ok-flipped.ensures.owned
+
+pub carry_sum-requires-clause-carry : goal.carry_sum-requires-clause-carry
+carry_sum-requires-clause-carry g c = c.constant-yes.ensures.owned
+
+pub returns-in_err-difference-clause-extends : goal.returns-in_err-difference-clause-extends
+returns-in_err-difference-clause-extends g c = c.carry_sum.ensures.extends
+
+pub and-requires : goal.and-requires
+and-requires g c = record { left = c.in_ok-difference.ensures.owned_carry; right = c.carry_sum.ensures.extends.kept _ c.requires.some }
+
+pub returns-in_err-taken-clause-extends : goal.returns-in_err-taken-clause-extends
+returns-in_err-taken-clause-extends g c = extends_trans c.carry_sum.ensures.extends c.and.ensures.extends
+
+pub choose_word-requires-clause-test : goal.choose_word-requires-clause-test
+choose_word-requires-clause-test g c = c.in_ok-taken.ensures.owned
+
+pub choose_word-requires-clause-yes : goal.choose_word-requires-clause-yes
+choose_word-requires-clause-yes g c = owns_kept c.and.ensures.extends c.in_ok-difference.ensures.owned
+
+pub choose_word-requires-clause-no : goal.choose_word-requires-clause-no
+choose_word-requires-clause-no g c = owns_kept (extends_trans c.carry_sum.ensures.extends c.and.ensures.extends) (owns_low_push c.requires.digit (owns_taken (c.len-width.result - 1) c.requires.rest) (c.in_ok-push_low.ensures.ok ∙ ap (λ w. c.args.digit ∷ w) c.in_ok-shifted.ensures))
+
+pub returns-in_err-left-clause-extends : goal.returns-in_err-left-clause-extends
+returns-in_err-left-clause-extends g c = extends_trans c.carry_sum.ensures.extends (extends_trans c.and.ensures.extends c.choose_word.ensures.extends)
+
+pub returns-clause-extends : goal.returns-clause-extends
+returns-clause-extends g c = extends_trans c.carry_sum.ensures.extends (extends_trans c.and.ensures.extends c.choose_word.ensures.extends)
+
+pub returns-clause-owned : goal.returns-clause-owned
+returns-clause-owned g c = c.in_ok-left.ensures.owned
+
+pub returns-clause-owned_digit : goal.returns-clause-owned_digit
+returns-clause-owned_digit g c = c.choose_word.ensures.extends.kept _ c.in_ok-taken.ensures.owned
+
+pub returns-clause-width : goal.returns-clause-width
+returns-clause-width g c = c.in_ok-left.ensures.width ∙ c.in_ok-difference.ensures.width ∙ c.len-width.ensures

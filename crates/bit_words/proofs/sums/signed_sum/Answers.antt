@@ -1,9 +1,10 @@
 use Rattle.std.proofs.Common.{◌≡◌, ◌-◌, ◌^◌, List, Bool, true, not, length, arith}
 use Rattle.std.specs.Prelude.{pos, ◌+ℤ◌}
 use Rattle.bit_words.specs.Words.{bit_value, int_read, is_within}
-use Rattle.bit_words.proofs.Kept.{owns_read, reads_kept}
+use Rattle.bit_words.proofs.Kept.{owns_read, reads_kept, owns_kept, owns_push}
 use Rattle.bit_words.proofs.Integers.{int_split, int_pushed, nat_read_below, sum_fits}
 use Rattle.bit_words.proofs.sums.signed_sum.Given as given
+use Rattle.bit_words.specs.Logic.{extends_trans}
 use Rattle.bit_words.proofs.sums.signed_sum.Goals as goal
 
 both : (g : given.Over) (c : goal.In_ok-push g) (vs : List Bool) →
@@ -33,3 +34,24 @@ returns-clause-over g c vs = (both g c vs).0
 
 pub returns-clause-value : goal.returns-clause-value
 returns-clause-value g c vs = (both g c vs).1
+
+pub returns-in_err-sum-clause-extends : goal.returns-in_err-sum-clause-extends
+returns-in_err-sum-clause-extends g c = c.carry_sum.ensures.extends
+
+pub top_digit-requires : goal.top_digit-requires
+top_digit-requires g c = record { left = c.carry_sum.ensures.extends.kept _ (owns_read _ c.requires.left c.at-first.ensures); right = c.carry_sum.ensures.extends.kept _ (owns_read _ c.requires.right c.at-second.ensures); carry = c.in_ok-sum.ensures.owned_carry }
+
+pub returns-in_err-digit-clause-extends : goal.returns-in_err-digit-clause-extends
+returns-in_err-digit-clause-extends g c = extends_trans c.carry_sum.ensures.extends c.top_digit.ensures.extends
+
+pub returns-in_err-push-clause-extends : goal.returns-in_err-push-clause-extends
+returns-in_err-push-clause-extends g c = extends_trans c.carry_sum.ensures.extends c.top_digit.ensures.extends
+
+pub returns-clause-extends : goal.returns-clause-extends
+returns-clause-extends g c = extends_trans c.carry_sum.ensures.extends c.top_digit.ensures.extends
+
+pub returns-clause-owned : goal.returns-clause-owned
+returns-clause-owned g c = owns_push (owns_kept c.top_digit.ensures.extends c.in_ok-sum.ensures.owned) c.in_ok-digit.ensures.owned c.in_ok-push.ensures.ok
+
+pub returns-clause-owned_over : goal.returns-clause-owned_over
+returns-clause-owned_over g c = c.in_ok-digit.ensures.owned_over
