@@ -21,3 +21,18 @@ loop-i-preserved g c =
           push_read (reads c.loop-i.g vs) (reads c.choose.new.self vs) _ _ _ _ _ (reads_kept step before.owned vs) (before.value vs) (rw (test, left, right) at (c.in_ok-digit.ensures.value vs)) c.in_ok-push.ensures.ok
           ∙ sym (choose_more (first c.args.test) first _ _ _ _ _ _ (take_read c.args.yes.now c.loop-i.i c.at-first.result c.at-first.ensures) (take_read c.args.no.now c.loop-i.i c.at-second.result c.at-second.ensures));
     }
+
+pub choose-requires : goal.choose-requires
+choose-requires g c = record { test = c.loop-i.invariant.extends.kept _ c.requires.test; yes = c.loop-i.invariant.extends.kept _ (owns_read _ c.requires.yes c.at-first.ensures); no = c.loop-i.invariant.extends.kept _ (owns_read _ c.requires.no c.at-second.ensures) }
+
+pub returns-in_err-digit-clause-extends : goal.returns-in_err-digit-clause-extends
+returns-in_err-digit-clause-extends g c = extends_trans c.loop-i.invariant.extends c.choose.ensures.extends
+
+pub returns-in_err-push-clause-extends : goal.returns-in_err-push-clause-extends
+returns-in_err-push-clause-extends g c = extends_trans c.loop-i.invariant.extends c.choose.ensures.extends
+
+pub returns-clause-extends : goal.returns-clause-extends
+returns-clause-extends g c = c.loop-i.invariant.extends
+
+pub returns-clause-owned : goal.returns-clause-owned
+returns-clause-owned g c = c.loop-i.invariant.owned

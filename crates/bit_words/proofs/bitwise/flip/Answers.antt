@@ -1,5 +1,5 @@
 use Rattle.std.proofs.Common.{◌∙◌, ap, sym, arith, length, not, length-append}
-use Rattle.bit_words.proofs.Kept.{owns_push, take_read}
+use Rattle.bit_words.proofs.Kept.{owns_push, take_read, owns_read}
 use Rattle.bit_words.proofs.Pushes.{push_read, map_more}
 use Rattle.std.proofs.Common.{refl}
 use Rattle.bit_words.proofs.bitwise.flip.Goals as goal
@@ -13,3 +13,9 @@ loop-i-preserved g c = record {
       push_read f f _ _ _ _ _ refl (c.loop-i.invariant.value vs) (c.not.ensures.value vs) c.in_ok-push.ensures.ok
       ∙ sym (map_more not f _ _ _ (take_read c.args.a.now c.loop-i.i c.at-bit.result c.at-bit.ensures));
 }
+
+pub not-requires : goal.not-requires
+not-requires g c = owns_read _ c.requires c.at-bit.ensures
+
+pub returns-clause-owned : goal.returns-clause-owned
+returns-clause-owned g c = c.loop-i.invariant.owned

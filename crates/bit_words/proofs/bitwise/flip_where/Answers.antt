@@ -22,3 +22,18 @@ loop-i-preserved g c =
           push_read (reads c.loop-i.g vs) (reads c.xor.new.g vs) _ _ _ _ _ (reads_kept step before.owned vs) (before.value vs) (rw (test, digit) at (c.in_ok-other.ensures.value vs)) c.in_ok-push.ensures.ok
           ∙ sym (map_more change first _ _ _ (take_read c.args.a.now c.loop-i.i c.at-digit.result c.at-digit.ensures));
     }
+
+pub xor-requires : goal.xor-requires
+xor-requires g c = record { left = c.loop-i.invariant.extends.kept _ c.requires.test; right = c.loop-i.invariant.extends.kept _ (owns_read _ c.requires.word c.at-digit.ensures) }
+
+pub returns-in_err-other-clause-extends : goal.returns-in_err-other-clause-extends
+returns-in_err-other-clause-extends g c = extends_trans c.loop-i.invariant.extends c.xor.ensures.extends
+
+pub returns-in_err-push-clause-extends : goal.returns-in_err-push-clause-extends
+returns-in_err-push-clause-extends g c = extends_trans c.loop-i.invariant.extends c.xor.ensures.extends
+
+pub returns-clause-extends : goal.returns-clause-extends
+returns-clause-extends g c = c.loop-i.invariant.extends
+
+pub returns-clause-owned : goal.returns-clause-owned
+returns-clause-owned g c = c.loop-i.invariant.owned

@@ -35,3 +35,24 @@ returns-clause-value g c vs =
     let left = take_all c.loop-i.i c.args.a.now (omega arith) in
     let right = take_all c.loop-i.i c.args.b.now (omega arith) in
     rw (left, right) at (c.loop-i.invariant.value vs) ∙ same_numbers (map first c.args.a.now) (map first c.args.b.now) (simp length-map (omega arith)) (simp length-map (omega arith))
+
+pub xor-requires : goal.xor-requires
+xor-requires g c = record { left = c.loop-i.invariant.extends.kept _ (owns_read _ c.requires.left c.at-left.ensures); right = c.loop-i.invariant.extends.kept _ (owns_read _ c.requires.right c.at-right.ensures) }
+
+pub returns-in_err-other-clause-extends : goal.returns-in_err-other-clause-extends
+returns-in_err-other-clause-extends g c = extends_trans c.loop-i.invariant.extends c.xor.ensures.extends
+
+pub not-same-requires : goal.not-same-requires
+not-same-requires g c = c.in_ok-other.ensures.owned
+
+pub and-requires : goal.and-requires
+and-requires g c = record { left = c.xor.ensures.extends.kept _ c.loop-i.invariant.owned; right = c.not-same.ensures.owned }
+
+pub returns-in_err-alike-clause-extends : goal.returns-in_err-alike-clause-extends
+returns-in_err-alike-clause-extends g c = extends_trans c.loop-i.invariant.extends (extends_trans c.xor.ensures.extends c.and.ensures.extends)
+
+pub returns-clause-extends : goal.returns-clause-extends
+returns-clause-extends g c = c.loop-i.invariant.extends
+
+pub returns-clause-owned : goal.returns-clause-owned
+returns-clause-owned g c = c.loop-i.invariant.owned

@@ -44,3 +44,21 @@ returns-clause-value g c vs =
     rw (x, y) at (c.in_ok-lower.ensures.value vs)
     ∙ less_top (2 ^ top) _ _ (first c.at-first.result) (first c.at-second.result) (reads c.loop-i.g vs c.loop-i.below) _ _ (nat_taken_below first c.args.a.now top (omega arith)) (nat_taken_below first c.args.b.now top (omega arith))
     (rw here at (before.value vs)) left right
+
+pub less_digit-requires : goal.less_digit-requires
+less_digit-requires g c = record { left = c.loop-i.invariant.extends.kept _ (owns_read _ c.requires.left c.at-left.ensures); right = c.loop-i.invariant.extends.kept _ (owns_read _ c.requires.right c.at-right.ensures); before = c.loop-i.invariant.owned }
+
+pub returns-in_err-below-clause-extends : goal.returns-in_err-below-clause-extends
+returns-in_err-below-clause-extends g c = extends_trans c.loop-i.invariant.extends c.less_digit.ensures.extends
+
+pub less_sign-requires-clause-before : goal.less_sign-requires-clause-before
+less_sign-requires-clause-before g c = c.loop-i.invariant.owned
+
+pub returns-in_err-lower-clause-extends : goal.returns-in_err-lower-clause-extends
+returns-in_err-lower-clause-extends g c = extends_trans c.loop-i.invariant.extends c.less_sign.ensures.extends
+
+pub returns-clause-extends : goal.returns-clause-extends
+returns-clause-extends g c = extends_trans c.loop-i.invariant.extends c.less_sign.ensures.extends
+
+pub returns-clause-owned : goal.returns-clause-owned
+returns-clause-owned g c = c.in_ok-lower.ensures.owned

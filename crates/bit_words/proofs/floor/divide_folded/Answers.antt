@@ -1,4 +1,4 @@
-use Rattle.std.proofs.Common.{◌≡◌, ◌≤◌, ◌∙◌, ◌-◌, ◌^◌, ℕ, suc, eqb, Bool, List, ap, sym, length, map, take, arith, subst}
+use Rattle.std.proofs.Common.{◌≡◌, ◌≤◌, ◌∙◌, ◌-◌, ◌^◌, ℕ, suc, eqb, Bool, List, ap, sym, length, map, take, arith, subst, length-take}
 use Rattle.std.specs.Int.RustNames.{unsigned_abs}
 use Rattle.std.proofs.lemmas.List.{length-map, take-map}
 use Rattle.bit_words.specs.Logic.{OwnsAll, extends_trans}
@@ -116,3 +116,18 @@ returns-clause-owned_sign g c = (extends_trans c.flip_where.ensures.extends (ext
 
 pub returns-clause-owned_none : goal.returns-clause-owned_none
 returns-clause-owned_none g c = c.divide.ensures.extends.kept _ c.in_ok-none.ensures.owned
+
+pub low_bits-requires : goal.low_bits-requires
+low_bits-requires g c = omega (arith, c.in_ok-complement.ensures.width, c.in_ok-turned.ensures.width)
+
+pub divide-requires-clause-long : goal.divide-requires-clause-long
+divide-requires-clause-long g c = omega (arith, ap length c.in_ok-number.ensures, length-take c.len-width.result c.in_ok-complement.complement, c.in_ok-complement.ensures.width, c.in_ok-turned.ensures.width)
+
+pub divide-requires-clause-alike : goal.divide-requires-clause-alike
+divide-requires-clause-alike g c = omega (arith, ap length c.in_ok-number.ensures, length-take c.len-width.result c.in_ok-complement.complement, c.in_ok-complement.ensures.width, c.in_ok-turned.ensures.width, c.in_ok-size.ensures.width)
+
+pub returns-clause-width : goal.returns-clause-width
+returns-clause-width g c = omega (arith, c.in_ok-quotient.ensures.width, ap length c.in_ok-number.ensures, length-take c.len-width.result c.in_ok-complement.complement, c.in_ok-complement.ensures.width, c.in_ok-turned.ensures.width)
+
+pub returns-clause-width_rest : goal.returns-clause-width_rest
+returns-clause-width_rest g c = omega (arith, c.in_ok-quotient.ensures.width_rest, ap length c.in_ok-number.ensures, length-take c.len-width.result c.in_ok-complement.complement, c.in_ok-complement.ensures.width, c.in_ok-turned.ensures.width)

@@ -53,3 +53,6 @@ returns-clause-extends g c = extends_trans c.flip_where.ensures.extends c.signed
 
 pub returns-clause-owned : goal.returns-clause-owned
 returns-clause-owned g c = c.in_ok-negated.ensures.owned
+
+pub returns-clause-width : goal.returns-clause-width
+returns-clause-width g c = c.in_ok-negated.ensures.width ∙ c.in_ok-flipped.ensures.width ∙ ap length (c.in_ok-push.ensures.ok ∙ ap (λ w. w ++ c.sign_of-sign.result ∷ []) c.in_ok-wide.ensures) ∙ length-append c.args.a.now (c.sign_of-sign.result ∷ [])

@@ -52,3 +52,6 @@ returns-clause-extends g c = extends_trans c.flip_where.ensures.extends c.signed
 
 pub returns-clause-owned : goal.returns-clause-owned
 returns-clause-owned g c = c.in_ok-number.ensures.owned
+
+pub returns-clause-width : goal.returns-clause-width
+returns-clause-width g c = c.in_ok-number.ensures.width ∙ c.in_ok-flipped.ensures.width ∙ ap length (c.in_ok-push.ensures.ok ∙ ap (λ w. w ++ c.constant-no.result ∷ []) c.in_ok-wide.ensures) ∙ length-append c.args.size.now (c.constant-no.result ∷ [])

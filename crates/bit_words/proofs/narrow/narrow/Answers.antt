@@ -1,10 +1,11 @@
-use Rattle.std.proofs.Common.{◌≡◌, ◌∙◌, ◌+◌, ◌-◌, ◌^◌, ap, List, Bool, true, not, map, take, arith, ◌++◌, ◌∷◌, [], length-take}
+use Rattle.std.proofs.Common.{◌≡◌, ◌∙◌, ◌+◌, ◌-◌, ◌^◌, ap, List, Bool, true, not, map, take, arith, ◌++◌, ◌∷◌, [], length-take, subst, sym}
 use Rattle.bit_words.specs.Words.{int_read, is_within, nat_of}
-use Rattle.bit_words.proofs.Kept.{reads_kept, take_read, owns_read, owns_taken}
+use Rattle.bit_words.proofs.Kept.{reads_kept, take_read, owns_read, owns_taken, owns_kept}
 use Rattle.bit_words.proofs.Naturals.{power_double, nat_more}
 use Rattle.bit_words.proofs.Integers.{int_split, int_pushed, nat_taken_below}
 use Rattle.bit_words.proofs.Signs.{narrow_cases}
 use Rattle.bit_words.proofs.narrow.narrow.Given as given
+use Rattle.bit_words.specs.Logic.{OwnsAll}
 use Rattle.bit_words.proofs.narrow.narrow.Goals as goal
 
 both : (g : given.Over) (c : goal.In_ok-over g) (vs : List Bool) →
@@ -31,3 +32,18 @@ returns-clause-over g c vs = (both g c vs).0
 
 pub returns-clause-value : goal.returns-clause-value
 returns-clause-value g c vs = (both g c vs).1
+
+pub xor-requires : goal.xor-requires
+xor-requires g c = record { left = owns_read _ c.requires.owned c.at-top.ensures; right = owns_read _ c.requires.owned c.at-sign.ensures }
+
+pub returns-in_err-over-clause-extends : goal.returns-in_err-over-clause-extends
+returns-in_err-over-clause-extends g c = c.xor.ensures.extends
+
+pub returns-clause-extends : goal.returns-clause-extends
+returns-clause-extends g c = c.xor.ensures.extends
+
+pub returns-clause-owned : goal.returns-clause-owned
+returns-clause-owned g c = owns_kept c.xor.ensures.extends (subst (OwnsAll g.L.Logic.owns c.args.g.now) (sym c.in_ok-low.ensures) (owns_taken c.args.width c.requires.owned))
+
+pub returns-clause-owned_over : goal.returns-clause-owned_over
+returns-clause-owned_over g c = c.in_ok-over.ensures.owned

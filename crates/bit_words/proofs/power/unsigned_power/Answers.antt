@@ -2,7 +2,7 @@ use Rattle.std.proofs.Common.{◌≡◌, ◌∙◌, ◌+◌, ◌-◌, [], ap, le
 use Rattle.std.proofs.lemmas.List.{length-map, drop_all}
 use Rattle.bit_words.specs.Logic.{extends_trans, extends_refl}
 use Rattle.bit_words.specs.Words.{nat_of}
-use Rattle.bit_words.proofs.Kept.{owns_read, reads_kept, drop_read}
+use Rattle.bit_words.proofs.Kept.{owns_read, reads_kept, drop_read, owns_kept}
 use Rattle.bit_words.proofs.Powers.{no_exponent}
 use Rattle.bit_words.proofs.power.unsigned_power.Goals as goal
 
@@ -49,3 +49,21 @@ returns-clause-value g c vs =
     let last : c.loop-k.k ≡ c.len-digits.result = omega arith in
     let none : c.len-digits.result - c.len-digits.result ≡ 0 = omega arith in
     rw (last, none) at (c.loop-k.invariant.value vs)
+
+pub power_digit-requires : goal.power_digit-requires
+power_digit-requires g c = record { long = c.requires.long; alike = c.loop-k.invariant.width; base = owns_kept c.loop-k.invariant.extends c.requires.base; digit = c.loop-k.invariant.extends.kept _ (owns_read _ c.requires.exponent c.at-digit.ensures); power = c.loop-k.invariant.owned; over = c.loop-k.invariant.owned_over }
+
+pub returns-in_err-next-clause-extends : goal.returns-in_err-next-clause-extends
+returns-in_err-next-clause-extends g c = extends_trans c.loop-k.invariant.extends c.power_digit.ensures.extends
+
+pub returns-clause-extends : goal.returns-clause-extends
+returns-clause-extends g c = c.loop-k.invariant.extends
+
+pub returns-clause-owned : goal.returns-clause-owned
+returns-clause-owned g c = c.loop-k.invariant.owned
+
+pub returns-clause-owned_over : goal.returns-clause-owned_over
+returns-clause-owned_over g c = c.loop-k.invariant.owned_over
+
+pub returns-clause-width : goal.returns-clause-width
+returns-clause-width g c = c.loop-k.invariant.width

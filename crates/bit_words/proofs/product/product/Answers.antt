@@ -78,3 +78,36 @@ returns-clause-value g c vs =
     let size : width ≡ length c.args.a.now = omega arith in
     let whole = rw (last, all, none) at (c.loop-k.invariant.value vs) in
     subst (λ (k : ℕ). IsUnsigned k (nat_of (map first c.args.a.now) * nat_of (map first c.args.b.now)) (nat_of (map (g.L.Logic.reads c.loop-k.g vs) c.loop-k.higher)) (g.L.Logic.reads c.loop-k.g vs c.loop-k.over)) size whole
+
+pub add_row-requires-clause-factor : goal.add_row-requires-clause-factor
+add_row-requires-clause-factor g c = owns_kept c.loop-k.invariant.extends c.requires.left
+
+pub add_row-requires-clause-digit : goal.add_row-requires-clause-digit
+add_row-requires-clause-digit g c = c.loop-k.invariant.extends.kept _ (owns_read _ c.requires.right c.at-digit.ensures)
+
+pub add_row-requires-clause-higher : goal.add_row-requires-clause-higher
+add_row-requires-clause-higher g c = c.loop-k.invariant.owned
+
+pub add_row-requires-clause-over : goal.add_row-requires-clause-over
+add_row-requires-clause-over g c = c.loop-k.invariant.owned_over
+
+pub add_row-requires-clause-some : goal.add_row-requires-clause-some
+add_row-requires-clause-some g c = c.loop-k.invariant.owned_some
+
+pub returns-in_err-sum-clause-extends : goal.returns-in_err-sum-clause-extends
+returns-in_err-sum-clause-extends g c = extends_trans c.loop-k.invariant.extends c.add_row.ensures.extends
+
+pub or-requires : goal.or-requires
+or-requires g c = record { left = c.add_row.ensures.extends.kept _ c.loop-k.invariant.owned_some; right = c.add_row.ensures.extends.kept _ (c.loop-k.invariant.extends.kept _ (owns_read _ c.requires.right c.at-digit.ensures)) }
+
+pub returns-in_err-some-clause-extends : goal.returns-in_err-some-clause-extends
+returns-in_err-some-clause-extends g c = extends_trans c.loop-k.invariant.extends (extends_trans c.add_row.ensures.extends c.or.ensures.extends)
+
+pub returns-clause-extends : goal.returns-clause-extends
+returns-clause-extends g c = c.loop-k.invariant.extends
+
+pub returns-clause-owned : goal.returns-clause-owned
+returns-clause-owned g c = c.loop-k.invariant.owned
+
+pub returns-clause-owned_over : goal.returns-clause-owned_over
+returns-clause-owned_over g c = c.loop-k.invariant.owned_over

@@ -28,3 +28,21 @@ loop-i-preserved g c =
           let twice : 2 ^ (i + 1) ≡ 2 ^ i + 2 ^ i = ap (λ k. 2 ^ k) (omega arith) ∙ power_double i in
           rw (sum, left, right, twice, digit, next) (carry_step (2 ^ i) (first c.at-left.result) (first c.at-right.result) (reads c.loop-i.g vs c.loop-i.carried) _ _ _ _ (before.total vs));
     }
+
+pub full_add-requires : goal.full_add-requires
+full_add-requires g c = record { left = c.loop-i.invariant.extends.kept _ (owns_read _ c.requires.left c.at-left.ensures); right = c.loop-i.invariant.extends.kept _ (owns_read _ c.requires.right c.at-right.ensures); carry = c.loop-i.invariant.carried }
+
+pub returns-in_err-digit-clause-extends : goal.returns-in_err-digit-clause-extends
+returns-in_err-digit-clause-extends g c = extends_trans c.loop-i.invariant.extends c.full_add.ensures.extends
+
+pub returns-in_err-push-clause-extends : goal.returns-in_err-push-clause-extends
+returns-in_err-push-clause-extends g c = extends_trans c.loop-i.invariant.extends c.full_add.ensures.extends
+
+pub returns-clause-extends : goal.returns-clause-extends
+returns-clause-extends g c = c.loop-i.invariant.extends
+
+pub returns-clause-owned : goal.returns-clause-owned
+returns-clause-owned g c = c.loop-i.invariant.owned
+
+pub returns-clause-owned_carry : goal.returns-clause-owned_carry
+returns-clause-owned_carry g c = c.loop-i.invariant.carried

@@ -1,4 +1,4 @@
-use Rattle.std.proofs.Common.{◌≡◌, ◌-◌, ◌^◌, List, Bool, true, not, length, arith}
+use Rattle.std.proofs.Common.{◌≡◌, ◌-◌, ◌^◌, List, Bool, true, not, length, arith, ap, length-append}
 use Rattle.std.specs.Prelude.{pos, ◌+ℤ◌}
 use Rattle.bit_words.specs.Words.{bit_value, int_read, is_within}
 use Rattle.bit_words.proofs.Kept.{owns_read, reads_kept, owns_kept, owns_push}
@@ -55,3 +55,6 @@ returns-clause-owned g c = owns_push (owns_kept c.top_digit.ensures.extends c.in
 
 pub returns-clause-owned_over : goal.returns-clause-owned_over
 returns-clause-owned_over g c = c.in_ok-digit.ensures.owned_over
+
+pub returns-clause-width : goal.returns-clause-width
+returns-clause-width g c = omega (arith, simp length-append at (ap length c.in_ok-push.ensures.ok), c.in_ok-sum.ensures.width)
