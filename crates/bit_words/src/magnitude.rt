@@ -48,6 +48,29 @@ pub fn magnitude<L: Logic>(
     Ok(size)
 }
 
+/// A number or its opposite, by a test, in the width of its word.
+#[tactic(auto, using(crate::proofs::Kept::steps))]
+fn turn_where<L: Logic>(
+    alloc: Global,
+    g: &mut L,
+    test: L::Bit,
+    a: &Word<L::Bit>,
+) -> Result<Word<L::Bit>, NoMemory>
+    requires some { 0 < length a.now }
+    requires test { L.owns g.old test }
+    requires word { OwnsAll L.owns g.old a.now }
+    ensures extends { Extends L.owns L.reads L.count g.old g.new }
+    ensures owned { IfOk result (λ r. OwnsAll L.owns g.new r) }
+    ensures width { IfOk result (λ r. length r ≡ length a.now) }
+    ensures value { IfOk result (λ r. (vs : List Bool) → Holds (int_read L.reads g.new vs r) (length a.now) (if L.reads g.old vs test then neg_ℤ (int_read L.reads g.old vs a.now) else int_read L.reads g.old vs a.now)) }
+{
+    let flipped = flip_where(alloc, g, test, a)?;
+    let width = a.len();
+    let nothing = zeros(alloc, g, width)?;
+    let (turned, _) = signed_sum(alloc, g, &flipped, &nothing, test)?;
+    Ok(turned)
+}
+
 /// A number or its opposite, by a test.
 #[tactic(auto, using(crate::proofs::Kept::steps))]
 pub fn negate_where<L: Logic>(
@@ -67,10 +90,7 @@ pub fn negate_where<L: Logic>(
     let sign = sign_of(g, a);
     let mut wide = a.copy()?;
     wide.push(sign)?;
-    let flipped = flip_where(alloc, g, test, &wide)?;
-    let width = wide.len();
-    let nothing = zeros(alloc, g, width)?;
-    let (negated, _) = signed_sum(alloc, g, &flipped, &nothing, test)?;
+    let negated = turn_where(alloc, g, test, &wide)?;
     Ok(negated)
 }
 
@@ -92,10 +112,7 @@ pub fn with_sign<L: Logic>(
     let no = g.constant(false);
     let mut wide = size.copy()?;
     wide.push(no)?;
-    let flipped = flip_where(alloc, g, sign, &wide)?;
-    let width = wide.len();
-    let nothing = zeros(alloc, g, width)?;
-    let (number, _) = signed_sum(alloc, g, &flipped, &nothing, sign)?;
+    let number = turn_where(alloc, g, sign, &wide)?;
     Ok(number)
 }
 
