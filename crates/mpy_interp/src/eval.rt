@@ -1,5 +1,6 @@
 //! The values of expressions.
 ghost use Rattle.std.specs.Prelude.{◌≡◌, ℕ, List, map};
+ghost use Rattle.mpy_tree.specs.Syntax.{Items, Minus, Negation, Binary, Compare, Both, Either, Choose, At, Apply};
 ghost use Rattle.mpy_tree.specs.View.{term_of, terms_of, end_by};
 ghost use Rattle.mpy_interp.specs.Answers.{Meets, MeetsBy};
 ghost use Rattle.mpy_interp.specs.Frames.{state_of};
@@ -13,7 +14,7 @@ use crate::lists::{element_at, list_literal, part_between, text_literal};
 use crate::numbers::make_number;
 use crate::operators::{negate, operate};
 use crate::stop::{Stop, WRONG_TYPE, faulted};
-use mpy_tree::{Expr, Exprs, Limits, Value};
+use mpy_tree::{ArithOp, CmpOp, Expr, Exprs, Limits, Name, Value};
 use std::alloc::Global;
 
 /// The value of an expression.
@@ -33,62 +34,206 @@ pub fn eval<C: Calls>(
         Expr::Bool(b) => Ok(Value::Bool(*b)),
         Expr::Text(cs) => text_literal(l, line, cs),
         Expr::Name(x) => frame.get(line, x),
-        Expr::List(es) => {
-            let vs = eval_all(alloc, l, calls, frame, line, es)?;
-            list_literal(alloc, l, line, &vs)
-        }
-        Expr::Neg(a) => {
-            let v = eval(alloc, l, calls, frame, line, a)?;
-            negate(l, line, &v)
-        }
-        Expr::Not(a) => {
-            let v = eval(alloc, l, calls, frame, line, a)?;
-            Ok(Value::Bool(!is_true(&v)))
-        }
-        Expr::Arith(op, a, b) => {
-            let v = eval(alloc, l, calls, frame, line, a)?;
-            let w = eval(alloc, l, calls, frame, line, b)?;
-            operate(alloc, l, line, *op, &v, &w)
-        }
-        Expr::Cmp(op, a, b) => {
-            let v = eval(alloc, l, calls, frame, line, a)?;
-            let w = eval(alloc, l, calls, frame, line, b)?;
-            compared(line, *op, &v, &w)
-        }
-        Expr::And(a, b) => match eval(alloc, l, calls, frame, line, a)? {
-            Value::Bool(true) => eval(alloc, l, calls, frame, line, b),
-            Value::Bool(false) => Ok(Value::Bool(false)),
-            _ => Err(faulted(WRONG_TYPE, line)),
-        },
-        Expr::Or(a, b) => match eval(alloc, l, calls, frame, line, a)? {
-            Value::Bool(true) => Ok(Value::Bool(true)),
-            Value::Bool(false) => eval(alloc, l, calls, frame, line, b),
-            _ => Err(faulted(WRONG_TYPE, line)),
-        },
-        Expr::Cond { test, yes, no } => {
-            let v = eval(alloc, l, calls, frame, line, test)?;
-            if is_true(&v) {
-                eval(alloc, l, calls, frame, line, yes)
-            } else {
-                eval(alloc, l, calls, frame, line, no)
-            }
-        }
-        Expr::Index(a, i) => {
-            let v = eval(alloc, l, calls, frame, line, a)?;
-            let k = eval(alloc, l, calls, frame, line, i)?;
-            element_at(alloc, line, &v, &k)
-        }
+        Expr::List(es) => eval_list(alloc, l, calls, frame, line, es),
+        Expr::Neg(a) => eval_neg(alloc, l, calls, frame, line, a),
+        Expr::Not(a) => eval_not(alloc, l, calls, frame, line, a),
+        Expr::Arith(op, a, b) => eval_arith(alloc, l, calls, frame, line, *op, a, b),
+        Expr::Cmp(op, a, b) => eval_cmp(alloc, l, calls, frame, line, *op, a, b),
+        Expr::And(a, b) => eval_and(alloc, l, calls, frame, line, a, b),
+        Expr::Or(a, b) => eval_or(alloc, l, calls, frame, line, a, b),
+        Expr::Cond { test, yes, no } => eval_cond(alloc, l, calls, frame, line, test, yes, no),
+        Expr::Index(a, i) => eval_index(alloc, l, calls, frame, line, a, i),
         Expr::Slice(a, start, end) => {
             let v = eval(alloc, l, calls, frame, line, a)?;
             let from = eval_end(alloc, l, calls, frame, line, start)?;
             let to = eval_end(alloc, l, calls, frame, line, end)?;
             part_between(alloc, line, &v, from, to)
         }
-        Expr::Call(f, es) => {
-            let vs = eval_all(alloc, l, calls, frame, line, es)?;
-            applied(alloc, l, calls, f, &vs, line)
-        }
+        Expr::Call(f, es) => eval_call(alloc, l, calls, frame, line, f, es),
     }
+}
+
+// The value of a list literal.
+#[cycle(eval)]
+fn eval_list<C: Calls>(
+    alloc: Global,
+    l: &Limits,
+    calls: &C,
+    frame: &Frame<'_>,
+    line: u32,
+    es: &Exprs,
+) -> Result<Value, Stop>
+    ensures { Meets result (value_of l.now (C.gives calls.now) (state_of frame.now) line (Items (terms_of es.now))) }
+{
+    let vs = eval_all(alloc, l, calls, frame, line, es)?;
+    list_literal(alloc, l, line, &vs)
+}
+
+// The value of `-a`.
+#[cycle(eval)]
+fn eval_neg<C: Calls>(
+    alloc: Global,
+    l: &Limits,
+    calls: &C,
+    frame: &Frame<'_>,
+    line: u32,
+    a: &Expr,
+) -> Result<Value, Stop>
+    ensures { Meets result (value_of l.now (C.gives calls.now) (state_of frame.now) line (Minus (term_of a.now))) }
+{
+    let v = eval(alloc, l, calls, frame, line, a)?;
+    negate(l, line, &v)
+}
+
+// The value of `not a`.
+#[cycle(eval)]
+fn eval_not<C: Calls>(
+    alloc: Global,
+    l: &Limits,
+    calls: &C,
+    frame: &Frame<'_>,
+    line: u32,
+    a: &Expr,
+) -> Result<Value, Stop>
+    ensures { Meets result (value_of l.now (C.gives calls.now) (state_of frame.now) line (Negation (term_of a.now))) }
+{
+    let v = eval(alloc, l, calls, frame, line, a)?;
+    Ok(Value::Bool(!is_true(&v)))
+}
+
+// The value of `a op b`.
+#[cycle(eval)]
+fn eval_arith<C: Calls>(
+    alloc: Global,
+    l: &Limits,
+    calls: &C,
+    frame: &Frame<'_>,
+    line: u32,
+    op: ArithOp,
+    a: &Expr,
+    b: &Expr,
+) -> Result<Value, Stop>
+    ensures { Meets result (value_of l.now (C.gives calls.now) (state_of frame.now) line (Binary op (term_of a.now) (term_of b.now))) }
+{
+    let v = eval(alloc, l, calls, frame, line, a)?;
+    let w = eval(alloc, l, calls, frame, line, b)?;
+    operate(alloc, l, line, op, &v, &w)
+}
+
+// The value of a comparison.
+#[cycle(eval)]
+fn eval_cmp<C: Calls>(
+    alloc: Global,
+    l: &Limits,
+    calls: &C,
+    frame: &Frame<'_>,
+    line: u32,
+    op: CmpOp,
+    a: &Expr,
+    b: &Expr,
+) -> Result<Value, Stop>
+    ensures { Meets result (value_of l.now (C.gives calls.now) (state_of frame.now) line (Compare op (term_of a.now) (term_of b.now))) }
+{
+    let v = eval(alloc, l, calls, frame, line, a)?;
+    let w = eval(alloc, l, calls, frame, line, b)?;
+    compared(line, op, &v, &w)
+}
+
+// The value of `a and b`.
+#[cycle(eval)]
+fn eval_and<C: Calls>(
+    alloc: Global,
+    l: &Limits,
+    calls: &C,
+    frame: &Frame<'_>,
+    line: u32,
+    a: &Expr,
+    b: &Expr,
+) -> Result<Value, Stop>
+    ensures { Meets result (value_of l.now (C.gives calls.now) (state_of frame.now) line (Both (term_of a.now) (term_of b.now))) }
+{
+    match eval(alloc, l, calls, frame, line, a)? {
+        Value::Bool(true) => eval(alloc, l, calls, frame, line, b),
+        Value::Bool(false) => Ok(Value::Bool(false)),
+        _ => Err(faulted(WRONG_TYPE, line)),
+    }
+}
+
+// The value of `a or b`.
+#[cycle(eval)]
+fn eval_or<C: Calls>(
+    alloc: Global,
+    l: &Limits,
+    calls: &C,
+    frame: &Frame<'_>,
+    line: u32,
+    a: &Expr,
+    b: &Expr,
+) -> Result<Value, Stop>
+    ensures { Meets result (value_of l.now (C.gives calls.now) (state_of frame.now) line (Either (term_of a.now) (term_of b.now))) }
+{
+    match eval(alloc, l, calls, frame, line, a)? {
+        Value::Bool(true) => Ok(Value::Bool(true)),
+        Value::Bool(false) => eval(alloc, l, calls, frame, line, b),
+        _ => Err(faulted(WRONG_TYPE, line)),
+    }
+}
+
+// The value of `yes if test else no`.
+#[cycle(eval)]
+fn eval_cond<C: Calls>(
+    alloc: Global,
+    l: &Limits,
+    calls: &C,
+    frame: &Frame<'_>,
+    line: u32,
+    test: &Expr,
+    yes: &Expr,
+    no: &Expr,
+) -> Result<Value, Stop>
+    ensures { Meets result (value_of l.now (C.gives calls.now) (state_of frame.now) line (Choose (term_of test.now) (term_of yes.now) (term_of no.now))) }
+{
+    let v = eval(alloc, l, calls, frame, line, test)?;
+    if is_true(&v) {
+        eval(alloc, l, calls, frame, line, yes)
+    } else {
+        eval(alloc, l, calls, frame, line, no)
+    }
+}
+
+// The value of `a[i]`.
+#[cycle(eval)]
+fn eval_index<C: Calls>(
+    alloc: Global,
+    l: &Limits,
+    calls: &C,
+    frame: &Frame<'_>,
+    line: u32,
+    a: &Expr,
+    i: &Expr,
+) -> Result<Value, Stop>
+    ensures { Meets result (value_of l.now (C.gives calls.now) (state_of frame.now) line (At (term_of a.now) (term_of i.now))) }
+{
+    let v = eval(alloc, l, calls, frame, line, a)?;
+    let k = eval(alloc, l, calls, frame, line, i)?;
+    element_at(alloc, line, &v, &k)
+}
+
+// The value of a call.
+#[cycle(eval)]
+fn eval_call<C: Calls>(
+    alloc: Global,
+    l: &Limits,
+    calls: &C,
+    frame: &Frame<'_>,
+    line: u32,
+    f: &Name,
+    es: &Exprs,
+) -> Result<Value, Stop>
+    ensures { Meets result (value_of l.now (C.gives calls.now) (state_of frame.now) line (Apply f.now (terms_of es.now))) }
+{
+    let vs = eval_all(alloc, l, calls, frame, line, es)?;
+    applied(alloc, l, calls, f, &vs, line)
 }
 
 // The values of expressions, from left to right.

@@ -1,10 +1,14 @@
 //! The statements of a body.
 ghost use Rattle.std.specs.Prelude.{◌≡◌, ℕ, List};
+ghost use Rattle.std.specs.declared.result.Result.{Result};
+ghost use Rattle.mpy_tree.specs.declared.value.Value.{Value};
+ghost use Rattle.mpy_tree.specs.declared.outcome.Fault.{Fault};
 ghost use Rattle.mpy_tree.specs.Syntax.{Loop, Each};
 ghost use Rattle.mpy_tree.specs.View.{term_of, maybe_term, action_of, block_of, branches_of, block_or_none};
+ghost use Rattle.mpy_interp.specs.Answers.{Meets};
 ghost use Rattle.mpy_interp.specs.Flows.{EndsAs, ArmsEndAs};
 ghost use Rattle.mpy_interp.specs.Frames.{state_of};
-ghost use Rattle.mpy_tree.specs.Statements.{give, run_block, run_action, run_arms, run_else};
+ghost use Rattle.mpy_tree.specs.Statements.{store, give, run_block, run_action, run_arms, run_else};
 
 use crate::assignments::{appended, augmented, replaced, replaced_by};
 use crate::calls::Calls;
@@ -61,29 +65,24 @@ fn exec_act<C: Calls>(
 {
     match act {
         Act::Assign(x, e) => {
-            let v = eval(alloc, l, calls, frame, line, e)?;
-            frame.set(x, v)?;
-            Ok(Flow::Next)
+            let v = eval(alloc, l, calls, frame, line, e);
+            stored(frame, x, v)
         }
         Act::Augment(x, op, e) => {
-            let v = augmented(alloc, l, calls, frame, line, x, *op, e)?;
-            frame.set(x, v)?;
-            Ok(Flow::Next)
+            let v = augmented(alloc, l, calls, frame, line, x, *op, e);
+            stored(frame, x, v)
         }
         Act::Put(x, i, e) => {
-            let v = replaced(alloc, l, calls, frame, line, x, i, e)?;
-            frame.set(x, v)?;
-            Ok(Flow::Next)
+            let v = replaced(alloc, l, calls, frame, line, x, i, e);
+            stored(frame, x, v)
         }
         Act::AugmentAt(x, i, op, e) => {
-            let v = replaced_by(alloc, l, calls, frame, line, x, i, *op, e)?;
-            frame.set(x, v)?;
-            Ok(Flow::Next)
+            let v = replaced_by(alloc, l, calls, frame, line, x, i, *op, e);
+            stored(frame, x, v)
         }
         Act::Append(x, e) => {
-            let v = appended(alloc, l, calls, frame, line, x, e)?;
-            frame.set(x, v)?;
-            Ok(Flow::Next)
+            let v = appended(alloc, l, calls, frame, line, x, e);
+            stored(frame, x, v)
         }
         Act::Return(e) => exec_return(alloc, l, calls, frame, line, e),
         Act::Pass => Ok(Flow::Next),
@@ -96,6 +95,14 @@ fn exec_act<C: Calls>(
         Act::While(e, body) => exec_while(alloc, l, calls, frame, body, line, e),
         Act::For(x, e, body) => exec_for(alloc, l, calls, frame, body, line, x, e),
     }
+}
+
+// Sets a local to what was computed.
+fn stored(frame: &mut Frame<'_>, x: &Name, v: Result<Value, Stop>) -> Result<Flow, Stop>
+    ensures { (m : Result Value Fault) → Meets v m → EndsAs result (state_of frame.new) (store (state_of frame.old) x.now m) }
+{
+    frame.set(x, v?)?;
+    Ok(Flow::Next)
 }
 
 // Runs a `return`.
