@@ -6,3 +6,4 @@ pub mod Parameters
 pub mod Ranges
 pub mod Texts
 pub mod Turning
+pub mod Wholes
