@@ -37,7 +37,7 @@ length-map f (x ∷ xs) = ap suc (length-map f xs)
 mapped : {A B : Type 0} (f : A → B) (xs ys : List A) → length xs ≢ length ys → length (map f xs) ≢ length (map f ys)
 mapped f xs ys h e = h (sym (length-map f xs) ∙ e ∙ length-map f ys)
 
-terms_by : (xs ys : List Term) → same_terms (terms xs) (terms ys) ≡ pointwise same_term xs ys
+pub terms_by : (xs ys : List Term) → same_terms (terms xs) (terms ys) ≡ pointwise same_term xs ys
 terms_by [] [] = refl
 terms_by [] (y ∷ ys) = refl
 terms_by (x ∷ xs) [] = refl
