@@ -5,7 +5,7 @@ ghost use Rattle.mpy_tree.specs.declared.refusal.Cause.TheVariants as cause;
 ghost use Rattle.mpy_tree.specs.Printing.{program_text};
 ghost use Rattle.mpy_tree.specs.View.{routines_of};
 ghost use Rattle.mpy_parser.specs.Limits.{limit_lines};
-ghost use Rattle.mpy_parser.specs.Programs.{HasNoLongLine};
+ghost use Rattle.mpy_parser.specs.Programs.{HasNoLongLine, IsAnswered, IsProgram};
 ghost use Rattle.mpy_parser.specs.declared.read_error.ReadError.TheVariants as read_error;
 ghost use Rattle.mpy_round_trip.specs.Proper.{IsProper};
 ghost use Rattle.mpy_round_trip.specs.RoundTrip.{AreSame};
@@ -27,6 +27,8 @@ const MOST: usize = 1073741824;
 /// `Limit` where a program or its text passes a limit, each other cause only for a program that isn't proper, and want
 /// of memory, also for a text of more than 1,073,741,824 bytes.
 pub fn print_and_read(alloc: Global, p: &Prog) -> Result<Prog, ReadError>
+    ensures spelled { IfOk result (λ q. IsProgram (program_text (routines_of p.now)) (routines_of q)) }
+    ensures refused { IfErr result (IsAnswered (program_text (routines_of p.now))) }
     ensures same { IsProper (routines_of p.now) → IfOk result (λ q. AreSame (routines_of q) (routines_of p.now)) }
     ensures read { IsProper (routines_of p.now) → HasNoLongLine (program_text (routines_of p.now)) → limit_lines (routines_of p.now) ≡ [] → IfErr result (λ e. e ≡ read_error.NoMemory) }
     ensures limits { IsProper (routines_of p.now) → IfErr result (λ e. (c : AnyCause) (line : ℕ) → e ≡ read_error.Fault c line → c ≡ cause.Limit) }
