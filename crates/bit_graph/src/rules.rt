@@ -1,7 +1,8 @@
 //! Rules that look at the parts of a gate.
 
-ghost use Rattle.std.specs.Prelude.{◌≡◌, ◌≢◌, ℕ, Bool, List, false, not, ◌&&◌, IfSome, IsTrue, ◌↔◌};
+ghost use Rattle.std.specs.Prelude.{◌≡◌, ◌≢◌, ℕ, Bool, List, false, not, ◌&&◌, IfSome, IfNone, IsTrue, ◌↔◌};
 ghost use Rattle.bit_graph.specs.Gates.{bit_reads, gate_reads, is_positive_bit, source_of, source_reads, IsBelow, IsGateAt};
+ghost use Rattle.bit_graph.specs.Rules.{AreOpposite, AreSame, Contradicts, Exclude, HasPart};
 
 use crate::gate::{Gate, GraphBit, Source};
 
@@ -18,7 +19,7 @@ pub fn never() -> GraphBit
 
 /// Whether two bits are one.
 pub fn are_same(a: GraphBit, b: GraphBit) -> bool
-    ensures exact { IsTrue result ↔ ((source_of a ≡ source_of b) × (is_positive_bit a ≡ is_positive_bit b)) }
+    ensures exact { IsTrue result ↔ AreSame a b }
     ensures value { IsTrue result → (vs made : List Bool) → bit_reads vs made a ≡ bit_reads vs made b }
 {
     a.source == b.source && a.positive == b.positive
@@ -26,7 +27,7 @@ pub fn are_same(a: GraphBit, b: GraphBit) -> bool
 
 /// Whether two bits are opposites.
 pub fn are_opposite(a: GraphBit, b: GraphBit) -> bool
-    ensures exact { IsTrue result ↔ ((source_of a ≡ source_of b) × (is_positive_bit a ≢ is_positive_bit b)) }
+    ensures exact { IsTrue result ↔ AreOpposite a b }
     ensures value { IsTrue result → (vs made : List Bool) → bit_reads vs made a ≡ not (bit_reads vs made b) }
 {
     a.source == b.source && a.positive != b.positive
@@ -34,21 +35,24 @@ pub fn are_opposite(a: GraphBit, b: GraphBit) -> bool
 
 /// Whether a bit is the opposite of a part of a gate, so that they are never both true.
 pub fn contradicts(x: Gate, b: GraphBit) -> bool
-    ensures { IsTrue result → (vs made : List Bool) → (gate_reads vs made x && bit_reads vs made b) ≡ false }
+    ensures exact { IsTrue result ↔ Contradicts x b }
+    ensures value { IsTrue result → (vs made : List Bool) → (gate_reads vs made x && bit_reads vs made b) ≡ false }
 {
     are_opposite(x.left, b) || are_opposite(x.right, b)
 }
 
 /// Whether a bit is a part of a gate.
 pub fn is_part(x: Gate, b: GraphBit) -> bool
-    ensures { IsTrue result → (vs made : List Bool) → (gate_reads vs made x && bit_reads vs made b) ≡ gate_reads vs made x }
+    ensures exact { IsTrue result ↔ HasPart x b }
+    ensures value { IsTrue result → (vs made : List Bool) → (gate_reads vs made x && bit_reads vs made b) ≡ gate_reads vs made x }
 {
     are_same(x.left, b) || are_same(x.right, b)
 }
 
 /// Whether two gates have opposite parts, so that they are never both true.
 pub fn exclude(x: Gate, y: Gate) -> bool
-    ensures { IsTrue result → (vs made : List Bool) → (gate_reads vs made x && gate_reads vs made y) ≡ false }
+    ensures exact { IsTrue result ↔ Exclude x y }
+    ensures value { IsTrue result → (vs made : List Bool) → (gate_reads vs made x && gate_reads vs made y) ≡ false }
 {
     contradicts(x, y.left) || contradicts(x, y.right)
 }
@@ -57,6 +61,8 @@ pub fn exclude(x: Gate, y: Gate) -> bool
 pub fn fold_by_parts(a: GraphBit, x: Gate, b: GraphBit) -> Option<GraphBit>
     ensures value { IfSome result (λ r. (vs made : List Bool) → source_reads vs made (source_of a) ≡ gate_reads vs made x → bit_reads vs made r ≡ (bit_reads vs made a && bit_reads vs made b)) }
     ensures below { IfSome result (λ r. (variables made : ℕ) → IsBelow variables made (source_of a) → IsBelow variables made (source_of b) → IsBelow variables made (source_of r)) }
+    ensures apart { IfNone result (Contradicts x b → ⊥) }
+    ensures no_part { IfNone result (IsTrue (is_positive_bit a) → HasPart x b → ⊥) }
 {
     if contradicts(x, b) {
         return Some(if a.positive { never() } else { b });
@@ -71,6 +77,8 @@ pub fn fold_by_parts(a: GraphBit, x: Gate, b: GraphBit) -> Option<GraphBit>
 pub fn fold_by_both(a: GraphBit, x: Gate, b: GraphBit, y: Gate) -> Option<GraphBit>
     ensures value { IfSome result (λ r. (vs made : List Bool) → source_reads vs made (source_of a) ≡ gate_reads vs made x → source_reads vs made (source_of b) ≡ gate_reads vs made y → bit_reads vs made r ≡ (bit_reads vs made a && bit_reads vs made b)) }
     ensures below { IfSome result (λ r. (variables made : ℕ) → IsBelow variables made (source_of a) → IsBelow variables made (source_of b) → IsBelow variables made (source_of r)) }
+    ensures left_open { IfNone result (Exclude x y → is_positive_bit a ≡ false) }
+    ensures right_open { IfNone result (Exclude x y → is_positive_bit b ≡ false) }
 {
     if !exclude(x, y) {
         return None;
