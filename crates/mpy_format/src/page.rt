@@ -1,7 +1,6 @@
 //! What is printed of a file.
 ghost use Rattle.std.specs.Prelude.{◌≡◌, ◌≤◌, List, ℕ, IfOk, IsErrOf, length};
 ghost use Rattle.grade_io.specs.Devices.{Rose, devices};
-ghost use Rattle.mpy_tree.specs.Refusals.{cause_text};
 ghost use Rattle.mpy_format.specs.Ends.{Ends, IsDue, IsOutcomeOf, IsPage, Outcome, Says, refused_text, status_of, text_of_outcome};
 ghost use Rattle.mpy_format.specs.declared.page.Stop.TheVariants as stop;
 
@@ -36,42 +35,12 @@ impl From<AllocError> for Stop {
     }
 }
 
-/// The name of a cause, as it prints.
-fn cause_name(cause: Cause) -> &'static str
-    ensures { result.now ≡ cause_text cause }
-{
-    match cause {
-        Cause::Byte => "Byte",
-        Cause::Tab => "Tab",
-        Cause::Indent => "Indent",
-        Cause::Token => "Token",
-        Cause::Syntax => "Syntax",
-        Cause::Block => "Block",
-        Cause::Limit => "Limit",
-        Cause::Name => "Name",
-        Cause::Arity => "Arity",
-        Cause::TypeFault => "Type",
-        Cause::Undetermined => "Undetermined",
-        Cause::Shared => "Shared",
-        Cause::Entry => "Entry",
-        Cause::ResultType => "ResultType",
-        Cause::RuleMeta => "RuleMeta",
-        Cause::RulePrime => "RulePrime",
-        Cause::RuleTwice => "RuleTwice",
-        Cause::BoundRange => "BoundRange",
-        Cause::TooLarge => "TooLarge",
-        Cause::EmptyReference => "EmptyReference",
-        Cause::Long => "Long",
-        Cause::NotYet => "NotYet",
-    }
-}
-
 /// The line for a refusal of a file.
 fn refused(alloc: Global, file: &str, cause: Cause, line: u32) -> Result<Page, NoMemory>
     ensures text { IfOk result (λ p. p.text.items ≡ refused_text file.now cause line) }
     ensures status { IfOk result (λ p. p.status ≡ Status.Refused) }
 {
-    let cause = cause_name(cause);
+    let cause = cause.name();
     let text = format!(in alloc; "refused {file} line {line}: {cause}\n")?;
     Ok(Page {
         text: text.into_bytes(),
