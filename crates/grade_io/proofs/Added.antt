@@ -9,7 +9,7 @@ added-added None xs ys = refl
 added-added (Some zs) xs ys = ap Some (append_assoc zs xs ys)
 
 -- a slice from d on, as a call is handed it
-rest : (d : ℕ) (text : List ℕ) → take (length text - d) (drop d text) ≡ drop d text
+pub rest : (d : ℕ) (text : List ℕ) → take (length text - d) (drop d text) ≡ drop d text
 rest d text = let whole : length (drop d text) ≤ length text - d = omega (arith, length-drop d text) in take_all _ _ whole
 
 -- behind the first d bytes of a text, n bytes more of it

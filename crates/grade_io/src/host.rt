@@ -1,82 +1,28 @@
 //! The real files and the standard output. What they hold isn't told.
-ghost use Rattle.std.specs.Prelude.{◌≡◌, ◌≢◌, ◌+◌, ◌≤◌, None, IfOk, vec_len, length};
+ghost use Rattle.std.specs.Prelude.{◌≡◌, ◌≢◌, ◌+◌, ◌≤◌, None, IfErr, IfOk, vec_len};
 
 use crate::devices::{FetchError, PutError, Shelf, Sink, StoreError};
+use crate::whole::{read_within, write_some, write_whole};
 use std::alloc::Global;
-use std::io::{ErrorKind, Read, Write};
 use std::rt::Files;
 use std::{fs, io};
 
-/// How often a read or a write is tried that a signal interrupts each time.
-const TRIES: u32 = 1000;
-
-/// Reads once, and again where a signal interrupted the read.
-fn read_some<F: Read>(file: &mut F, buf: &mut [u8]) -> io::Result<usize>
-    ensures { IfOk result (λ n. n ≤ length buf.new) }
-{
-    for _ in 0..TRIES {
-        match file.read(buf) {
-            Ok(count) => return Ok(count),
-            Err(e) => {
-                if e.kind() != ErrorKind::Interrupted {
-                    return Err(e);
-                }
-            }
-        }
-    }
-    Err(io::Error::from(ErrorKind::Interrupted))
-}
-
-/// Writes once, and again where a signal interrupted the write.
-fn write_some<W: Write>(writer: &mut W, piece: &[u8]) -> io::Result<usize>
-    ensures { IfOk result (λ n. n ≤ length piece.now) }
-{
-    for _ in 0..TRIES {
-        match writer.write(piece) {
-            Ok(count) => return Ok(count),
-            Err(e) => {
-                if e.kind() != ErrorKind::Interrupted {
-                    return Err(e);
-                }
-            }
-        }
-    }
-    Err(io::Error::from(ErrorKind::Interrupted))
-}
-
-/// Reads to the end of the file, or one byte past `most`.
+/// Reads a file to its end, or one byte past `most`.
 fn read_file<R: Files>(rt: &R, alloc: Global, name: &str, most: u64) -> Result<Vec<u8>, FetchError>
     requires { most ≤ 1073741824 }
     ensures read { IfOk result (λ v. vec_len v ≤ most + 1) }
     ensures not_long { result ≢ Err FetchError.Long }
 {
     let mut file = fs::open(rt, name).map_err(|_| FetchError::Failed)?;
-    let mut bytes = Vec::new(alloc);
-    let mut buf = [0u8; 4096];
-    'fill: while bytes.len() as u64 <= most {
-        let room = most + 1 - bytes.len() as u64;
-        let want = room.min(4096) as usize;
-        let count = read_some(&mut file, &mut buf[..want]).map_err(|_| FetchError::Failed)?;
-        if count == 0 {
-            return Ok(bytes);
-        }
-        bytes.extend_from_slice(&buf[..count])?;
-    }
-    Ok(bytes)
+    read_within(&mut file, alloc, most)
 }
 
-/// Writes all of the bytes. A write of no byte is a fault.
-fn write_file<R: Files>(rt: &R, name: &str, bytes: &[u8]) -> Result<(), StoreError> {
+/// Writes all of the bytes to a file, in place of what it held.
+fn write_file<R: Files>(rt: &R, name: &str, bytes: &[u8]) -> Result<(), StoreError>
+    ensures { IfErr result (λ e. e ≡ StoreError.Failed) }
+{
     let mut file = fs::create(rt, name).map_err(|_| StoreError::Failed)?;
-    let mut done = 0;
-    'write: while done < bytes.len() {
-        let count = write_some(&mut file, &bytes[done..]).map_err(|_| StoreError::Failed)?;
-        if count == 0 {
-            return Err(StoreError::Failed);
-        }
-        done += count;
-    }
-    Ok(())
+    write_whole(&mut file, bytes)
 }
 
 /// The real files, by their paths. Each error of the system raises the count of faults.

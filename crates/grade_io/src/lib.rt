@@ -9,6 +9,7 @@ mod mem;
 mod status;
 mod sure;
 mod text;
+mod whole;
 
 pub use devices::{FetchError, NoMemory, PutError, Shelf, Sink, StoreError};
 pub use host::{HostShelf, HostSink};

@@ -1,5 +1,5 @@
 //! Devices in memory that fail at calls that are chosen beforehand.
-ghost use Rattle.std.specs.Prelude.{◌≡◌, ◌≢◌, ◌≤◌, ℕ, List, [], Some, OnOk, OnErr, map};
+ghost use Rattle.std.specs.Prelude.{◌≡◌, ◌≢◌, ◌≤◌, ◌+◌, ◌-◌, ◌^◌, ◌↔◌, ℕ, List, [], Some, Contains, IsTrue, OnOk, OnErr, map, min};
 ghost use Rattle.grade_io.specs.Files.{text_at};
 ghost use Rattle.grade_io.specs.Calls.{call_of};
 ghost use Rattle.grade_io.specs.Kept.{OthersKept};
@@ -57,7 +57,10 @@ impl MemShelf {
 }
 
 /// Counts a call, and says whether it is one that fails.
-fn is_to_fail(number: &mut u64, fails: &Vec<u64>) -> bool {
+fn is_to_fail(number: &mut u64, fails: &Vec<u64>) -> bool
+    ensures counted { number.new ≡ min (number.old + 1) (2 ^ 64 - 1) }
+    ensures chosen { IsTrue result ↔ Contains fails.now.items number.new }
+{
     *number = number.saturating_add(1);
     fails.contains(number)
 }
