@@ -96,7 +96,7 @@ fn unfold<L: Logic>(
 
 /// The quotient of two words of one width, rounded towards minus infinity, whether it leaves their
 /// width, and whether the divisor is 0.
-#[tactic(auto, using(crate::proofs::Kept::steps))]
+#[tactic(auto, using(crate::proofs::Kept::steps, crate::proofs::Floors::floor_is, crate::proofs::Floors::zero_tests))]
 pub fn floor<L: Logic>(
     alloc: Global,
     g: &mut L,
