@@ -50,37 +50,52 @@ fn each_difference_counts(rt: HostRuntime) -> Result<(), Fail> {
     Ok(())
 }
 
+fn ints(alloc: Global) -> Result<Ints, Fail> {
+    Ok(Ints::from_vec(Vec::from_slice(alloc, &[1, 2])?))
+}
+
 fn chars(alloc: Global) -> Result<Chars, Fail> {
     Ok(Chars::from_vec(Vec::from_slice(alloc, b"ab")?))
 }
 
 #[test]
-fn lists_are_joined_and_cut(rt: HostRuntime) -> Result<(), Fail> {
-    let numbers = Ints::from_vec(Vec::from_slice(rt.alloc(), &[1, 2])?);
-    let text = chars(rt.alloc())?;
-    let thrice = numbers.repeat(rt.alloc(), 3)?;
+fn numbers_are_joined_and_cut(rt: HostRuntime) -> Result<(), Fail> {
+    let thrice = ints(rt.alloc())?.repeat(rt.alloc(), 3)?;
     assert_eq!(rt; thrice.items(), [1, 2, 1, 2, 1, 2].as_slice());
-    assert_eq!(rt; numbers.concat(rt.alloc(), &thrice)?.len(), 8);
+    assert_eq!(rt; thrice.concat(rt.alloc(), &thrice)?.len(), 12);
     assert_eq!(rt; thrice.part(rt.alloc(), 1, 3)?.items(), [2, 1].as_slice());
-    assert_eq!(rt; text.concat(rt.alloc(), &text)?.bytes(), b"abab".as_slice());
-    assert_eq!(rt; text.repeat(rt.alloc(), 2)?.bytes(), b"abab".as_slice());
-    assert_eq!(rt; text.part(rt.alloc(), 1, 2)?.bytes(), b"b".as_slice());
-    assert_eq!(rt; text.characters(rt.alloc())?.len(), 2);
     Ok(())
 }
 
 #[test]
-fn lists_are_copied(rt: HostRuntime) -> Result<(), Fail> {
-    let mut values = Vec::new(rt.alloc());
-    values.push(Value::Int(1))?;
-    values.push(Value::Bool(true))?;
-    values.push(Value::List(Ints::from_vec(Vec::from_slice(rt.alloc(), &[5])?)))?;
-    values.push(Value::Text(chars(rt.alloc())?))?;
-    let copies = Values::from_vec(values).copy()?;
+fn characters_are_joined_and_cut(rt: HostRuntime) -> Result<(), Fail> {
+    let twice = chars(rt.alloc())?.repeat(rt.alloc(), 2)?;
+    assert_eq!(rt; twice.bytes(), b"abab".as_slice());
+    assert_eq!(rt; twice.concat(rt.alloc(), &twice)?.len(), 8);
+    assert_eq!(rt; twice.part(rt.alloc(), 1, 3)?.bytes(), b"ba".as_slice());
+    assert_eq!(rt; twice.characters(rt.alloc())?.len(), 4);
+    Ok(())
+}
+
+/// A value of each kind.
+fn values(alloc: Global) -> Result<Values, Fail> {
+    let list = Value::List(ints(alloc)?);
+    let text = Value::Text(chars(alloc)?);
+    let items = vec![in alloc; Value::Int(1), Value::Bool(true), list, text]?;
+    Ok(Values::from_vec(items))
+}
+
+#[test]
+fn values_are_copied(rt: HostRuntime) -> Result<(), Fail> {
+    let copies = values(rt.alloc())?.copy()?;
     assert_eq!(rt; copies.items().len(), 4);
-    let mut names = Vec::new(rt.alloc());
-    names.push(Name::from_vec(Vec::from_slice(rt.alloc(), b"x")?))?;
-    let copies = Names::from_vec(names).copy()?;
+    Ok(())
+}
+
+#[test]
+fn names_are_copied(rt: HostRuntime) -> Result<(), Fail> {
+    let name = Name::from_vec(Vec::from_slice(rt.alloc(), b"x")?);
+    let copies = Names::from_vec(vec![in rt.alloc(); name]?).copy()?;
     assert_eq!(rt; copies.items().len(), 1);
     Ok(())
 }

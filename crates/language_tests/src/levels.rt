@@ -77,15 +77,23 @@ fn is_closed_where_needed(alloc: Global, place: Place) -> Result<bool, Fail> {
     Ok(true)
 }
 
+/// The first of the places where it isn't so.
+fn first_wrong(alloc: Global, places: &[Place]) -> Result<Option<Place>, Fail> {
+    for place in places {
+        if !is_closed_where_needed(alloc, *place)? {
+            return Ok(Some(*place));
+        }
+    }
+    Ok(None)
+}
+
 #[test]
 fn levels(rt: HostRuntime) -> Result<(), Fail> {
-    let alloc = rt.alloc();
     let operands: [Place; 32] = operands!(
         1 "or" 2, 2 "and" 3, 5 "==" 5, 5 "!=" 5, 5 "<" 5, 5 "<=" 5, 5 ">" 5, 5 ">=" 5, 5 "in" 5, 5 "not in" 5,
         5 "+" 6, 5 "-" 6, 6 "*" 7, 6 "//" 7, 6 "%" 7, 9 "**" 7
     );
-    for place in operands.iter().chain(PLACES.iter()) {
-        assert!(rt; is_closed_where_needed(alloc, *place)?, "{place:?}");
-    }
+    assert_eq!(rt; first_wrong(rt.alloc(), operands.as_slice())?, None);
+    assert_eq!(rt; first_wrong(rt.alloc(), PLACES.as_slice())?, None);
     Ok(())
 }

@@ -87,26 +87,43 @@ fn program_with(alloc: Global, what: Counted, count: usize) -> Result<String, Fa
     Ok(text)
 }
 
+/// The refusal of a program that has so many.
+fn refusal(alloc: Global, what: Counted, count: usize) -> Result<Option<(Cause, u32)>, Fail> {
+    let text = program_with(alloc, what, count)?;
+    Ok(read(alloc, text.as_str())?.err())
+}
+
+/// Whether a program that has so many is read again from its printed text.
+fn is_read_again(alloc: Global, what: Counted, count: usize) -> Result<bool, Fail> {
+    let text = program_with(alloc, what, count)?;
+    let first = program(alloc, text.as_str())?;
+    match print_and_read(alloc, &first) {
+        Ok(again) => Ok(same(&first, &again)),
+        Err(_) => Err("a refusal of the printed text")?,
+    }
+}
+
 /// A program is read at each limit, and refused with one more.
 #[test]
 fn limits(rt: HostRuntime) -> Result<(), Fail> {
-    let alloc = rt.alloc();
     for (what, most, line) in &LIMITS {
-        let text = program_with(alloc, *what, *most)?;
-        let first = program(alloc, text.as_str())?;
-        let Ok(again) = print_and_read(alloc, &first) else {
-            return Err("a refusal of the printed text")?;
-        };
-        assert!(rt; same(&first, &again), "with {most} of {what:?}");
-        let text = program_with(alloc, *what, *most + 1)?;
+        assert!(rt;
+            is_read_again(rt.alloc(), *what, *most)?,
+            "with {most} of {what:?}"
+        );
         assert_eq!(rt;
-            read(alloc, text.as_str())?.err(),
+            refusal(rt.alloc(), *what, *most + 1)?,
             Some((Cause::Limit, *line))
         );
     }
+    Ok(())
+}
+
+#[test]
+fn largest_number(rt: HostRuntime) -> Result<(), Fail> {
     let text = "def f(x):\n return 2147483647\n";
-    assert!(rt; read(alloc, text)?.is_ok());
+    assert!(rt; read(rt.alloc(), text)?.is_ok());
     let text = "def f(x):\n return 2147483648\n";
-    assert_eq!(rt; read(alloc, text)?.err(), Some((Cause::Token, 2)));
+    assert_eq!(rt; read(rt.alloc(), text)?.err(), Some((Cause::Token, 2)));
     Ok(())
 }
