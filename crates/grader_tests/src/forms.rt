@@ -2,169 +2,189 @@
 
 use crate::requests::{DOUBLE, Texts, graded};
 use grade_top::Status;
+use std::alloc::Global;
 use std::test::Fail;
 
-/// Each bounds text, with what is written.
+/// Texts of bounds, each with what is written.
+const BOUNDS: [(&str, &str); 20] = [
+    (
+        "width 6\nturns 4\ndepth 2\ncap 4\nentry f\nparam x int 4..4\n",
+        "no correction\nfails f(4): gives 8, wanted 12\n",
+    ),
+    (
+        "width 2\nturns 32\ndepth 8\ncap 4\nentry f\nparam x int -5..15\n",
+        "refused b.txt line 1: BoundRange\n",
+    ),
+    (
+        "width 17\nturns 0\ndepth 8\ncap 4\nentry f\nparam x int -5..15\n",
+        "refused b.txt line 1: BoundRange\n",
+    ),
+    (
+        "width -6\nturns 0\ndepth 8\ncap 4\nentry f\nparam x int -5..15\n",
+        "refused b.txt line 1: BoundRange\n",
+    ),
+    (
+        "width 6\nturns 0\ndepth 8\ncap 4\nentry f\nparam x int -5..15\n",
+        "refused b.txt line 2: BoundRange\n",
+    ),
+    (
+        "width 6\nturns 33\ndepth 8\ncap 4\nentry f\nparam x int -5..15\n",
+        "refused b.txt line 2: BoundRange\n",
+    ),
+    (
+        "width 6\nturns 32\ndepth 9\ncap 4\nentry f\nparam x int -5..15\n",
+        "refused b.txt line 3: BoundRange\n",
+    ),
+    (
+        "width 6\nturns 32\ndepth 8\ncap 17\nentry f\nparam x int -5..15\n",
+        "refused b.txt line 4: BoundRange\n",
+    ),
+    (
+        "width 6\nturns 32\ndepth 8\ncap 4\nentry f\nparam x int -33..15\n",
+        "refused b.txt line 6: BoundRange\n",
+    ),
+    (
+        "width 6\nturns 32\ndepth 8\ncap 4\nentry f\nparam x int -32..32\n",
+        "refused b.txt line 6: BoundRange\n",
+    ),
+    (
+        "width 6\nturns 32\ndepth 8\ncap 4\nentry f\nparam x int 5..4\n",
+        "refused b.txt line 6: BoundRange\n",
+    ),
+    (
+        "width 06\nturns 32\ndepth 8\ncap 4\nentry f\nparam x int -5..15\n",
+        "refused b.txt line 1: NotYet\n",
+    ),
+    (
+        "width 6\nturns 32\ndepth 8\ncap 4\nentry f\nparam x int -0..15\n",
+        "refused b.txt line 1: NotYet\n",
+    ),
+    (
+        "width 6\nturns 32\ndepth 8\ncap 4\nentry f\nparam x int -5..1000000000\n",
+        "refused b.txt line 1: NotYet\n",
+    ),
+    (
+        "width 6\nturns 32\ndepth 8\ncap 4\nentry if\nparam x int -5..15\n",
+        "refused b.txt line 1: NotYet\n",
+    ),
+    (
+        "width 6\nturns 32\ndepth 8\ncap 4\nentry f\nparam x int -5..15",
+        "refused b.txt line 1: NotYet\n",
+    ),
+    (
+        "width 6\nturns 32\ndepth 8\ncap 4\nentry f\nparam x int -5..15\n\n",
+        "refused b.txt line 1: NotYet\n",
+    ),
+    (
+        "width  6\nturns 32\ndepth 8\ncap 4\nentry f\nparam x int -5..15\n",
+        "refused b.txt line 1: NotYet\n",
+    ),
+    (
+        "width 6\nturns 32\ndepth 8\ncap 4\nentry f\nparam x bool\n",
+        "refused b.txt line 1: NotYet\n",
+    ),
+    ("", "refused b.txt line 1: NotYet\n"),
+];
+
 #[test]
 fn bounds_are_read(rt: HostRuntime) -> Result<(), Fail> {
-    let rows: [(&str, &str); 20] = [
-        (
-            DOUBLE.bounds,
-            "no correction\nfails f(4): gives 8, wanted 12\n",
-        ),
-        (
-            "width 2\nturns 32\ndepth 8\ncap 4\nentry f\nparam x int -5..15\n",
-            "refused b.txt line 1: BoundRange\n",
-        ),
-        (
-            "width 17\nturns 0\ndepth 8\ncap 4\nentry f\nparam x int -5..15\n",
-            "refused b.txt line 1: BoundRange\n",
-        ),
-        (
-            "width -6\nturns 0\ndepth 8\ncap 4\nentry f\nparam x int -5..15\n",
-            "refused b.txt line 1: BoundRange\n",
-        ),
-        (
-            "width 6\nturns 0\ndepth 8\ncap 4\nentry f\nparam x int -5..15\n",
-            "refused b.txt line 2: BoundRange\n",
-        ),
-        (
-            "width 6\nturns 33\ndepth 8\ncap 4\nentry f\nparam x int -5..15\n",
-            "refused b.txt line 2: BoundRange\n",
-        ),
-        (
-            "width 6\nturns 32\ndepth 9\ncap 4\nentry f\nparam x int -5..15\n",
-            "refused b.txt line 3: BoundRange\n",
-        ),
-        (
-            "width 6\nturns 32\ndepth 8\ncap 17\nentry f\nparam x int -5..15\n",
-            "refused b.txt line 4: BoundRange\n",
-        ),
-        (
-            "width 6\nturns 32\ndepth 8\ncap 4\nentry f\nparam x int -33..15\n",
-            "refused b.txt line 6: BoundRange\n",
-        ),
-        (
-            "width 6\nturns 32\ndepth 8\ncap 4\nentry f\nparam x int -32..32\n",
-            "refused b.txt line 6: BoundRange\n",
-        ),
-        (
-            "width 6\nturns 32\ndepth 8\ncap 4\nentry f\nparam x int 5..4\n",
-            "refused b.txt line 6: BoundRange\n",
-        ),
-        (
-            "width 06\nturns 32\ndepth 8\ncap 4\nentry f\nparam x int -5..15\n",
-            "refused b.txt line 1: NotYet\n",
-        ),
-        (
-            "width 6\nturns 32\ndepth 8\ncap 4\nentry f\nparam x int -0..15\n",
-            "refused b.txt line 1: NotYet\n",
-        ),
-        (
-            "width 6\nturns 32\ndepth 8\ncap 4\nentry f\nparam x int -5..1000000000\n",
-            "refused b.txt line 1: NotYet\n",
-        ),
-        (
-            "width 6\nturns 32\ndepth 8\ncap 4\nentry if\nparam x int -5..15\n",
-            "refused b.txt line 1: NotYet\n",
-        ),
-        (
-            "width 6\nturns 32\ndepth 8\ncap 4\nentry f\nparam x int -5..15",
-            "refused b.txt line 1: NotYet\n",
-        ),
-        (
-            "width 6\nturns 32\ndepth 8\ncap 4\nentry f\nparam x int -5..15\n\n",
-            "refused b.txt line 1: NotYet\n",
-        ),
-        (
-            "width  6\nturns 32\ndepth 8\ncap 4\nentry f\nparam x int -5..15\n",
-            "refused b.txt line 1: NotYet\n",
-        ),
-        (
-            "width 6\nturns 32\ndepth 8\ncap 4\nentry f\nparam x bool\n",
-            "refused b.txt line 1: NotYet\n",
-        ),
-        ("", "refused b.txt line 1: NotYet\n"),
-    ];
-    for (bounds, wanted) in rows {
+    for (bounds, wanted) in &BOUNDS {
+        let bounds = *bounds;
         let (_, written) = graded(rt.alloc(), Texts { bounds, ..DOUBLE })?;
-        assert_eq!(rt; written.as_str(), wanted, "of {bounds}");
+        assert_eq!(rt; written.as_str(), *wanted, "of {bounds}");
     }
     Ok(())
 }
 
-/// Each rules text, with whether it is of the form.
+/// Texts of rules, each with whether it is of the form.
+const RULES: [(&str, bool); 14] = [
+    ("", true),
+    (
+        "rule lit cost 1: $n => {1, 3}\nrule if cost 9: $n => {2147483647}\n",
+        true,
+    ),
+    (
+        "rule lit cost 1: $n => {1, 3}\nrule lit cost 9: $n => {2147483647}\n",
+        false,
+    ),
+    ("rule lit cost 0: $n => {1, 3}\n", false),
+    ("rule lit cost 10: $n => {1, 3}\n", false),
+    ("rule lit cost 1: $n => {2147483648}\n", false),
+    ("rule lit cost 1: $n => {}\n", false),
+    ("rule lit cost 1: $n => {1,3}\n", false),
+    ("rule lit cost 1: $n => {1, }\n", false),
+    ("rule lit cost 1: $n => {01}\n", false),
+    ("rule lit cost 1: $n => 1\n", false),
+    ("rule lit cost 1: $n => {1, 3}", false),
+    (
+        "rule a2345678901234567890123456789012345678901 cost 1: $n => {1}\n",
+        false,
+    ),
+    ("\n", false),
+];
+
+/// What is written for a right submission with these rules.
+fn written_with(alloc: Global, rules: &str) -> Result<String, Fail> {
+    let texts = Texts {
+        submission: DOUBLE.reference,
+        rules,
+        ..DOUBLE
+    };
+    let (_, written) = graded(alloc, texts)?;
+    Ok(written)
+}
+
 #[test]
 fn rules_are_read(rt: HostRuntime) -> Result<(), Fail> {
-    let rows: [(&str, bool); 14] = [
-        ("", true),
-        (
-            "rule lit cost 1: $n => {1, 3}\nrule if cost 9: $n => {2147483647}\n",
-            true,
-        ),
-        (
-            "rule lit cost 1: $n => {1, 3}\nrule lit cost 9: $n => {2147483647}\n",
-            false,
-        ),
-        ("rule lit cost 0: $n => {1, 3}\n", false),
-        ("rule lit cost 10: $n => {1, 3}\n", false),
-        ("rule lit cost 1: $n => {2147483648}\n", false),
-        ("rule lit cost 1: $n => {}\n", false),
-        ("rule lit cost 1: $n => {1,3}\n", false),
-        ("rule lit cost 1: $n => {1, }\n", false),
-        ("rule lit cost 1: $n => {01}\n", false),
-        ("rule lit cost 1: $n => 1\n", false),
-        ("rule lit cost 1: $n => {1, 3}", false),
-        (
-            "rule a2345678901234567890123456789012345678901 cost 1: $n => {1}\n",
-            false,
-        ),
-        ("\n", false),
-    ];
-    for (rules, is_of_form) in rows {
-        let texts = Texts {
-            submission: DOUBLE.reference,
-            rules,
-            ..DOUBLE
-        };
-        let wanted = if is_of_form {
+    for (rules, is_of_form) in &RULES {
+        let wanted = if *is_of_form {
             "correct\n"
         } else {
             "refused rules.eml line 1: NotYet\n"
         };
-        let (_, written) = graded(rt.alloc(), texts)?;
-        assert_eq!(rt; written.as_str(), wanted, "of {rules}");
+        assert_eq!(rt;
+            written_with(rt.alloc(), *rules)?.as_str(),
+            wanted,
+            "of {rules}"
+        );
     }
     Ok(())
 }
 
-/// Formulas that give the same, the second with another grouping.
+// A function that returns the formula.
+macro_rules! returning {
+    ($formula:literal) => {
+        concat!("def f(x):\n    return ", $formula, "\n")
+    };
+}
+
+/// Formulas that give the same on 4, the second with another grouping.
+const ALIKE: [(&str, &str); 8] = [
+    (returning!("x"), returning!("4")),
+    (returning!("1 - 2 * x + x"), returning!("1 - x")),
+    (returning!("x + 1 - x * 3"), returning!("1 - 2 * x")),
+    (returning!("x * 2 - x * x"), returning!("0 - 8")),
+    (returning!("x * (2 + x)"), returning!("24")),
+    (returning!("x - (1 - x)"), returning!("2 * x - 1")),
+    (returning!("x - 1 - x"), returning!("0 - 1")),
+    (
+        returning!(
+            "0 + 0 + 0 + 0 + 0 + 0 + 0 + 0 + 0 + 0 + 0 + 0 + 0 + 0 + 0 + 0 + 0 + 0 + 0 + 0 + 0 + 0 + 0 + 0 + 0 + 0 + 0 + 0 + 0 + 0 + 0 + x"
+        ),
+        returning!("x"),
+    ),
+];
+
 #[test]
 fn formulas_are_read(rt: HostRuntime) -> Result<(), Fail> {
-    let alloc = rt.alloc();
-    let rows = [
-        ("x", "4"),
-        ("1 - 2 * x + x", "1 - x"),
-        ("x + 1 - x * 3", "1 - 2 * x"),
-        ("x * 2 - x * x", "0 - 8"),
-        ("x * (2 + x)", "24"),
-        ("x - (1 - x)", "2 * x - 1"),
-        ("x - 1 - x", "0 - 1"),
-        (
-            "0 + 0 + 0 + 0 + 0 + 0 + 0 + 0 + 0 + 0 + 0 + 0 + 0 + 0 + 0 + 0 + 0 + 0 + 0 + 0 + 0 + 0 + 0 + 0 + 0 + 0 + 0 + 0 + 0 + 0 + 0 + x",
-            "x",
-        ),
-    ];
-    for (one, other) in rows {
-        let reference = format!(in alloc; "def f(x):\n    return {one}\n")?;
-        let submission = format!(in alloc; "def f(x):\n    return {other}\n")?;
+    for (reference, submission) in &ALIKE {
         let texts = Texts {
-            reference: reference.as_str(),
-            submission: submission.as_str(),
+            reference: *reference,
+            submission: *submission,
             ..DOUBLE
         };
-        let (ended, _) = graded(alloc, texts)?;
-        assert_eq!(rt; ended, Status::Correct, "of {one} and {other}");
+        let (ended, _) = graded(rt.alloc(), texts)?;
+        assert_eq!(rt; ended, Status::Correct, "of {reference} and {submission}");
     }
     Ok(())
 }

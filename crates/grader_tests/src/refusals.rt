@@ -15,65 +15,89 @@ fn long_text(alloc: Global, part: &str, times: usize) -> Result<String, AllocErr
     Ok(text)
 }
 
-/// Each text as the reference and as the submission, with the cause and the line of its refusal.
+/// Texts that are refused, each with the line and the cause.
+const REFUSED: [(&str, u32, &str); 26] = [
+    ("def f(x):\n    return x \u{7}\n", 2, "Byte"),
+    ("# fine\ndef f(x):\n\treturn x\n", 3, "Tab"),
+    ("def f(x):\n    return x @ 2\n", 2, "Token"),
+    ("def f(x):\n    return 2147483648\n", 2, "Token"),
+    ("def f(x):\n    return 01\n", 2, "Token"),
+    ("def f(x):\n    return 1\n  return 2\n", 3, "Indent"),
+    ("def f(x):\n    return x +\n", 2, "Syntax"),
+    ("def f(if):\n    return 1\n", 1, "Syntax"),
+    ("\n\ndef f(x):\nreturn x\n", 3, "Block"),
+    ("", 1, "NotYet"),
+    (
+        "def f(x):\n    return x\ndef g(x):\n    return x\n",
+        1,
+        "NotYet",
+    ),
+    ("# another\ndef g(x):\n    return x\n", 1, "NotYet"),
+    ("def f(x, y):\n    return x\n", 1, "NotYet"),
+    ("def f():\n    return 1\n", 1, "NotYet"),
+    ("def f(x):\n    return -x\n", 1, "NotYet"),
+    ("def f(x):\n    return x // 2\n", 1, "NotYet"),
+    ("def f(x):\n    return x + y\n", 1, "NotYet"),
+    ("def f(x):\n    return 1 * f(x)\n", 1, "NotYet"),
+    ("def f(x):\n    return\n", 1, "NotYet"),
+    ("def f(x):\n    pass\n", 1, "NotYet"),
+    ("def f(x):\n    x = 1\n    return x\n", 1, "NotYet"),
+    (
+        "def f(x):\n    for i in range(3):\n        x = x + i\n    return x\n",
+        1,
+        "NotYet",
+    ),
+    ("def f(x):\n    return x + -1\n", 1, "NotYet"),
+    ("def f(x):\n    return x if x else 1\n", 1, "NotYet"),
+    ("def f(x):\n    return [x]\n", 1, "NotYet"),
+    ("def f(x):\n    return x or 1\n", 1, "NotYet"),
+];
+
+/// Whether the text is refused so, as the reference and as the submission.
+fn is_refused(alloc: Global, text: &str, line: u32, cause: &str) -> Result<bool, Fail> {
+    let as_reference = Texts {
+        reference: text,
+        ..DOUBLE
+    };
+    let as_submission = Texts {
+        submission: text,
+        ..DOUBLE
+    };
+    Ok(
+        is_written(alloc, as_reference, "ref.py", line, cause)?
+            && is_written(alloc, as_submission, "sub.py", line, cause)?,
+    )
+}
+
+/// Whether the refusal of this file is written.
+fn is_written(
+    alloc: Global,
+    texts: Texts<'_>,
+    name: &str,
+    line: u32,
+    cause: &str,
+) -> Result<bool, Fail> {
+    let wanted = format!(in alloc; "refused {name} line {line}: {cause}\n")?;
+    let (ended, written) = graded(alloc, texts)?;
+    Ok(ended == Status::Refused && written == wanted)
+}
+
 #[test]
 fn programs_are_refused(rt: HostRuntime) -> Result<(), Fail> {
-    let alloc = rt.alloc();
-    let deep = long_text(alloc, "0 + ", 32)?;
-    let broad = long_text(alloc, "0 + ", 200)?;
-    let rows: [(&str, u32, &str); 28] = [
-        ("def f(x):\n    return x \u{7}\n", 2, "Byte"),
-        ("# fine\ndef f(x):\n\treturn x\n", 3, "Tab"),
-        ("def f(x):\n    return x @ 2\n", 2, "Token"),
-        ("def f(x):\n    return 2147483648\n", 2, "Token"),
-        ("def f(x):\n    return 01\n", 2, "Token"),
-        (broad.as_str(), 2, "Limit"),
-        ("def f(x):\n    return 1\n  return 2\n", 3, "Indent"),
-        ("def f(x):\n    return x +\n", 2, "Syntax"),
-        ("def f(if):\n    return 1\n", 1, "Syntax"),
-        ("\n\ndef f(x):\nreturn x\n", 3, "Block"),
-        (deep.as_str(), 2, "Limit"),
-        ("", 1, "NotYet"),
-        (
-            "def f(x):\n    return x\ndef g(x):\n    return x\n",
-            1,
-            "NotYet",
-        ),
-        ("# another\ndef g(x):\n    return x\n", 1, "NotYet"),
-        ("def f(x, y):\n    return x\n", 1, "NotYet"),
-        ("def f():\n    return 1\n", 1, "NotYet"),
-        ("def f(x):\n    return -x\n", 1, "NotYet"),
-        ("def f(x):\n    return x // 2\n", 1, "NotYet"),
-        ("def f(x):\n    return x + y\n", 1, "NotYet"),
-        ("def f(x):\n    return 1 * f(x)\n", 1, "NotYet"),
-        ("def f(x):\n    return\n", 1, "NotYet"),
-        ("def f(x):\n    pass\n", 1, "NotYet"),
-        ("def f(x):\n    x = 1\n    return x\n", 1, "NotYet"),
-        (
-            "def f(x):\n    for i in range(3):\n        x = x + i\n    return x\n",
-            1,
-            "NotYet",
-        ),
-        ("def f(x):\n    return x + -1\n", 1, "NotYet"),
-        ("def f(x):\n    return x if x else 1\n", 1, "NotYet"),
-        ("def f(x):\n    return [x]\n", 1, "NotYet"),
-        ("def f(x):\n    return x or 1\n", 1, "NotYet"),
-    ];
-    for (text, line, cause) in rows {
-        let as_reference = Texts {
-            reference: text,
-            ..DOUBLE
-        };
-        let as_submission = Texts {
-            submission: text,
-            ..DOUBLE
-        };
-        for (name, texts) in [("ref.py", as_reference), ("sub.py", as_submission)] {
-            let (ended, written) = graded(alloc, texts)?;
-            let wanted = format!(in alloc; "refused {name} line {line}: {cause}\n")?;
-            assert_eq!(rt; ended, Status::Refused);
-            assert_eq!(rt; written, wanted);
-        }
+    for (text, line, cause) in &REFUSED {
+        assert!(rt; is_refused(rt.alloc(), *text, *line, *cause)?, "{text:?}");
+    }
+    Ok(())
+}
+
+#[test]
+fn large_programs_are_refused(rt: HostRuntime) -> Result<(), Fail> {
+    for times in [32, 200] {
+        let text = long_text(rt.alloc(), "0 + ", times)?;
+        assert!(rt;
+            is_refused(rt.alloc(), text.as_str(), 2, "Limit")?,
+            "{times} sums"
+        );
     }
     Ok(())
 }
