@@ -32,7 +32,7 @@ fn augmented(word: Word) -> Option<ArithOp>
 fn ended(act: Act, rest: &[Terminal]) -> Option<Act>
     ensures { option_map action_of result ≡ ended (action_of act) rest.now }
 {
-    if rest.is_empty() { Some(act) } else { None }
+    rest.is_empty().then_some(act)
 }
 
 // The expression that all terminals spell.
