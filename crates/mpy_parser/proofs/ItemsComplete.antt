@@ -10,23 +10,26 @@ use Rattle.mpy_parser.specs.declared.terminals.Terminal.TheVariants as terminal
 use Rattle.mpy_parser.specs.Grammar.{Spells}
 use Rattle.mpy_parser.specs.Reading.{◌>>=◌, reading}
 use Rattle.mpy_parser.specs.Items.{Opening, LineItem, simple, augmented, name_list, SpellsSimple, assign, augment, put, augment_at, append, give_nothing, give, pass, leave, again, SpellsHeader, a_function, an_if, an_elif, an_else, a_while, a_for, SpellsBody, open_body, one_statement, SpellsItem, a_statement, a_header}
-use Rattle.mpy_parser.specs.ItemReading.{ended, whole, assigned, at_place, argument, behind_name, given_at, simple_at, names_at, parameters_at, header_at, body_at, headed_at, item_at}
+use Rattle.mpy_parser.specs.ItemReading.{ended, whole, augmenting, assigned, at_place, argument, behind_name, given_at, simple_at, names_at, parameters_at, header_at, body_at, headed_at, item_at}
 use Rattle.mpy_parser.proofs.Readings.{nothing_in_nothing, reading_short}
 use Rattle.mpy_parser.proofs.Complete.{reading_exact}
 
 whole_reads : (ts : List Terminal) (e : Term) → Spells level.Conditional ts e → whole ts ≡ Some e
 whole_reads ts e s = ap (λ o. o >>= λ x. ended x.0 x.1) (ap (reading level.Conditional) (sym (append-nil ts)) ∙ reading_exact level.Conditional ts e [] s tt)
 
+augmenting_reads : (w : Word) (op : ArithOp) (ts : List Terminal) (e : Term) → augmented w ≡ Some op → whole ts ≡ Some e → augmenting w ts ≡ Some (op, e)
+augmenting_reads w op ts e h p = ap (λ o. o >>= λ f. whole ts >>= λ a. Some (f, a)) h ∙ ap (λ o. o >>= λ a. Some (op, a)) p
+
 -- a word that augments is none of the others
 augment_reads : (x : List ℕ) (w : Word) (op : ArithOp) (ts : List Terminal) (e : Term) → augmented w ≡ Some op → whole ts ≡ Some e → behind_name x w ts ≡ Some (SetBy x op e)
 augment_reads x word.Assign op ts e h p = absurd (cc)
 augment_reads x word.LeftBracket op ts e h p = absurd (cc)
 augment_reads x word.Dot op ts e h p = absurd (cc)
-augment_reads x w op ts e h p = ap (λ o. o >>= λ f. whole ts >>= λ a. Some (SetBy x f a)) h ∙ ap (λ o. o >>= λ a. Some (SetBy x op a)) p
+augment_reads x w op ts e h p = ap (λ o. o >>= λ a. Some (SetBy x a.0 a.1)) (augmenting_reads w op ts e h p)
 
 augment_at_reads : (x : List ℕ) (i : Term) (w : Word) (op : ArithOp) (ts : List Terminal) (e : Term) → augmented w ≡ Some op → whole ts ≡ Some e → assigned x i (terminal.Word w ∷ ts) ≡ Some (SetAtBy x i op e)
 augment_at_reads x i word.Assign op ts e h p = absurd (cc)
-augment_at_reads x i w op ts e h p = ap (λ o. o >>= λ f. whole ts >>= λ a. Some (SetAtBy x i f a)) h ∙ ap (λ o. o >>= λ a. Some (SetAtBy x i op a)) p
+augment_at_reads x i w op ts e h p = ap (λ o. o >>= λ a. Some (SetAtBy x i a.0 a.1)) (augmenting_reads w op ts e h p)
 
 place_reads : (x : List ℕ) (is rest : List Terminal) (i : Term) (act : Action) → Spells level.Conditional is i → assigned x i rest ≡ Some act → at_place x (is ++ (terminal.Word word.RightBracket ∷ rest)) ≡ Some act
 place_reads x is rest i act s p = let q = reading_exact level.Conditional is i (terminal.Word word.RightBracket ∷ rest) s tt in rw (q, p)

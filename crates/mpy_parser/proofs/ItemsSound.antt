@@ -1,6 +1,7 @@
 -- The item that is read is spelled by the terminals.
 use Rattle.std.proofs.Common.{◌≡◌, ℕ, Bool, true, false, List, [], ◌∷◌, ◌++◌, Option, Some, None, IfSome, cond, refl, ap, sym, ◌∙◌, subst, append_assoc, append-nil, codes}
 use Rattle.std.proofs.lemmas.Slice.Eq.{bytes_eq-Decides}
+use Rattle.mpy_tree.specs.declared.operators.ArithOp.{ArithOp}
 use Rattle.mpy_tree.specs.Syntax.{Term, Action, SetBy, SetAtBy, AppendTo, Nothing, Leave, Again}
 use Rattle.mpy_parser.specs.declared.levels.Level.TheVariants as level
 use Rattle.mpy_parser.specs.declared.words.Word.{Word}
@@ -10,7 +11,7 @@ use Rattle.mpy_parser.specs.declared.terminals.Terminal.TheVariants as terminal
 use Rattle.mpy_parser.specs.Grammar.{Spells}
 use Rattle.mpy_parser.specs.Reading.{◌>>=◌, reading, behind_closing_bracket, behind_closing_paren, behind_colon}
 use Rattle.mpy_parser.specs.Items.{Opening, when, else_when, while, headed, augmented, name_list, SpellsSimple, assign, augment, put, augment_at, append, give_nothing, give, pass, leave, again, SpellsHeader, a_function, an_if, an_elif, an_else, a_while, a_for, SpellsBody, open_body, one_statement, SpellsItem, a_statement, a_header}
-use Rattle.mpy_parser.specs.ItemReading.{ended, whole, assigned, at_place, is_append, argument, method, behind_name, given_at, simple_at, names_at, parameters_at, function_at, each_at, header_at, body_at, headed_at, item_at}
+use Rattle.mpy_parser.specs.ItemReading.{ended, whole, augmenting, augmented_at, assigned, at_place, is_append, argument, method, behind_name, given_at, simple_at, names_at, parameters_at, function_at, each_at, header_at, body_at, body_behind, headed_at, item_at}
 use Rattle.mpy_parser.proofs.Shorter.{if_bound, weaker, either_way}
 use Rattle.mpy_parser.proofs.Sound.{Fronts, Begins, reading_sound, begins_colon, begins_closing_bracket, begins_closing_paren}
 
@@ -25,21 +26,22 @@ whole_sound ts = if_bound (reading level.Conditional ts) _ (Fronts level.Conditi
     subst (Spells level.Conditional ts) p.0 (subst (λ l. Spells level.Conditional l e.0) (sym same) f.2)))
 
 -- assignments by an operator
-augment_sound : (x : List ℕ) (w : Word) (ts : List Terminal) → IfSome (augmented w >>= λ op. whole ts >>= λ e. Some (SetBy x op e)) (SpellsSimple (terminal.Name x ∷ terminal.Word w ∷ ts))
-augment_sound x w ts = if_bound (augmented w) _ (λ op. augmented w ≡ Some op) _ (itself (augmented w)) (λ op p.
-    if_bound (whole ts) _ (Spells level.Conditional ts) _ (whole_sound ts) (λ e s. augment x w p s))
+abbrev Augments : Word → List Terminal → ArithOp × Term → Type 0
+Augments w ts a = (augmented w ≡ Some a.0) × Spells level.Conditional ts a.1
+
+augmenting_sound : (w : Word) (ts : List Terminal) → IfSome (augmenting w ts) (Augments w ts)
+augmenting_sound w ts = if_bound (augmented w) _ (λ op. augmented w ≡ Some op) _ (itself (augmented w)) (λ op p.
+    if_bound (whole ts) _ (Spells level.Conditional ts) _ (whole_sound ts) (λ e s. (p, s)))
   where
     itself : {A : Type 0} (o : Option A) → IfSome o (λ a. o ≡ Some a)
     itself None = tt
     itself (Some a) = refl
 
-augment_at_sound : (x : List ℕ) (i : Term) (is : List Terminal) (w : Word) (ts : List Terminal) → Spells level.Conditional is i → IfSome (augmented w >>= λ op. whole ts >>= λ e. Some (SetAtBy x i op e)) (SpellsSimple ((terminal.Name x ∷ terminal.Word word.LeftBracket ∷ is) ++ (terminal.Word word.RightBracket ∷ terminal.Word w ∷ ts)))
-augment_at_sound x i is w ts h = if_bound (augmented w) _ (λ op. augmented w ≡ Some op) _ (itself (augmented w)) (λ op p.
-    if_bound (whole ts) _ (Spells level.Conditional ts) _ (whole_sound ts) (λ e s. augment_at x w p h s))
-  where
-    itself : {A : Type 0} (o : Option A) → IfSome o (λ a. o ≡ Some a)
-    itself None = tt
-    itself (Some a) = refl
+augment_sound : (x : List ℕ) (w : Word) (ts : List Terminal) → IfSome (augmenting w ts >>= λ a. Some (SetBy x a.0 a.1)) (SpellsSimple (terminal.Name x ∷ terminal.Word w ∷ ts))
+augment_sound x w ts = if_bound (augmenting w ts) _ (Augments w ts) _ (augmenting_sound w ts) (λ a s. augment x w s.0 s.1)
+
+augment_at_sound : (x : List ℕ) (i : Term) (is : List Terminal) (w : Word) (ts : List Terminal) → Spells level.Conditional is i → IfSome (augmented_at x i w ts) (SpellsSimple ((terminal.Name x ∷ terminal.Word word.LeftBracket ∷ is) ++ (terminal.Word word.RightBracket ∷ terminal.Word w ∷ ts)))
+augment_at_sound x i is w ts h = if_bound (augmenting w ts) _ (Augments w ts) _ (augmenting_sound w ts) (λ a s. augment_at x w s.0 h s.1)
 
 assigned_by_word : (x : List ℕ) (i : Term) (is : List Terminal) (w : Word) (ts : List Terminal) → Spells level.Conditional is i → IfSome (assigned x i (terminal.Word w ∷ ts)) (SpellsSimple ((terminal.Name x ∷ terminal.Word word.LeftBracket ∷ is) ++ (terminal.Word word.RightBracket ∷ terminal.Word w ∷ ts)))
 assigned_by_word x i is word.Assign ts h = if_bound (whole ts) _ (Spells level.Conditional ts) _ (whole_sound ts) (λ e s. put x h s)
@@ -156,10 +158,13 @@ body_sound : (ts : List Terminal) → IfSome (body_at ts) (SpellsBody ts)
 body_sound [] = open_body
 body_sound (t ∷ ts) = if_bound (simple_at (t ∷ ts)) _ (SpellsSimple (t ∷ ts)) _ (simple_sound (t ∷ ts)) (λ act s. one_statement s)
 
+behind_sound : (ts : List Terminal) → IfSome (body_behind ts) (λ m. (rest : List Terminal) × Begins word.Colon ts rest × SpellsBody rest m)
+behind_sound ts = if_bound (behind_colon ts) _ (Begins word.Colon ts) _ (begins_colon ts) (λ rest p.
+    weaker (body_at rest) (SpellsBody rest) _ (body_sound rest) (λ m s. (rest, p, s)))
+
 headed_sound : (ts : List Terminal) (h : Opening × List Terminal) → Heads ts h → IfSome (headed_at h) (SpellsItem ts)
-headed_sound ts h f = if_bound (behind_colon h.1) _ (Begins word.Colon h.1) _ (begins_colon h.1) (λ rest p.
-    if_bound (body_at rest) _ (SpellsBody rest) _ (body_sound rest) (λ body s.
-    subst (λ l. SpellsItem l (headed h.0 body)) (sym (f.1 ∙ ap (λ l. f.0 ++ l) p)) (a_header f.2 s)))
+headed_sound ts h f = if_bound (body_behind h.1) _ (λ m. (rest : List Terminal) × Begins word.Colon h.1 rest × SpellsBody rest m) _ (behind_sound h.1) (λ body s.
+    subst (λ l. SpellsItem l (headed h.0 body)) (sym (f.1 ∙ ap (λ l. f.0 ++ l) s.1)) (a_header f.2 s.2))
 
 -- what is read is spelled
 pub item_sound : (ts : List Terminal) → IfSome (item_at ts) (SpellsItem ts)

@@ -2,6 +2,7 @@
 use Rattle.std.specs.Prelude.{ℕ, Bool, List, [], ◌∷◌, nat_eq, Option, Some, None, if◌then◌else◌, codes}
 use Rattle.std.specs.Cmp.Lexicographic.{pointwise}
 use Rattle.mpy_tree.specs.Syntax.{Term, no_term, a_term, Action, SetTo, SetBy, SetAt, SetAtBy, AppendTo, Give, Nothing, Leave, Again}
+use Rattle.mpy_tree.specs.declared.operators.ArithOp.{ArithOp}
 use Rattle.mpy_parser.specs.declared.levels.Level.TheVariants as level
 use Rattle.mpy_parser.specs.declared.words.Word.{Word}
 use Rattle.mpy_parser.specs.declared.words.Word.TheVariants as word
@@ -19,10 +20,18 @@ ended a (t ∷ ts) = None
 abbrev pub whole : List Terminal → Option Term
 whole ts = reading level.Conditional ts >>= λ e. ended e.0 e.1
 
+-- the operator and the right side of an augmented assignment
+abbrev pub augmenting : Word → List Terminal → Option (ArithOp × Term)
+augmenting w ts = augmented w >>= λ op. whole ts >>= λ e. Some (op, e)
+
+-- an augmented assignment, behind the target in brackets
+abbrev pub augmented_at : List ℕ → Term → Word → List Terminal → Option Action
+augmented_at x i w ts = augmenting w ts >>= λ a. Some (SetAtBy x i a.0 a.1)
+
 -- behind the target in brackets
 abbrev pub assigned : List ℕ → Term → List Terminal → Option Action
 assigned x i (terminal.Word word.Assign ∷ ts) = whole ts >>= λ e. Some (SetAt x i e)
-assigned x i (terminal.Word w ∷ ts) = augmented w >>= λ op. whole ts >>= λ e. Some (SetAtBy x i op e)
+assigned x i (terminal.Word w ∷ ts) = augmented_at x i w ts
 assigned x i _ = None
 
 abbrev pub at_place : List ℕ → List Terminal → Option Action
@@ -49,7 +58,7 @@ abbrev pub behind_name : List ℕ → Word → List Terminal → Option Action
 behind_name x word.Assign ts = whole ts >>= λ e. Some (SetTo x e)
 behind_name x word.LeftBracket ts = at_place x ts
 behind_name x word.Dot ts = method x ts
-behind_name x w ts = augmented w >>= λ op. whole ts >>= λ e. Some (SetBy x op e)
+behind_name x w ts = augmenting w ts >>= λ a. Some (SetBy x a.0 a.1)
 
 abbrev pub given_at : List Terminal → Option Action
 given_at [] = Some (Give no_term)
@@ -104,11 +113,12 @@ abbrev pub body_at : List Terminal → Option (Option Action)
 body_at [] = Some None
 body_at (t ∷ ts) = simple_at (t ∷ ts) >>= λ act. Some (Some act)
 
+-- behind a header: its colon, and what may follow
+abbrev pub body_behind : List Terminal → Option (Option Action)
+body_behind ts = behind_colon ts >>= λ rest. body_at rest
+
 abbrev pub headed_at : Opening × List Terminal → Option LineItem
-headed_at h = do
-  rest ← behind_colon h.1
-  body ← body_at rest
-  Some (headed h.0 body)
+headed_at h = body_behind h.1 >>= λ body. Some (headed h.0 body)
 
 unfoldable pub item_at : List Terminal → Option LineItem
 item_at ts = elim (header_at ts) [ Some h ↦ headed_at h | None ↦ (simple_at ts >>= λ act. Some (simple act)) ]

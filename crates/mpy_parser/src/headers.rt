@@ -63,10 +63,11 @@ fn each(alloc: Global, ts: &[Terminal]) -> Result<Option<(Header, &[Terminal])>,
     let [Terminal::Name(name), Terminal::Word(Word::In), ts @ ..] = ts else {
         return Ok(None);
     };
+    let name = name.copy()?;
     let Some((e, rest)) = expression(alloc, Level::Conditional, ts)? else {
         return Ok(None);
     };
-    Ok(Some((Header::For(name.copy()?, e), rest)))
+    Ok(Some((Header::For(name, e), rest)))
 }
 
 // The header of a test, behind its word.

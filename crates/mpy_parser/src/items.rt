@@ -1,6 +1,6 @@
 //! What a logical line spells.
 ghost use Rattle.std.specs.Prelude.{◌≡◌, Option, Some, None, option_map, IfOk};
-ghost use Rattle.mpy_parser.specs.ItemReading.{body_at, headed_at, item_at};
+ghost use Rattle.mpy_parser.specs.ItemReading.{body_behind, headed_at, item_at};
 ghost use Rattle.mpy_parser.specs.Views.{opening_of, item_of};
 ghost use Rattle.mpy_tree.specs.View.{action_of};
 
@@ -30,10 +30,13 @@ pub enum Item {
     Headed(Header, Option<Act>),
 }
 
-// What may stand behind the colon of a header.
+// What may stand behind a header: its colon, and a simple statement or nothing.
 fn body(alloc: Global, ts: &[Terminal]) -> Result<Option<Option<Act>>, NoMemory>
-    ensures { IfOk result (λ r. option_map (λ m. option_map action_of m) r ≡ body_at ts.now) }
+    ensures { IfOk result (λ r. option_map (λ m. option_map action_of m) r ≡ body_behind ts.now) }
 {
+    let Some(ts) = behind_colon(ts) else {
+        return Ok(None);
+    };
     if ts.is_empty() {
         return Ok(Some(None));
     }
@@ -46,13 +49,7 @@ fn body(alloc: Global, ts: &[Terminal]) -> Result<Option<Option<Act>>, NoMemory>
 fn headed(alloc: Global, header: Header, ts: &[Terminal]) -> Result<Option<Item>, NoMemory>
     ensures { IfOk result (λ r. option_map item_of r ≡ headed_at (opening_of header, ts.now)) }
 {
-    let Some(rest) = behind_colon(ts) else {
-        return Ok(None);
-    };
-    match body(alloc, rest)? {
-        None => Ok(None),
-        Some(statement) => Ok(Some(Item::Headed(header, statement))),
-    }
+    body(alloc, ts).map(|found| found.map(|statement| Item::Headed(header, statement)))
 }
 
 /// The item that all terminals of a logical line spell, if they spell one.

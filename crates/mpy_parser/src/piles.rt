@@ -41,18 +41,20 @@ fn new_group(alloc: Global, column: u32) -> Group
 }
 
 // Takes the group of the column, which is empty if another is nearest.
-fn take_group(alloc: Global, groups: &mut Stack<Group>, column: u32) -> Result<Group, NoMemory>
-    ensures taken { IfOk result (λ g. group_of g ≡ group_at column (groups_of groups.old)) }
-    ensures left { OnOk result (groups_of groups.new ≡ behind_group column (groups_of groups.old)) }
+fn take_group(alloc: Global, groups: &mut Stack<Group>, column: u32) -> Group
+    ensures taken { group_of result ≡ group_at column (groups_of groups.old) }
+    ensures left { groups_of groups.new ≡ behind_group column (groups_of groups.old) }
 {
-    let Some(group) = groups.pop() else {
-        return Ok(new_group(alloc, column));
+    let is_nearest = match groups.peek() {
+        None => false,
+        Some(group) => group.column == column,
     };
-    if group.column == column {
-        return Ok(group);
+    if is_nearest {
+        if let Some(group) = groups.pop() {
+            return group;
+        }
     }
-    groups.push(group)?;
-    Ok(new_group(alloc, column))
+    new_group(alloc, column)
 }
 
 fn body_from(body: Stack<Stmt>) -> Stmts
@@ -64,18 +66,20 @@ fn body_from(body: Stack<Stmt>) -> Stmts
 }
 
 // Takes what waits deeper than the column.
-fn take_deeper(alloc: Global, groups: &mut Stack<Group>, column: u32) -> Result<Stmts, NoMemory>
-    ensures taken { IfOk result (λ b. block_of b ≡ deeper_body column (groups_of groups.old)) }
-    ensures left { OnOk result (groups_of groups.new ≡ behind_deeper column (groups_of groups.old)) }
+fn take_deeper(alloc: Global, groups: &mut Stack<Group>, column: u32) -> Stmts
+    ensures taken { block_of result ≡ deeper_body column (groups_of groups.old) }
+    ensures left { groups_of groups.new ≡ behind_deeper column (groups_of groups.old) }
 {
-    let Some(group) = groups.pop() else {
-        return Ok(body_from(Stack::new(alloc)));
+    let is_deeper = match groups.peek() {
+        None => false,
+        Some(group) => column < group.column,
     };
-    if column < group.column {
-        return Ok(body_from(group.body));
+    if is_deeper {
+        if let Some(group) = groups.pop() {
+            return body_from(group.body);
+        }
     }
-    groups.push(group)?;
-    Ok(body_from(Stack::new(alloc)))
+    body_from(Stack::new(alloc))
 }
 
 // Takes the body of a header: the statement behind its colon, or what waits deeper.
@@ -90,7 +94,7 @@ fn take_body(
     ensures left { OnOk result (groups_of groups.new ≡ behind_body column (option_map action_of behind) (groups_of groups.old)) }
 {
     match behind {
-        None => take_deeper(alloc, groups, column),
+        None => Ok(take_deeper(alloc, groups, column)),
         Some(act) => {
             let mut body = Stack::new(alloc);
             body.push(Stmt { line, act })?;
@@ -103,7 +107,7 @@ fn take_body(
 fn put(alloc: Global, groups: &mut Stack<Group>, column: u32, stmt: Stmt) -> Result<(), NoMemory>
     ensures { OnOk result (groups_of groups.new ≡ with_statement column (statement_of stmt) (groups_of groups.old)) }
 {
-    let group = take_group(alloc, groups, column)?;
+    let group = take_group(alloc, groups, column);
     let mut body = group.body;
     body.push(stmt)?;
     groups.push(Group {
@@ -125,7 +129,7 @@ fn put_if(
 ) -> Result<(), NoMemory>
     ensures { OnOk result (groups_of groups.new ≡ with_if column line (term_of test) (block_of body) (groups_of groups.old)) }
 {
-    let group = take_group(alloc, groups, column)?;
+    let group = take_group(alloc, groups, column);
     let mut arms = group.arms;
     arms.push(Arm { line, test, body })?;
     let arms = Arms {
@@ -146,7 +150,7 @@ fn put_if(
 fn put_arm(alloc: Global, groups: &mut Stack<Group>, column: u32, arm: Arm) -> Result<(), NoMemory>
     ensures { OnOk result (groups_of groups.new ≡ with_arm column (branch_of arm) (groups_of groups.old)) }
 {
-    let group = take_group(alloc, groups, column)?;
+    let group = take_group(alloc, groups, column);
     let mut arms = group.arms;
     arms.push(arm)?;
     groups.push(Group {
@@ -166,7 +170,7 @@ fn put_else(
 ) -> Result<(), NoMemory>
     ensures { OnOk result (groups_of groups.new ≡ with_else column (block_of body) (groups_of groups.old)) }
 {
-    let group = take_group(alloc, groups, column)?;
+    let group = take_group(alloc, groups, column);
     groups.push(Group {
         column,
         body: group.body,

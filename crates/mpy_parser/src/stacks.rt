@@ -1,5 +1,5 @@
 //! Stacks, seen as lists with what was put last at the front.
-ghost use Rattle.std.specs.Prelude.{◌≡◌, ◌∷◌, [], OnOk};
+ghost use Rattle.std.specs.Prelude.{◌≡◌, ◌∷◌, [], OnOk, option_copied};
 ghost use Rattle.mpy_parser.specs.Open.{nearest, beyond};
 
 use crate::NoMemory;
@@ -50,6 +50,12 @@ impl<T> Stack<T> {
         ensures { result ≡ nearest self.now }
     {
         self.items.last().copied()
+    }
+
+    pub(crate) fn peek(&self) -> Option<&T>
+        ensures { option_copied result ≡ nearest self.now }
+    {
+        self.items.last()
     }
 
     /// What was put, the last first.

@@ -3,7 +3,7 @@ ghost use Rattle.std.specs.Prelude.{◌≡◌, Option, Some, None, option_map, I
 ghost use Rattle.mpy_tree.specs.Syntax.{AppendTo};
 ghost use Rattle.mpy_tree.specs.View.{term_of, action_of};
 ghost use Rattle.mpy_parser.specs.Items.{augmented};
-ghost use Rattle.mpy_parser.specs.ItemReading.{ended, whole, assigned, at_place, is_append, argument, method, behind_name, given_at, simple_at};
+ghost use Rattle.mpy_parser.specs.ItemReading.{ended, whole, augmenting, augmented_at, assigned, at_place, is_append, argument, method, behind_name, given_at, simple_at};
 
 use crate::NoMemory;
 use crate::expressions::{behind_closing, expression};
@@ -39,42 +39,64 @@ fn ended(act: Act, rest: &[Terminal]) -> Option<Act>
 fn whole(alloc: Global, ts: &[Terminal]) -> Result<Option<Expr>, NoMemory>
     ensures { IfOk result (λ r. option_map term_of r ≡ whole ts.now) }
 {
-    match expression(alloc, Level::Conditional, ts)? {
-        Some((e, [])) => Ok(Some(e)),
-        _ => Ok(None),
-    }
+    let Some((e, rest)) = expression(alloc, Level::Conditional, ts)? else {
+        return Ok(None);
+    };
+    Ok(rest.is_empty().then_some(e))
+}
+
+// The operator and the right side of an augmented assignment.
+fn augmenting(
+    alloc: Global,
+    word: Word,
+    ts: &[Terminal],
+) -> Result<Option<(ArithOp, Expr)>, NoMemory>
+    ensures { IfOk result (λ r. option_map (λ x. (x.0, term_of x.1)) r ≡ augmenting word ts.now) }
+{
+    let Some(op) = augmented(word) else {
+        return Ok(None);
+    };
+    let Some(e) = whole(alloc, ts)? else {
+        return Ok(None);
+    };
+    Ok(Some((op, e)))
+}
+
+// An augmented assignment, behind its target in brackets.
+fn augmented_at(
+    alloc: Global,
+    name: Name,
+    index: Expr,
+    word: Word,
+    ts: &[Terminal],
+) -> Result<Option<Act>, NoMemory>
+    ensures { IfOk result (λ r. option_map action_of r ≡ augmented_at name (term_of index) word ts.now) }
+{
+    augmenting(alloc, word, ts).map(|found| found.map(|(op, e)| Act::AugmentAt(name, index, op, e)))
 }
 
 // An assignment, behind its target in brackets.
 fn assigned(
     alloc: Global,
-    name: &Name,
+    name: Name,
     index: Expr,
     ts: &[Terminal],
 ) -> Result<Option<Act>, NoMemory>
-    ensures { IfOk result (λ r. option_map action_of r ≡ assigned name.now (term_of index) ts.now) }
+    ensures { IfOk result (λ r. option_map action_of r ≡ assigned name (term_of index) ts.now) }
 {
     let [Terminal::Word(word), rest @ ..] = ts else {
         return Ok(None);
     };
-    if matches!(word, Word::Assign) {
-        let Some(e) = whole(alloc, rest)? else {
-            return Ok(None);
-        };
-        return Ok(Some(Act::Put(name.copy()?, index, e)));
+    match word {
+        Word::Assign => { whole(alloc, rest).map(|found| found.map(|e| Act::Put(name, index, e))) }
+        _ => augmented_at(alloc, name, index, *word, rest),
     }
-    let Some(op) = augmented(*word) else {
-        return Ok(None);
-    };
-    let Some(e) = whole(alloc, rest)? else {
-        return Ok(None);
-    };
-    Ok(Some(Act::AugmentAt(name.copy()?, index, op, e)))
 }
 
 fn at_place(alloc: Global, name: &Name, ts: &[Terminal]) -> Result<Option<Act>, NoMemory>
     ensures { IfOk result (λ r. option_map action_of r ≡ at_place name.now ts.now) }
 {
+    let name = name.copy()?;
     let Some((index, ts)) = expression(alloc, Level::Conditional, ts)? else {
         return Ok(None);
     };
@@ -87,13 +109,11 @@ fn at_place(alloc: Global, name: &Name, ts: &[Terminal]) -> Result<Option<Act>, 
 fn argument(alloc: Global, name: &Name, ts: &[Terminal]) -> Result<Option<Act>, NoMemory>
     ensures { IfOk result (λ r. option_map action_of r ≡ argument name.now ts.now) }
 {
+    let name = name.copy()?;
     let Some((e, ts)) = expression(alloc, Level::Conditional, ts)? else {
         return Ok(None);
     };
-    let Some(rest) = behind_closing(Bracket::Round, ts) else {
-        return Ok(None);
-    };
-    Ok(ended(Act::Append(name.copy()?, e), rest))
+    Ok(behind_closing(Bracket::Round, ts).and_then(|rest| ended(Act::Append(name, e), rest)))
 }
 
 fn is_append(name: &Name) -> bool
@@ -132,21 +152,20 @@ fn behind_name(
 {
     match word {
         Word::Assign => {
+            let name = name.copy()?;
             let Some(e) = whole(alloc, ts)? else {
                 return Ok(None);
             };
-            Ok(Some(Act::Assign(name.copy()?, e)))
+            Ok(Some(Act::Assign(name, e)))
         }
         Word::LeftBracket => at_place(alloc, name, ts),
         Word::Dot => method(alloc, name, ts),
         _ => {
-            let Some(op) = augmented(word) else {
+            let name = name.copy()?;
+            let Some((op, e)) = augmenting(alloc, word, ts)? else {
                 return Ok(None);
             };
-            let Some(e) = whole(alloc, ts)? else {
-                return Ok(None);
-            };
-            Ok(Some(Act::Augment(name.copy()?, op, e)))
+            Ok(Some(Act::Augment(name, op, e)))
         }
     }
 }

@@ -1,7 +1,7 @@
 //! Expressions made of their parts.
-ghost use Rattle.std.specs.Prelude.{◌≡◌, Option, IfOk};
+ghost use Rattle.std.specs.Prelude.{◌≡◌, option_map, IfOk};
 ghost use Rattle.mpy_tree.specs.Syntax.{Binary, Compare, Choose, Minus, Negation, Term};
-ghost use Rattle.mpy_tree.specs.View.{term_of, maybe_term, end_by};
+ghost use Rattle.mpy_tree.specs.View.{term_of};
 ghost use Rattle.mpy_parser.specs.Reading.{joined, suffixed};
 ghost use Rattle.mpy_parser.specs.Views.{suffix_of};
 
@@ -24,11 +24,54 @@ pub(crate) enum Suffix {
     Slice(Option<Expr>, Option<Expr>),
 }
 
+// Two values, each in a box.
+fn two<T: Drop>(alloc: Global, a: T, b: T) -> Result<(Box<T>, Box<T>), NoMemory>
+    ensures { IfOk result (λ r. (r.0.value ≡ a) × (r.1.value ≡ b)) }
+{
+    Ok((Box::new(alloc, a)?, Box::new(alloc, b)?))
+}
+
+// Three values, each in a box.
+fn three<T: Drop>(alloc: Global, a: T, b: T, c: T) -> Result<(Box<T>, Box<T>, Box<T>), NoMemory>
+    ensures { IfOk result (λ r. (r.0.value ≡ a) × (r.1.value ≡ b) × (r.2.value ≡ c)) }
+{
+    Ok((
+        Box::new(alloc, a)?,
+        Box::new(alloc, b)?,
+        Box::new(alloc, c)?,
+    ))
+}
+
+// A value in a box, if there is one.
+fn boxed<T: Drop>(alloc: Global, e: Option<T>) -> Result<Option<Box<T>>, NoMemory>
+    ensures { IfOk result (λ b. option_map (λ x. x.value) b ≡ e) }
+{
+    match e {
+        None => Ok(None),
+        Some(e) => Ok(Some(Box::new(alloc, e)?)),
+    }
+}
+
+// The parts of a slice, each in a box.
+fn sliced<T: Drop>(
+    alloc: Global,
+    value: T,
+    from: Option<T>,
+    to: Option<T>,
+) -> Result<(Box<T>, Option<Box<T>>, Option<Box<T>>), NoMemory>
+    ensures { IfOk result (λ r. (r.0.value ≡ value) × (option_map (λ x. x.value) r.1 ≡ from) × (option_map (λ x. x.value) r.2 ≡ to)) }
+{
+    Ok((
+        Box::new(alloc, value)?,
+        boxed(alloc, from)?,
+        boxed(alloc, to)?,
+    ))
+}
+
 pub(crate) fn arith(alloc: Global, op: ArithOp, a: Expr, b: Expr) -> Result<Expr, NoMemory>
     ensures { IfOk result (λ e. term_of e ≡ Binary op (term_of a) (term_of b)) }
 {
-    let a = Box::new(alloc, a)?;
-    let b = Box::new(alloc, b)?;
+    let (a, b) = two(alloc, a, b)?;
     Ok(Expr::Arith(op, a, b))
 }
 
@@ -38,8 +81,7 @@ pub(crate) fn join(alloc: Global, joint: Joint, a: Expr, b: Expr) -> Result<Expr
     if let Joint::Arith(op) = joint {
         return arith(alloc, op, a, b);
     }
-    let a = Box::new(alloc, a)?;
-    let b = Box::new(alloc, b)?;
+    let (a, b) = two(alloc, a, b)?;
     match joint {
         Joint::Or => Ok(Expr::Or(a, b)),
         _ => Ok(Expr::And(a, b)),
@@ -49,17 +91,14 @@ pub(crate) fn join(alloc: Global, joint: Joint, a: Expr, b: Expr) -> Result<Expr
 pub(crate) fn compare(alloc: Global, op: CmpOp, a: Expr, b: Expr) -> Result<Expr, NoMemory>
     ensures { IfOk result (λ e. term_of e ≡ Compare op (term_of a) (term_of b)) }
 {
-    let a = Box::new(alloc, a)?;
-    let b = Box::new(alloc, b)?;
+    let (a, b) = two(alloc, a, b)?;
     Ok(Expr::Cmp(op, a, b))
 }
 
 pub(crate) fn choose(alloc: Global, test: Expr, yes: Expr, no: Expr) -> Result<Expr, NoMemory>
     ensures { IfOk result (λ e. term_of e ≡ Choose (term_of test) (term_of yes) (term_of no)) }
 {
-    let test = Box::new(alloc, test)?;
-    let yes = Box::new(alloc, yes)?;
-    let no = Box::new(alloc, no)?;
+    let (test, yes, no) = three(alloc, test, yes, no)?;
     Ok(Expr::Cond { test, yes, no })
 }
 
@@ -75,25 +114,17 @@ pub(crate) fn not(alloc: Global, e: Expr) -> Result<Expr, NoMemory>
     Ok(Expr::Not(Box::new(alloc, e)?))
 }
 
-fn boxed(alloc: Global, e: Option<Expr>) -> Result<Option<Box<Expr>>, NoMemory>
-    ensures { IfOk result (λ b. end_by (λ x. term_of x.value) b ≡ maybe_term e) }
-{
-    match e {
-        None => Ok(None),
-        Some(e) => Ok(Some(Box::new(alloc, e)?)),
-    }
-}
-
 /// A value with what stands in brackets behind it.
 pub(crate) fn with_suffix(alloc: Global, value: Expr, suffix: Suffix) -> Result<Expr, NoMemory>
     ensures { IfOk result (λ e. term_of e ≡ suffixed (term_of value) (suffix_of suffix)) }
 {
-    let value = Box::new(alloc, value)?;
     match suffix {
-        Suffix::Index(i) => Ok(Expr::Index(value, Box::new(alloc, i)?)),
+        Suffix::Index(i) => {
+            let (value, i) = two(alloc, value, i)?;
+            Ok(Expr::Index(value, i))
+        }
         Suffix::Slice(from, to) => {
-            let from = boxed(alloc, from)?;
-            let to = boxed(alloc, to)?;
+            let (value, from, to) = sliced(alloc, value, from, to)?;
             Ok(Expr::Slice(value, from, to))
         }
     }
