@@ -17,7 +17,7 @@ use Rattle.mpy_parser.specs.declared.terms.Bracket.{Bracket}
 use Rattle.mpy_parser.specs.declared.terms.Bracket.TheVariants as bracket
 use Rattle.mpy_parser.specs.Levels.{above, joint_at, IsChain, operator_level, left_level, right_level, arith_word}
 use Rattle.mpy_parser.specs.Grammar.{Spells, SpellsEnd, SpellsAll, conditional, disjunction, conjunction, negation, compared, arithmetic, minus, index, slice, number, quoted, truth, name, call, items, parenthesized, higher, missing, given, none, one, more, comparison, truth_word}
-use Rattle.mpy_parser.specs.Reading.{◌>>=◌, behind_not, behind_minus, behind_closing_bracket, behind_colon, comparison_at, joined, conditional_tail, with_conditional_tail, joint_tail, with_joints, comparison_tail, with_comparison, power_tail, with_power, Suffix, by_index, by_ends, suffixed, last_end, behind_index, in_brackets, with_suffixes, closed, some_elements, elements, name_or_call, prefixed, reading}
+use Rattle.mpy_parser.specs.Reading.{◌>>=◌, behind_not, behind_minus, behind_closing_bracket, behind_colon, comparison_at, joined, conditional_tail, with_conditional_tail, joint_tail, with_joints, comparison_tail, with_comparison, power_tail, with_power, Suffix, by_index, by_ends, suffixed, second_end, last_end, behind_index, in_brackets, with_suffixes, closed, some_elements, elements, name_or_call, prefixed, reading}
 use Rattle.mpy_parser.proofs.Shorter.{with_conditional_tail_short, with_joints_short, with_comparison_short, with_power_short, with_suffixes_short, name_or_call_short}
 use Rattle.mpy_parser.proofs.Readings.{reading_short, reading_step, joint_turn, suffix_turn, last_element, next_element}
 use Rattle.mpy_parser.proofs.Sound.{closing, IsSome_terms}
@@ -237,8 +237,8 @@ found_higher_power xs e h rest =
 in_brackets_without : (ts : List Terminal) → behind_colon ts ≡ None → in_brackets reading ts ≡ (reading level.Conditional ts >>= λ i. behind_index reading i.0 i.1)
 in_brackets_without ts h = ap (λ o. elim o as (λ _. Option (Suffix × List Terminal)) [ Some at_end ↦ last_end reading no_term at_end | None ↦ (reading level.Conditional ts >>= λ i. behind_index reading i.0 i.1) ]) h
 
-last_end_without : (from : MaybeTerm) (ts : List Terminal) → behind_closing_bracket ts ≡ None → last_end reading from ts ≡ (reading level.Conditional ts >>= λ e. behind_closing_bracket e.1 >>= λ rest. Some (by_ends from (a_term e.0), rest))
-last_end_without from ts h = ap (λ o. elim o as (λ _. Option (Suffix × List Terminal)) [ Some rest ↦ Some (by_ends from no_term, rest) | None ↦ (reading level.Conditional ts >>= λ e. behind_closing_bracket e.1 >>= λ rest. Some (by_ends from (a_term e.0), rest)) ]) h
+second_end_without : (ts : List Terminal) → behind_closing_bracket ts ≡ None → second_end reading ts ≡ (reading level.Conditional ts >>= λ e. behind_closing_bracket e.1 >>= λ rest. Some (a_term e.0, rest))
+second_end_without ts h = ap (λ o. elim o as (λ _. Option (MaybeTerm × List Terminal)) [ Some rest ↦ Some (no_term, rest) | None ↦ (reading level.Conditional ts >>= λ e. behind_closing_bracket e.1 >>= λ rest. Some (a_term e.0, rest)) ]) h
 
 -- an end of a slice is read, as the first of its brackets and as the last
 abbrev pub IsFirstEnd : List Terminal → MaybeTerm → Type 0
@@ -261,7 +261,8 @@ last_read zs e h from rest =
     let f = h (terminal.Word word.RightBracket ∷ rest) in
     let no = not_first behind_closing_bracket level.Conditional ts f.0 (never_closing_bracket ts) f.1 in
     let p = exact level.Conditional zs e (terminal.Word word.RightBracket ∷ rest) f tt in
-    last_end_without from ts no ∙ rw p
+    let q : second_end reading ts ≡ Some (a_term e, rest) = second_end_without ts no ∙ rw p in
+    ap (λ o. o >>= λ to. Some (by_ends from to.0, to.1)) q
 
 -- what stands in brackets is read, whatever follows
 abbrev pub IsSuffixRead : List Terminal → Suffix → Type 0

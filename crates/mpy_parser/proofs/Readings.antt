@@ -11,7 +11,7 @@ use Rattle.mpy_parser.specs.declared.terminals.Terminal.TheVariants as terminal
 use Rattle.mpy_parser.specs.declared.terms.Bracket.{Bracket}
 use Rattle.mpy_parser.specs.declared.terms.Bracket.TheVariants as bracket
 use Rattle.mpy_parser.specs.Levels.{above}
-use Rattle.mpy_parser.specs.Reading.{◌>>=◌, Reader, or_else, behind_if, behind_else, behind_not, behind_minus, behind_power, behind_bracket, behind_closing_bracket, behind_paren, behind_closing_paren, behind_colon, behind_comma, comparison_at, joint_before, joined, conditional_tail, joint_tail, with_joints, comparison_tail, power_tail, Suffix, suffixed, last_end, behind_index, in_brackets, suffix_at, with_suffixes, closed, some_elements, elements, arguments, name_or_call, atom, prefixed, at_level, read_within, reading, steps, levels_above}
+use Rattle.mpy_parser.specs.Reading.{◌>>=◌, Reader, or_else, behind_if, behind_else, behind_not, behind_minus, behind_power, behind_bracket, behind_closing_bracket, behind_paren, behind_closing_paren, behind_colon, behind_comma, comparison_at, joint_before, joined, conditional_tail, joint_tail, with_joints, comparison_tail, power_tail, Suffix, by_ends, suffixed, second_end, last_end, behind_index, in_brackets, suffix_at, with_suffixes, closed, some_elements, elements, arguments, name_or_call, atom, prefixed, at_level, read_within, reading, steps, levels_above}
 use Rattle.mpy_parser.proofs.Shorter.{Shortens, Passes, pass_if, pass_else, pass_not, pass_minus, pass_power, pass_bracket, pass_closing_bracket, pass_paren, pass_colon, pass_comma, pass_comparison, pass_joint, pass_closed, joint_tail_short, suffix_at_short, read_within_short}
 
 -- two that go on alike from all that is found
@@ -60,9 +60,12 @@ either_same : {A B : Type 0} (o : Option A) (f g : A → Option B) (d e : Option
 either_same None f g d e Q h each same = same
 either_same (Some a) f g d e Q h each same = each a h
 
-last_end_same : (r s : Reader) → Shortens r → (n : ℕ) → AgreeBelow n r s → (from : MaybeTerm) (ts : List Terminal) → length ts < n → last_end r from ts ≡ last_end s from ts
-last_end_same r s h n agree from ts within = either_same (behind_closing_bracket ts) _ _ _ _ _ (pass_closing_bracket ts) (λ rest p. refl)
+second_end_same : (r s : Reader) → Shortens r → (n : ℕ) → AgreeBelow n r s → (ts : List Terminal) → length ts < n → second_end r ts ≡ second_end s ts
+second_end_same r s h n agree ts within = either_same (behind_closing_bracket ts) _ _ _ _ _ (pass_closing_bracket ts) (λ rest p. refl)
     (step_same (r level.Conditional ts) (s level.Conditional ts) _ _ (λ e. length e.1 < length ts) (agree level.Conditional ts within) (h level.Conditional ts) (λ e p. refl))
+
+last_end_same : (r s : Reader) → Shortens r → (n : ℕ) → AgreeBelow n r s → (from : MaybeTerm) (ts : List Terminal) → length ts < n → last_end r from ts ≡ last_end s from ts
+last_end_same r s h n agree from ts within = ap (λ o. o >>= λ to. Some (by_ends from to.0, to.1)) (second_end_same r s h n agree ts within)
 
 behind_index_same : (r s : Reader) → Shortens r → (n : ℕ) → AgreeBelow n r s → (i : Term) (ts : List Terminal) → length ts < n → behind_index r i ts ≡ behind_index s i ts
 behind_index_same r s h n agree i ts within = either_same (behind_closing_bracket ts) _ _ _ _ _ (pass_closing_bracket ts) (λ rest p. refl)

@@ -9,7 +9,7 @@ use Rattle.mpy_parser.specs.declared.terminals.Terminal.TheVariants as terminal
 use Rattle.mpy_parser.specs.declared.terms.Bracket.{Bracket}
 use Rattle.mpy_parser.specs.declared.terms.Bracket.TheVariants as bracket
 use Rattle.mpy_parser.specs.Levels.{above, joint_at}
-use Rattle.mpy_parser.specs.Reading.{◌>>=◌, Reader, or_else, behind_if, behind_else, behind_not, behind_minus, behind_power, behind_bracket, behind_closing_bracket, behind_paren, behind_closing_paren, behind_colon, behind_comma, comparison_at, joint_before, joined, conditional_tail, with_conditional_tail, joint_tail, with_joints, comparison_tail, with_comparison, power_tail, with_power, suffixed, last_end, behind_index, in_brackets, suffix_at, with_suffixes, closed, some_elements, elements, arguments, name_or_call, parenthesized, atom, prefixed, at_level, read_within}
+use Rattle.mpy_parser.specs.Reading.{◌>>=◌, Reader, or_else, behind_if, behind_else, behind_not, behind_minus, behind_power, behind_bracket, behind_closing_bracket, behind_paren, behind_closing_paren, behind_colon, behind_comma, comparison_at, joint_before, joined, conditional_tail, with_conditional_tail, joint_tail, with_joints, comparison_tail, with_comparison, power_tail, with_power, suffixed, second_end, last_end, behind_index, in_brackets, suffix_at, with_suffixes, closed, some_elements, elements, arguments, name_or_call, parenthesized, atom, prefixed, at_level, read_within}
 
 -- what holds of all that is found holds of what is found from it
 pub if_bound : {A B : Type 0} (o : Option A) (f : A → Option B) (Q : A → Type 0) (P : B → Type 0) → IfSome o Q → ((a : A) → Q a → IfSome (f a) P) → IfSome (o >>= f) P
@@ -138,10 +138,13 @@ power_tail_short r h ts = if_bound (behind_power ts) _ (λ rest. length rest < l
 pub with_power_short : (r : Reader) → Shortens r → (a : Term × List Terminal) → length (with_power r a).1 ≤ length a.1
 with_power_short r h a = with_tail (power_tail r a.1) _ a (λ c. length c.1 < length a.1) (λ x. length x.1 ≤ length a.1) (power_tail_short r h a.1) (λ c q. omega arith) (omega arith)
 
-pub last_end_short : (r : Reader) → Shortens r → (from : MaybeTerm) (ts : List Terminal) → IfSome (last_end r from ts) (λ s. length s.1 < length ts)
-last_end_short r h from ts = either_way (behind_closing_bracket ts) _ _ _ _ (pass_closing_bracket ts) (λ rest p. p)
+pub second_end_short : (r : Reader) → Shortens r → (ts : List Terminal) → IfSome (second_end r ts) (λ s. length s.1 < length ts)
+second_end_short r h ts = either_way (behind_closing_bracket ts) _ _ _ _ (pass_closing_bracket ts) (λ rest p. p)
     (if_bound (r level.Conditional ts) _ (λ e. length e.1 < length ts) _ (h level.Conditional ts) (λ e p.
     if_bound (behind_closing_bracket e.1) _ (λ rest. length rest < length e.1) _ (pass_closing_bracket e.1) (λ rest q. omega arith)))
+
+pub last_end_short : (r : Reader) → Shortens r → (from : MaybeTerm) (ts : List Terminal) → IfSome (last_end r from ts) (λ s. length s.1 < length ts)
+last_end_short r h from ts = if_bound (second_end r ts) _ (λ to. length to.1 < length ts) _ (second_end_short r h ts) (λ to p. p)
 
 pub behind_index_short : (r : Reader) → Shortens r → (i : Term) (ts : List Terminal) → IfSome (behind_index r i ts) (λ s. length s.1 < length ts)
 behind_index_short r h i ts = either_way (behind_closing_bracket ts) _ _ _ _ (pass_closing_bracket ts) (λ rest p. p)

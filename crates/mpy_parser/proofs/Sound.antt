@@ -14,7 +14,7 @@ use Rattle.mpy_parser.specs.declared.terms.Bracket.{Bracket}
 use Rattle.mpy_parser.specs.declared.terms.Bracket.TheVariants as bracket
 use Rattle.mpy_parser.specs.Levels.{above, joint_at}
 use Rattle.mpy_parser.specs.Grammar.{Spells, SpellsEnd, SpellsAll, conditional, disjunction, conjunction, negation, compared, arithmetic, minus, index, slice, number, quoted, truth, name, call, items, parenthesized, higher, missing, given, none, one, more, comparison}
-use Rattle.mpy_parser.specs.Reading.{◌>>=◌, Reader, behind_if, behind_else, behind_not, behind_minus, behind_power, behind_bracket, behind_closing_bracket, behind_paren, behind_closing_paren, behind_colon, behind_comma, comparison_at, joint_before, joined, conditional_tail, with_conditional_tail, joint_tail, with_joints, comparison_tail, with_comparison, power_tail, with_power, Suffix, by_index, by_ends, suffixed, last_end, in_brackets, suffix_at, with_suffixes, closed, some_elements, elements, arguments, name_or_call, atom, prefixed, at_level, read_within, reading, steps}
+use Rattle.mpy_parser.specs.Reading.{◌>>=◌, Reader, behind_if, behind_else, behind_not, behind_minus, behind_power, behind_bracket, behind_closing_bracket, behind_paren, behind_closing_paren, behind_colon, behind_comma, comparison_at, joint_before, joined, conditional_tail, with_conditional_tail, joint_tail, with_joints, comparison_tail, with_comparison, power_tail, with_power, Suffix, by_index, by_ends, suffixed, second_end, last_end, in_brackets, suffix_at, with_suffixes, closed, some_elements, elements, arguments, name_or_call, atom, prefixed, at_level, read_within, reading, steps}
 use Rattle.mpy_parser.specs.Reading.{parenthesized as in_parens}
 use Rattle.mpy_parser.proofs.Shorter.{if_bound, weaker, either_way, with_tail}
 
@@ -198,14 +198,20 @@ abbrev pub FrontsSuffix : List Terminal → Suffix × List Terminal → Type 0
 FrontsSuffix ts s = (front : List Terminal) × (ts ≡ front ++ s.1) × SpellsSuffix front s.0
 
 -- the second end of a slice and its bracket
+abbrev pub IsSecondEnd : List Terminal → MaybeTerm × List Terminal → Type 0
+IsSecondEnd ts to = (zs : List Terminal) × (ts ≡ (zs ++ (terminal.Word word.RightBracket ∷ [])) ++ to.1) × SpellsEnd zs to.0
+
+second_end_sound : (r : Reader) → Sound r → (ts : List Terminal) → IfSome (second_end r ts) (IsSecondEnd ts)
+second_end_sound r h ts = either_way (behind_closing_bracket ts) _ _ (Begins word.RightBracket ts) _ (begins_closing_bracket ts) (λ rest p. ([], p, missing))
+    (if_bound (r level.Conditional ts) _ (Fronts level.Conditional ts) _ (h level.Conditional ts) (λ e q.
+    if_bound (behind_closing_bracket e.1) _ (Begins word.RightBracket e.1) _ (begins_closing_bracket e.1) (λ rest p.
+    (q.0, join_two ts q.0 (terminal.Word word.RightBracket ∷ []) rest e.1 q.1 p, given q.2))))
+
 abbrev pub IsLastEnd : MaybeTerm → List Terminal → Suffix × List Terminal → Type 0
 IsLastEnd from ts s = (zs : List Terminal) × (to : MaybeTerm) × (ts ≡ (zs ++ (terminal.Word word.RightBracket ∷ [])) ++ s.1) × (s.0 ≡ by_ends from to) × SpellsEnd zs to
 
 last_end_sound : (r : Reader) → Sound r → (from : MaybeTerm) (ts : List Terminal) → IfSome (last_end r from ts) (IsLastEnd from ts)
-last_end_sound r h from ts = either_way (behind_closing_bracket ts) _ _ (Begins word.RightBracket ts) _ (begins_closing_bracket ts) (λ rest p. ([], no_term, p, refl, missing))
-    (if_bound (r level.Conditional ts) _ (Fronts level.Conditional ts) _ (h level.Conditional ts) (λ e q.
-    if_bound (behind_closing_bracket e.1) _ (Begins word.RightBracket e.1) _ (begins_closing_bracket e.1) (λ rest p.
-    (q.0, a_term e.0, join_two ts q.0 (terminal.Word word.RightBracket ∷ []) rest e.1 q.1 p, refl, given q.2))))
+last_end_sound r h from ts = if_bound (second_end r ts) _ (IsSecondEnd ts) _ (second_end_sound r h ts) (λ to q. (q.0, to.0, q.1, refl, q.2))
 
 -- behind the colon of a slice
 sliced_at : (ts ys us : List Terminal) (from : MaybeTerm) (s : Suffix × List Terminal) → ts ≡ ys ++ (terminal.Word word.Colon ∷ us) → SpellsEnd ys from → IsLastEnd from us s → FrontsSuffix ts s

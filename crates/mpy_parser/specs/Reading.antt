@@ -148,14 +148,18 @@ suffixed v (by_index i) = At v i
 suffixed v (by_ends from to) = Cut v from to
 
 -- the second end of a slice, and the closing bracket
-abbrev pub last_end : Reader → MaybeTerm → List Terminal → Option (Suffix × List Terminal)
-last_end read from ts = elim (behind_closing_bracket ts) [
-  | Some rest ↦ Some (by_ends from no_term, rest)
+abbrev pub second_end : Reader → List Terminal → Option (MaybeTerm × List Terminal)
+second_end read ts = elim (behind_closing_bracket ts) [
+  | Some rest ↦ Some (no_term, rest)
   | None ↦ (do
     e ← read level.Conditional ts
     rest ← behind_closing_bracket e.1
-    Some (by_ends from (a_term e.0), rest))
+    Some (a_term e.0, rest))
 ]
+
+-- behind the colon of a slice
+abbrev pub last_end : Reader → MaybeTerm → List Terminal → Option (Suffix × List Terminal)
+last_end read from ts = second_end read ts >>= λ to. Some (by_ends from to.0, to.1)
 
 -- behind the first expression in brackets
 abbrev pub behind_index : Reader → Term → List Terminal → Option (Suffix × List Terminal)

@@ -1,8 +1,8 @@
 //! Expressions read from the left, by one function for each kind of level.
-ghost use Rattle.std.specs.Prelude.{◌≡◌, ◌∷◌, [], List, Option, Some, None, option_map, IfOk, IfSome, length, ◌<◌, ◌≤◌};
+ghost use Rattle.std.specs.Prelude.{◌≡◌, ◌∷◌, [], List, Option, Some, None, option_map, Ok, Err, MatchResult, IfOk, IfSome, length, ◌<◌, ◌≤◌};
 ghost use Rattle.mpy_tree.specs.Syntax.{Term, Terms};
 ghost use Rattle.mpy_tree.specs.View.{term_of, terms_of, maybe_term};
-ghost use Rattle.mpy_parser.specs.Reading.{reading, at_level, conditional_tail, joint_tail, comparison_at, joint_before, suffix_at, last_end, elements, name_or_call, parenthesized, closed, behind_colon, behind_comma, atom};
+ghost use Rattle.mpy_parser.specs.Reading.{reading, at_level, conditional_tail, joint_tail, comparison_at, joint_before, suffix_at, second_end, elements, name_or_call, parenthesized, closed, behind_if, behind_else, behind_power, behind_bracket, behind_colon, behind_comma, atom};
 ghost use Rattle.mpy_parser.specs.Views.{suffix_of};
 ghost use Rattle.mpy_parser.specs.Levels.{IsChain, IsPrefix};
 ghost use Rattle.mpy_parser.specs.declared.levels.Level.TheVariants as level;
@@ -40,6 +40,55 @@ fn behind_comma(ts: &[Terminal]) -> Option<&[Terminal]>
     match ts {
         [Terminal::Word(Word::Comma), rest @ ..] => Some(rest),
         _ => None,
+    }
+}
+
+fn behind_if(ts: &[Terminal]) -> Option<&[Terminal]>
+    ensures { option_map (λ x. x.now) result ≡ behind_if ts.now }
+{
+    match ts {
+        [Terminal::Word(Word::If), rest @ ..] => Some(rest),
+        _ => None,
+    }
+}
+
+fn behind_else(ts: &[Terminal]) -> Option<&[Terminal]>
+    ensures { option_map (λ x. x.now) result ≡ behind_else ts.now }
+{
+    match ts {
+        [Terminal::Word(Word::Else), rest @ ..] => Some(rest),
+        _ => None,
+    }
+}
+
+fn behind_power(ts: &[Terminal]) -> Option<&[Terminal]>
+    ensures { option_map (λ x. x.now) result ≡ behind_power ts.now }
+{
+    match ts {
+        [Terminal::Word(Word::DoubleStar), rest @ ..] => Some(rest),
+        _ => None,
+    }
+}
+
+fn behind_bracket(ts: &[Terminal]) -> Option<&[Terminal]>
+    ensures { option_map (λ x. x.now) result ≡ behind_bracket ts.now }
+{
+    match ts {
+        [Terminal::Word(Word::LeftBracket), rest @ ..] => Some(rest),
+        _ => None,
+    }
+}
+
+// A value beside what is read behind it.
+fn beside<A: Drop, B>(
+    value: A,
+    read: Result<Option<B>, NoMemory>,
+) -> Result<Option<(A, B)>, NoMemory>
+    ensures { MatchResult read (λ r. result ≡ Ok (option_map (λ b. (value, b)) r)) (λ e. result ≡ Err e) }
+{
+    match read? {
+        None => Ok(None),
+        Some(b) => Ok(Some((value, b))),
     }
 }
 
@@ -89,16 +138,16 @@ fn conditional_tail(
     ensures same { IfOk result (λ r. option_map (λ x. (term_of x.0, term_of x.1, x.2.now)) r ≡ conditional_tail reading ts.now) }
     ensures shorter { IfOk result (λ r. IfSome r (λ x. length x.2.now < length ts.now)) }
 {
-    let [Terminal::Word(Word::If), ts @ ..] = ts else {
+    let Some(ts) = behind_if(ts) else {
         return Ok(None);
     };
     let Some((test, ts)) = expression(alloc, Level::Disjunction, ts)? else {
         return Ok(None);
     };
-    let [Terminal::Word(Word::Else), ts @ ..] = ts else {
+    let Some(ts) = behind_else(ts) else {
         return Ok(None);
     };
-    let Some((no, ts)) = expression(alloc, Level::Conditional, ts)? else {
+    let Some((test, (no, ts))) = beside(test, expression(alloc, Level::Conditional, ts))? else {
         return Ok(None);
     };
     Ok(Some((test, no, ts)))
@@ -231,7 +280,7 @@ fn power(alloc: Global, ts: &[Terminal]) -> Result<Option<(Expr, &[Terminal])>, 
     let Some((base, rest)) = expression(alloc, Level::Postfix, ts)? else {
         return Ok(None);
     };
-    let [Terminal::Word(Word::DoubleStar), behind @ ..] = rest else {
+    let Some(behind) = behind_power(rest) else {
         return Ok(Some((base, rest)));
     };
     let Some((exponent, end)) = expression(alloc, Level::Unary, behind)? else {
@@ -262,11 +311,14 @@ fn suffix_at(alloc: Global, ts: &[Terminal]) -> Result<Option<(Suffix, &[Termina
     ensures same { IfOk result (λ r. option_map (λ x. (suffix_of x.0, x.1.now)) r ≡ suffix_at reading ts.now) }
     ensures shorter { IfOk result (λ r. IfSome r (λ x. length x.1.now < length ts.now)) }
 {
-    let [Terminal::Word(Word::LeftBracket), ts @ ..] = ts else {
+    let Some(ts) = behind_bracket(ts) else {
         return Ok(None);
     };
     if let Some(ts) = behind_colon(ts) {
-        return last_end(alloc, None, ts);
+        let Some((to, rest)) = second_end(alloc, ts)? else {
+            return Ok(None);
+        };
+        return Ok(Some((Suffix::Slice(None, to), rest)));
     }
     let Some((index, ts)) = expression(alloc, Level::Conditional, ts)? else {
         return Ok(None);
@@ -274,32 +326,31 @@ fn suffix_at(alloc: Global, ts: &[Terminal]) -> Result<Option<(Suffix, &[Termina
     if let Some(rest) = behind_closing(Bracket::Square, ts) {
         return Ok(Some((Suffix::Index(index), rest)));
     }
-    match behind_colon(ts) {
-        None => Ok(None),
-        Some(ts) => last_end(alloc, Some(index), ts),
-    }
+    let Some(ts) = behind_colon(ts) else {
+        return Ok(None);
+    };
+    let Some((index, (to, rest))) = beside(index, second_end(alloc, ts))? else {
+        return Ok(None);
+    };
+    Ok(Some((Suffix::Slice(Some(index), to), rest)))
 }
 
 // The second end of a slice, and the closing bracket.
 #[cycle(expression)]
-fn last_end(
+fn second_end(
     alloc: Global,
-    from: Option<Expr>,
     ts: &[Terminal],
-) -> Result<Option<(Suffix, &[Terminal])>, NoMemory>
-    ensures same { IfOk result (λ r. option_map (λ x. (suffix_of x.0, x.1.now)) r ≡ last_end reading (maybe_term from) ts.now) }
+) -> Result<Option<(Option<Expr>, &[Terminal])>, NoMemory>
+    ensures same { IfOk result (λ r. option_map (λ x. (maybe_term x.0, x.1.now)) r ≡ second_end reading ts.now) }
     ensures shorter { IfOk result (λ r. IfSome r (λ x. length x.1.now < length ts.now)) }
 {
     if let Some(rest) = behind_closing(Bracket::Square, ts) {
-        return Ok(Some((Suffix::Slice(from, None), rest)));
+        return Ok(Some((None, rest)));
     }
     let Some((to, ts)) = expression(alloc, Level::Conditional, ts)? else {
         return Ok(None);
     };
-    let Some(rest) = behind_closing(Bracket::Square, ts) else {
-        return Ok(None);
-    };
-    Ok(Some((Suffix::Slice(from, Some(to)), rest)))
+    Ok(behind_closing(Bracket::Square, ts).map(|rest| (Some(to), rest)))
 }
 
 #[cycle(expression)]
@@ -350,10 +401,7 @@ fn parenthesized(alloc: Global, ts: &[Terminal]) -> Result<Option<(Expr, &[Termi
     let Some((e, ts)) = expression(alloc, Level::Conditional, ts)? else {
         return Ok(None);
     };
-    let Some(rest) = behind_closing(Bracket::Round, ts) else {
-        return Ok(None);
-    };
-    Ok(Some((e, rest)))
+    Ok(behind_closing(Bracket::Round, ts).map(|rest| (e, rest)))
 }
 
 // Expressions joined by commas, up to the closing bracket.

@@ -39,8 +39,8 @@ decreases-joint_tail l = 30 * length l.ts.now
 abbrev pub decreases-suffix_at : goal.decreases-suffix_at
 decreases-suffix_at l = 30 * length l.ts.now
 
-abbrev pub decreases-last_end : goal.decreases-last_end
-decreases-last_end l = 30 * length l.ts.now + 24
+abbrev pub decreases-second_end : goal.decreases-second_end
+decreases-second_end l = 30 * length l.ts.now + 24
 
 abbrev pub decreases-elements : goal.decreases-elements
 decreases-elements l = 30 * length l.ts.now + 24
