@@ -2,7 +2,7 @@
 use Rattle.std.proofs.Common.{◌≡◌, ℕ, Bool, true, false, List, [], ◌∷◌, ◌++◌, Option, Some, None, IfSome, cond, refl, ap, sym, ◌∙◌, subst, append_assoc, append-nil, codes}
 use Rattle.std.proofs.lemmas.Slice.Eq.{bytes_eq-Decides}
 use Rattle.mpy_tree.specs.declared.operators.ArithOp.{ArithOp}
-use Rattle.mpy_tree.specs.Syntax.{Term, Action, SetBy, SetAtBy, AppendTo, Nothing, Leave, Again}
+use Rattle.mpy_tree.specs.Syntax.{Term, Action, SetBy, AppendTo, Nothing, Leave, Again}
 use Rattle.mpy_parser.specs.declared.levels.Level.TheVariants as level
 use Rattle.mpy_parser.specs.declared.words.Word.{Word}
 use Rattle.mpy_parser.specs.declared.words.Word.TheVariants as word

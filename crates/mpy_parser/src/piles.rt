@@ -230,7 +230,9 @@ impl Pile {
         match entry.item {
             Item::Simple(act) => put(alloc, &mut self.groups, column, Stmt { line, act }),
             Item::Headed(header, behind) => {
-                let body = take_body(alloc, &mut self.groups, line, column, behind)?;
+                let (header, body) = take_body(alloc, &mut self.groups, line, column, behind).map(
+                    |body| (header, body),
+                )?;
                 self.add_header(alloc, line, column, header, body)
             }
         }
