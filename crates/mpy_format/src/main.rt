@@ -1,29 +1,44 @@
 //! The program `mpy_format`: prints programs in the standard layout.
 #![tactic(auto)]
 
+mod files;
 mod formatting;
 mod page;
 
-use crate::page::format_file;
+use crate::files::format_files;
 use grade_io::{HostShelf, HostSink, Status, status_number};
-use std::env;
+use std::io::ErrorKind;
 use std::process::ExitCode;
+use std::rt::Env;
+use std::{env, io};
+
+/// The files that the words after the program's name are. There are none where a word isn't UTF-8.
+///
+/// # Errors
+///
+/// Want of memory alone.
+fn files_of<R: Env + AllocGlobal>(rt: &R) -> io::Result<Vec<String>> {
+    let mut files = Vec::new(rt.alloc());
+    match env::args(rt) {
+        Ok(words) => {
+            for word in words.skip(1) {
+                files.push(word)?;
+            }
+            Ok(files)
+        }
+        Err(e) if e.kind() == ErrorKind::OutOfMemory => Err(e),
+        Err(_) => Ok(files),
+    }
+}
 
 fn main(rt: HostRuntime) -> ExitCode {
-    let Ok(words) = env::args(&rt) else {
-        return ExitCode::from(status_number(Status::Usage));
+    let status = match files_of(&rt) {
+        Ok(files) => {
+            let mut shelf = HostShelf::new(&rt);
+            let mut out = HostSink::new(&rt);
+            format_files(rt.alloc(), &files, &mut shelf, &mut out)
+        }
+        Err(_) => Status::NoMemory,
     };
-    let mut shelf = HostShelf::new(&rt);
-    let mut out = HostSink::new(&rt);
-    let mut status = Status::Usage;
-    for file in words.skip(1) {
-        let said = format_file(rt.alloc(), file.as_str(), &mut shelf, &mut out);
-        if status != Status::Refused || said != Status::Correct {
-            status = said;
-        }
-        if said != Status::Correct && said != Status::Refused {
-            break;
-        }
-    }
     ExitCode::from(status_number(status))
 }
