@@ -9,7 +9,8 @@ use Rattle.grade_top.specs.Rewriting.{Alternative}
 use Rattle.std.proofs.Common.{inl, inr}
 use Rattle.std.proofs.lemmas.Bool.{le-leb, cases_lt}
 use Rattle.std.proofs.lemmas.Bool.Decides.{nat_tests}
-use Rattle.mpy_tree.specs.Syntax.{Term, Number, Binary}
+use Rattle.mpy_tree.specs.Syntax.{Term}
+use Rattle.mpy_tree.specs.Syntax as ast
 use Rattle.grade_top.specs.Rewriting.{literals_in}
 use Rattle.grade_top.specs.Rewriting.{selections_of}
 use Rattle.grade_top.specs.Agreement.{Task, IsTooLarge, inputs_count}
@@ -45,8 +46,8 @@ one_more most w n some = elim (cases_le n most) [
 
 -- a count is the product of the choices, or none where that is above the limit
 pub counted_is : (most w n : ℕ) (e : Term) → 0 < w → counted most w e (at_most most n) ≡ at_most most (n * w ^ literals_in e)
-counted_is most w n (Number m) some = one_more most w n some
-counted_is most w n (Binary op a b) some =
+counted_is most w n (ast.Int m) some = one_more most w n some
+counted_is most w n (ast.Arith op a b) some =
     let first = counted_is most w n a some in
     let second = counted_is most w (n * w ^ literals_in a) b some in
     ap (counted most w b) first ∙ second ∙ ap (at_most most) (rw (pow-add w (literals_in a) (literals_in b)) (grind arith))

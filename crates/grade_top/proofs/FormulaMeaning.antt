@@ -15,7 +15,8 @@ use Rattle.mpy_tree.specs.Values.{◌>>=◌, fault, on_line, State, same_bytes, 
 use Rattle.mpy_tree.specs.Operations.{fits, number, arith as arith_op}
 use Rattle.mpy_tree.specs.Expressions.{Calls, value_of}
 use Rattle.mpy_tree.specs.Running.{calls_below, bound, given_by}
-use Rattle.mpy_tree.specs.Syntax.{Term, Number, Truth, Quoted, Var, Items, Minus, Negation, Binary, Compare, Both, Either, Choose, At, Cut, Apply}
+use Rattle.mpy_tree.specs.Syntax.{Term}
+use Rattle.mpy_tree.specs.Syntax as ast
 use Rattle.grade_top.specs.ProgramForm.{Function, program, IsFormula, IsSumOrProduct}
 use Rattle.grade_top.specs.BoundsForm.{Bounds}
 use Rattle.grade_top.specs.Agreement.{ends_on}
@@ -28,9 +29,9 @@ use Rattle.grade_top.specs.FormulaValues.{within, applied, combined, formula_val
 
 -- made of numbers and the parameter by sums and products, whatever the numbers
 abbrev pub IsOver : List ℕ → Term → Type 0
-IsOver x (Number n) = Unit {0}
-IsOver x (Var y) = y ≡ x
-IsOver x (Binary op a b) = IsSumOrProduct op × IsOver x a × IsOver x b
+IsOver x (ast.Int n) = Unit {0}
+IsOver x (ast.Name y) = y ≡ x
+IsOver x (ast.Arith op a b) = IsSumOrProduct op × IsOver x a × IsOver x b
 IsOver x _ = ⊥
 
 -- an evaluation on a line, by a value or none
@@ -62,24 +63,24 @@ operands l line op (Some a) (Some b) small = one_operation l line op a b small
 
 -- a formula's value is what it is evaluated to, in each state that gives its parameter this number
 pub value_by : (l : Limits) (calls : Calls) (s : State) (line : ℕ) (x : List ℕ) (z : ℤ) (e : Term) → IsOver x e → s x ≡ Some (value.Int z) → value_of l calls s line e ≡ result_by line (formula_value l z e)
-value_by l calls s line x z (Number n) over set = number_within l line (pos n) (fits l (pos n)) refl
-value_by l calls s line x z (Var y) over set = rw (over, set) refl
-value_by l calls s line x z (Binary op a b) over set =
+value_by l calls s line x z (ast.Int n) over set = number_within l line (pos n) (fits l (pos n)) refl
+value_by l calls s line x z (ast.Name y) over set = rw (over, set) refl
+value_by l calls s line x z (ast.Arith op a b) over set =
     let left = value_by l calls s line x z a over.1 set in
     let right = value_by l calls s line x z b over.2 set in
     rw (left, right) (operands l line op (formula_value l z a) (formula_value l z b) over.0)
-value_by l calls s line x z (Truth b) over set = absurd over
-value_by l calls s line x z (Quoted cs) over set = absurd over
-value_by l calls s line x z (Items es) over set = absurd over
-value_by l calls s line x z (Minus e) over set = absurd over
-value_by l calls s line x z (Negation e) over set = absurd over
-value_by l calls s line x z (Compare op a b) over set = absurd over
-value_by l calls s line x z (Both a b) over set = absurd over
-value_by l calls s line x z (Either a b) over set = absurd over
-value_by l calls s line x z (Choose t a b) over set = absurd over
-value_by l calls s line x z (At v i) over set = absurd over
-value_by l calls s line x z (Cut v from to) over set = absurd over
-value_by l calls s line x z (Apply g es) over set = absurd over
+value_by l calls s line x z (ast.Bool b) over set = absurd over
+value_by l calls s line x z (ast.Text cs) over set = absurd over
+value_by l calls s line x z (ast.List es) over set = absurd over
+value_by l calls s line x z (ast.Neg e) over set = absurd over
+value_by l calls s line x z (ast.Not e) over set = absurd over
+value_by l calls s line x z (ast.Cmp op a b) over set = absurd over
+value_by l calls s line x z (ast.And a b) over set = absurd over
+value_by l calls s line x z (ast.Or a b) over set = absurd over
+value_by l calls s line x z (ast.Cond t a b) over set = absurd over
+value_by l calls s line x z (ast.Index v i) over set = absurd over
+value_by l calls s line x z (ast.Slice v from to) over set = absurd over
+value_by l calls s line x z (ast.Call g es) over set = absurd over
 
 -- the state in which a function of one parameter begins
 begins : (x : List ℕ) (z : ℤ) → bound (x ∷ []) (value.Int z ∷ []) x ≡ Some (value.Int z)
@@ -101,37 +102,37 @@ pub ends_by_value : (b : Bounds) (f : Function) (z : ℤ) → IsOver f.param f.b
 ends_by_value b f z over = below_depth b.limits b.entry f z b.limits.depth b.limits.depth_range.0 over
 
 pub over_formula : (x : List ℕ) (e : Term) → IsFormula x e → IsOver x e
-over_formula x (Number n) h = tt
-over_formula x (Var y) h = h
-over_formula x (Binary op a b) h = (h.0, over_formula x a h.1, over_formula x b h.2)
-over_formula x (Truth b) h = h
-over_formula x (Quoted cs) h = h
-over_formula x (Items es) h = h
-over_formula x (Minus e) h = h
-over_formula x (Negation e) h = h
-over_formula x (Compare op a b) h = h
-over_formula x (Both a b) h = h
-over_formula x (Either a b) h = h
-over_formula x (Choose t a b) h = h
-over_formula x (At v i) h = h
-over_formula x (Cut v from to) h = h
-over_formula x (Apply g es) h = h
+over_formula x (ast.Int n) h = tt
+over_formula x (ast.Name y) h = h
+over_formula x (ast.Arith op a b) h = (h.0, over_formula x a h.1, over_formula x b h.2)
+over_formula x (ast.Bool b) h = h
+over_formula x (ast.Text cs) h = h
+over_formula x (ast.List es) h = h
+over_formula x (ast.Neg e) h = h
+over_formula x (ast.Not e) h = h
+over_formula x (ast.Cmp op a b) h = h
+over_formula x (ast.And a b) h = h
+over_formula x (ast.Or a b) h = h
+over_formula x (ast.Cond t a b) h = h
+over_formula x (ast.Index v i) h = h
+over_formula x (ast.Slice v from to) h = h
+over_formula x (ast.Call g es) h = h
 
 -- rewriting keeps the parameter and the operations
 pub over_rewriting : (rules : List Rule) (x : List ℕ) (line : ℕ) (e e' : Term) (cost : ℕ) (edits : List Edit) → IsOver x e → Rewrites rules line e e' cost edits → IsOver x e'
-over_rewriting rules x line (Number n) e' cost edits over w = elim w [ inl kept ↦ rw kept.term tt | inr new ↦ rw new.term tt ]
-over_rewriting rules x line (Var y) e' cost edits over w = rw w.term over
-over_rewriting rules x line (Binary op a b) e' cost edits over w =
+over_rewriting rules x line (ast.Int n) e' cost edits over w = elim w [ inl kept ↦ rw kept.term tt | inr new ↦ rw new.term tt ]
+over_rewriting rules x line (ast.Name y) e' cost edits over w = rw w.term over
+over_rewriting rules x line (ast.Arith op a b) e' cost edits over w =
     rw w.3 (over.0, over_rewriting rules x line a w.0.left w.0.left_cost w.0.left_edits over.1 w.1, over_rewriting rules x line b w.0.right w.0.right_cost w.0.right_edits over.2 w.2)
-over_rewriting rules x line (Truth b) e' cost edits over w = absurd w
-over_rewriting rules x line (Quoted cs) e' cost edits over w = absurd w
-over_rewriting rules x line (Items es) e' cost edits over w = absurd w
-over_rewriting rules x line (Minus e) e' cost edits over w = absurd w
-over_rewriting rules x line (Negation e) e' cost edits over w = absurd w
-over_rewriting rules x line (Compare op a b) e' cost edits over w = absurd w
-over_rewriting rules x line (Both a b) e' cost edits over w = absurd w
-over_rewriting rules x line (Either a b) e' cost edits over w = absurd w
-over_rewriting rules x line (Choose t a b) e' cost edits over w = absurd w
-over_rewriting rules x line (At v i) e' cost edits over w = absurd w
-over_rewriting rules x line (Cut v from to) e' cost edits over w = absurd w
-over_rewriting rules x line (Apply g es) e' cost edits over w = absurd w
+over_rewriting rules x line (ast.Bool b) e' cost edits over w = absurd w
+over_rewriting rules x line (ast.Text cs) e' cost edits over w = absurd w
+over_rewriting rules x line (ast.List es) e' cost edits over w = absurd w
+over_rewriting rules x line (ast.Neg e) e' cost edits over w = absurd w
+over_rewriting rules x line (ast.Not e) e' cost edits over w = absurd w
+over_rewriting rules x line (ast.Cmp op a b) e' cost edits over w = absurd w
+over_rewriting rules x line (ast.And a b) e' cost edits over w = absurd w
+over_rewriting rules x line (ast.Or a b) e' cost edits over w = absurd w
+over_rewriting rules x line (ast.Cond t a b) e' cost edits over w = absurd w
+over_rewriting rules x line (ast.Index v i) e' cost edits over w = absurd w
+over_rewriting rules x line (ast.Slice v from to) e' cost edits over w = absurd w
+over_rewriting rules x line (ast.Call g es) e' cost edits over w = absurd w

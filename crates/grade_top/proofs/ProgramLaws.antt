@@ -3,7 +3,8 @@ use Rattle.std.proofs.Common.{◌≡◌, ℕ, List, [], ◌∷◌, ap}
 use Rattle.mpy_tree.specs.declared.refusal.Cause.{Cause}
 use Rattle.mpy_tree.specs.declared.refusal.Cause.TheVariants as cause
 use Rattle.mpy_tree.specs.declared.refusal.Source.TheVariants as source
-use Rattle.mpy_tree.specs.Syntax.{Term, a_term, at, Give, Block, end, step, Routine}
+use Rattle.mpy_tree.specs.Syntax.{Term, a_term, at, Block, end, step, Routine}
+use Rattle.mpy_tree.specs.Syntax as ast
 use Rattle.mpy_lexer.specs.declared.line.LexCause.{LexCause}
 use Rattle.mpy_lexer.specs.declared.line.LexCause.TheVariants as lex_cause
 use Rattle.mpy_parser.proofs.OneAnswer.{one_program as one_reading, not_refused}
@@ -18,7 +19,7 @@ same_item x y h = cc
 
 -- a body of one `return`
 abbrev returning : ℕ → Term → Block
-returning line e = step (at line (Give (a_term e))) end
+returning line e = step (at line (ast.Return (a_term e))) end
 
 same_line : (line other : ℕ) (e f : Term) → returning line e ≡ returning other f → line ≡ other
 same_line line other e f h = cc

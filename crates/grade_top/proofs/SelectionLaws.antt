@@ -5,7 +5,8 @@ use Rattle.std.proofs.lemmas.Nat.{div-mul-add, mod-mul-add, mod_below, pow-add}
 use Rattle.std.proofs.lemmas.Option.{slice_get_within}
 use Rattle.std.proofs.Math.Nat.{mul-le-mul_left, pow-suc, pow-zero}
 use Rattle.mpy_tree.specs.declared.operators.ArithOp.{ArithOp}
-use Rattle.mpy_tree.specs.Syntax.{Term, Number, Truth, Quoted, Var, Items, Minus, Negation, Binary, Compare, Both, Either, Choose, At, Cut, Apply}
+use Rattle.mpy_tree.specs.Syntax.{Term}
+use Rattle.mpy_tree.specs.Syntax as ast
 use Rattle.grade_top.specs.RulesForm.{Rule}
 use Rattle.grade_top.specs.ProgramForm.{IsFormula}
 use Rattle.grade_top.specs.Rewriting.{Edit, Alternative, alternatives, Rewrites, IsKept, IsReplaced, Operands, literals_in}
@@ -16,7 +17,7 @@ digit_below : (alts : List Alternative) (d : ℕ) (a : Alternative) → slice_ge
 digit_below alts d a h = let below = slice_get_within alts d a h in omega arith
 
 -- what is taken, or nothing
-taken_rewrites : (rules : List Rule) (line n d : ℕ) (o : Option Alternative) → taken (alternatives rules) d ≡ o → Rewrites rules line (Number n) (literal_of n o) (cost_by o) (edits_by line n o)
+taken_rewrites : (rules : List Rule) (line n d : ℕ) (o : Option Alternative) → taken (alternatives rules) d ≡ o → Rewrites rules line (ast.Int n) (literal_of n o) (cost_by o) (edits_by line n o)
 taken_rewrites rules line n d None h = inl (record { term = refl; cost_is = refl; edits_are = refl })
 taken_rewrites rules line n zero (Some a) h = cc
 taken_rewrites rules line n (suc d) (Some a) h = inr (record { place = d; alternative = a; listed = h; term = refl; cost_is = refl; edits_are = refl })
@@ -24,9 +25,9 @@ taken_rewrites rules line n (suc d) (Some a) h = inr (record { place = d; altern
 -- a selection makes a rewriting
 pub selection_rewrites : (rules : List Rule) (x : List ℕ) (line : ℕ) (e : Term) (j : ℕ) → IsFormula x e
     → Rewrites rules line e (chosen (alternatives rules) e j) (cost_of (alternatives rules) e j) (edits_of (alternatives rules) line e j)
-selection_rewrites rules x line (Number n) j f = taken_rewrites rules line n (next_digit (alternatives rules) j) _ refl
-selection_rewrites rules x line (Var y) j f = record { term = refl; cost_is = refl; edits_are = refl }
-selection_rewrites rules x line (Binary op a b) j f =
+selection_rewrites rules x line (ast.Int n) j f = taken_rewrites rules line n (next_digit (alternatives rules) j) _ refl
+selection_rewrites rules x line (ast.Name y) j f = record { term = refl; cost_is = refl; edits_are = refl }
+selection_rewrites rules x line (ast.Arith op a b) j f =
     let alts = alternatives rules in
     let k = rest_of alts a j in (
       record { left = chosen alts a j; left_cost = cost_of alts a j; left_edits = edits_of alts line a j; right = chosen alts b k; right_cost = cost_of alts b k; right_edits = edits_of alts line b k },
@@ -36,18 +37,18 @@ selection_rewrites rules x line (Binary op a b) j f =
       refl,
       refl,
     )
-selection_rewrites rules x line (Truth b) j f = absurd f
-selection_rewrites rules x line (Quoted cs) j f = absurd f
-selection_rewrites rules x line (Items es) j f = absurd f
-selection_rewrites rules x line (Minus e) j f = absurd f
-selection_rewrites rules x line (Negation e) j f = absurd f
-selection_rewrites rules x line (Compare op a b) j f = absurd f
-selection_rewrites rules x line (Both a b) j f = absurd f
-selection_rewrites rules x line (Either a b) j f = absurd f
-selection_rewrites rules x line (Choose t a b) j f = absurd f
-selection_rewrites rules x line (At v i) j f = absurd f
-selection_rewrites rules x line (Cut v from to) j f = absurd f
-selection_rewrites rules x line (Apply g es) j f = absurd f
+selection_rewrites rules x line (ast.Bool b) j f = absurd f
+selection_rewrites rules x line (ast.Text cs) j f = absurd f
+selection_rewrites rules x line (ast.List es) j f = absurd f
+selection_rewrites rules x line (ast.Neg e) j f = absurd f
+selection_rewrites rules x line (ast.Not e) j f = absurd f
+selection_rewrites rules x line (ast.Cmp op a b) j f = absurd f
+selection_rewrites rules x line (ast.And a b) j f = absurd f
+selection_rewrites rules x line (ast.Or a b) j f = absurd f
+selection_rewrites rules x line (ast.Cond t a b) j f = absurd f
+selection_rewrites rules x line (ast.Index v i) j f = absurd f
+selection_rewrites rules x line (ast.Slice v from to) j f = absurd f
+selection_rewrites rules x line (ast.Call g es) j f = absurd f
 
 -- A selection that makes this rewriting, before the selection r of what follows.
 pub record Selects (alts : List Alternative) (line : ℕ) (e e' : Term) (cost : ℕ) (edits : List Edit) (r : ℕ) : Type 0 where
@@ -66,7 +67,7 @@ below_same w r = rw (pow-zero w) (omega arith)
 
 -- the selection whose first digit is d
 with_digit : (alts : List Alternative) (line n d r : ℕ) (o : Option Alternative) → d < choices_of alts → taken alts d ≡ o
-    → Selects alts line (Number n) (literal_of n o) (cost_by o) (edits_by line n o) r
+    → Selects alts line (ast.Int n) (literal_of n o) (cost_by o) (edits_by line n o) r
 with_digit alts line n d r o h t =
     let low : next_digit alts (r * choices_of alts + d) ≡ d = mod-mul-add r (choices_of alts) d h in
     let picked : taken alts (next_digit alts (r * choices_of alts + d)) ≡ o = ap (taken alts) low ∙ t in
@@ -89,12 +90,12 @@ both_below w m n ja jb r ha hb =
 -- every rewriting is made by a selection
 pub rewriting_selected : (rules : List Rule) (line : ℕ) (e e' : Term) (cost : ℕ) (edits : List Edit) (r : ℕ) → Rewrites rules line e e' cost edits
     → Selects (alternatives rules) line e e' cost edits r
-rewriting_selected rules line (Number n) e' cost edits r w = elim w [
+rewriting_selected rules line (ast.Int n) e' cost edits r w = elim w [
   | inl kept ↦ rw (kept.term, kept.cost_is, kept.edits_are) (with_digit (alternatives rules) line n 0 r None (omega arith) refl)
   | inr new ↦ rw (new.term, new.cost_is, new.edits_are) (with_digit (alternatives rules) line n (suc new.place) r (Some new.alternative) (digit_below (alternatives rules) new.place new.alternative new.listed) new.listed)
 ]
-rewriting_selected rules line (Var x) e' cost edits r w = rw (w.term, w.cost_is, w.edits_are) (record { number = r; term = refl; cost_is = refl; edits_are = refl; rest = refl; below = below_same (choices_of (alternatives rules)) r })
-rewriting_selected rules line (Binary op a b) e' cost edits r w =
+rewriting_selected rules line (ast.Name x) e' cost edits r w = rw (w.term, w.cost_is, w.edits_are) (record { number = r; term = refl; cost_is = refl; edits_are = refl; rest = refl; below = below_same (choices_of (alternatives rules)) r })
+rewriting_selected rules line (ast.Arith op a b) e' cost edits r w =
     let o = w.0 in
     let alts = alternatives rules in
     let right = rewriting_selected rules line b o.right o.right_cost o.right_edits r w.2 in
@@ -107,15 +108,15 @@ rewriting_selected rules line (Binary op a b) e' cost edits r w =
       rest = ap (rest_of alts b) left.rest ∙ right.rest;
       below = both_below (choices_of alts) (literals_in a) (literals_in b) left.number right.number r left.below right.below;
     })
-rewriting_selected rules line (Truth b) e' cost edits r w = absurd w
-rewriting_selected rules line (Quoted cs) e' cost edits r w = absurd w
-rewriting_selected rules line (Items es) e' cost edits r w = absurd w
-rewriting_selected rules line (Minus e) e' cost edits r w = absurd w
-rewriting_selected rules line (Negation e) e' cost edits r w = absurd w
-rewriting_selected rules line (Compare op a b) e' cost edits r w = absurd w
-rewriting_selected rules line (Both a b) e' cost edits r w = absurd w
-rewriting_selected rules line (Either a b) e' cost edits r w = absurd w
-rewriting_selected rules line (Choose t a b) e' cost edits r w = absurd w
-rewriting_selected rules line (At v i) e' cost edits r w = absurd w
-rewriting_selected rules line (Cut v from to) e' cost edits r w = absurd w
-rewriting_selected rules line (Apply g es) e' cost edits r w = absurd w
+rewriting_selected rules line (ast.Bool b) e' cost edits r w = absurd w
+rewriting_selected rules line (ast.Text cs) e' cost edits r w = absurd w
+rewriting_selected rules line (ast.List es) e' cost edits r w = absurd w
+rewriting_selected rules line (ast.Neg e) e' cost edits r w = absurd w
+rewriting_selected rules line (ast.Not e) e' cost edits r w = absurd w
+rewriting_selected rules line (ast.Cmp op a b) e' cost edits r w = absurd w
+rewriting_selected rules line (ast.And a b) e' cost edits r w = absurd w
+rewriting_selected rules line (ast.Or a b) e' cost edits r w = absurd w
+rewriting_selected rules line (ast.Cond t a b) e' cost edits r w = absurd w
+rewriting_selected rules line (ast.Index v i) e' cost edits r w = absurd w
+rewriting_selected rules line (ast.Slice v from to) e' cost edits r w = absurd w
+rewriting_selected rules line (ast.Call g es) e' cost edits r w = absurd w

@@ -4,7 +4,8 @@ use Rattle.std.specs.Prelude.{◌||◌}
 use Rattle.std.proofs.lemmas.Bool.{ltb-false}
 use Rattle.std.proofs.Math.Nat.{pow-suc}
 use Rattle.std.proofs.Math.Pow.{pow_mono}
-use Rattle.mpy_tree.specs.Syntax.{Term, Number, Binary, a_term, at, Give, end, step}
+use Rattle.mpy_tree.specs.Syntax.{Term, a_term, at, end, step}
+use Rattle.mpy_tree.specs.Syntax as ast
 use Rattle.mpy_parser.specs.Limits.{depth, has_long, is_large, is_large_header, limit_lines, line_if}
 use Rattle.mpy_parser.specs.Programs.{IsProgram as IsRead}
 use Rattle.grade_top.specs.ProgramForm.{Function, program}
@@ -20,8 +21,8 @@ double m n a b left right =
 
 -- a term of a depth has at most half as many literals as the power of two
 literals_by_depth : (e : Term) → 2 * literals_in e ≤ 2 ^ depth e
-literals_by_depth (Number n) = omega arith
-literals_by_depth (Binary op a b) = double (literals_in a) (literals_in b) (depth a) (depth b) (literals_by_depth a) (literals_by_depth b)
+literals_by_depth (ast.Int n) = omega arith
+literals_by_depth (ast.Arith op a b) = double (literals_in a) (literals_in b) (depth a) (depth b) (literals_by_depth a) (literals_by_depth b)
 literals_by_depth _ = omega arith
 
 second_line : (a b : Bool) (m n : ℕ) → (line_if a m ++ (line_if b n ++ [])) ++ [] ≡ [] → b ≡ false
@@ -36,7 +37,7 @@ first_false false b h = refl
 -- a program that no limit refuses isn't deep
 shallow : (entry : List ℕ) (f : Function) → limit_lines (program entry f) ≡ [] → depth f.body ≤ 32
 shallow entry f none =
-    let small : is_large f.body ≡ false = second_line (is_large_header (record { line = f.line; name = entry; params = f.param ∷ []; body = step (at f.body_line (Give (a_term f.body))) end })) (is_large f.body) f.line f.body_line none in
+    let small : is_large f.body ≡ false = second_line (is_large_header (record { line = f.line; name = entry; params = f.param ∷ []; body = step (at f.body_line (ast.Return (a_term f.body))) end })) (is_large f.body) f.line f.body_line none in
     ltb-false 32 (depth f.body) (first_false _ (has_long f.body) small)
 
 pub few_literals : (bytes entry : List ℕ) (f : Function) → IsRead bytes (program entry f) → literals_in f.body ≤ 2 ^ 31

@@ -8,7 +8,8 @@ use Rattle.mpy_tree.specs.declared.outcome.Outcome.{Outcome}
 use Rattle.mpy_tree.specs.declared.outcome.Outcome.TheVariants as outcome
 use Rattle.mpy_tree.specs.declared.outcome.FaultKind.TheVariants.{Overflow}
 use Rattle.mpy_tree.specs.Operations.{fits}
-use Rattle.mpy_tree.specs.Syntax.{Term, Number, Var, Binary}
+use Rattle.mpy_tree.specs.Syntax.{Term}
+use Rattle.mpy_tree.specs.Syntax as ast
 
 -- a number of the width
 abbrev pub within : Limits → ℤ → Option ℤ
@@ -29,9 +30,9 @@ combined l op (Some a) (Some b) = within l (applied op a b)
 
 -- the value of a formula where its parameter is z
 abbrev pub formula_value : Limits → ℤ → Term → Option ℤ
-formula_value l z (Number n) = within l (pos n)
-formula_value l z (Var x) = Some z
-formula_value l z (Binary op a b) = combined l op (formula_value l z a) (formula_value l z b)
+formula_value l z (ast.Int n) = within l (pos n)
+formula_value l z (ast.Name x) = Some z
+formula_value l z (ast.Arith op a b) = combined l op (formula_value l z a) (formula_value l z b)
 formula_value l z _ = None
 
 -- how the program of a formula ends that has this value, where its `return` stands on the line

@@ -4,7 +4,8 @@ use Rattle.mpy_tree.specs.declared.operators.ArithOp.{ArithOp}
 use Rattle.mpy_tree.specs.declared.operators.ArithOp.TheVariants.{Add, Sub, Mul, Floor, Rem, Power}
 use Rattle.mpy_tree.specs.declared.refusal.Cause.{Cause}
 use Rattle.mpy_tree.specs.declared.refusal.Cause.TheVariants as cause
-use Rattle.mpy_tree.specs.Syntax.{Term, Number, Var, Binary, a_term, at, Give, end, step, Routine}
+use Rattle.mpy_tree.specs.Syntax.{Term, a_term, at, end, step, Routine}
+use Rattle.mpy_tree.specs.Syntax as ast
 use Rattle.mpy_parser.specs.Programs.{IsProgram as IsRead, IsRefused}
 use Rattle.grade_top.specs.Names.{is_in, builtins}
 
@@ -16,7 +17,7 @@ pub record Function : Type 0 where
   pub body : Term
 
 abbrev pub program : List ℕ → Function → List Routine
-program entry f = record { line = f.line; name = entry; params = f.param ∷ []; body = step (at f.body_line (Give (a_term f.body))) end } ∷ []
+program entry f = record { line = f.line; name = entry; params = f.param ∷ []; body = step (at f.body_line (ast.Return (a_term f.body))) end } ∷ []
 
 abbrev pub IsSumOrProduct : ArithOp → Type 0
 IsSumOrProduct Add = Unit {0}
@@ -28,9 +29,9 @@ IsSumOrProduct Power = ⊥
 
 -- made of numbers and the parameter, with `+`, `-` and `*`
 abbrev pub IsFormula : List ℕ → Term → Type 0
-IsFormula x (Number n) = Unit {0}
-IsFormula x (Var y) = y ≡ x
-IsFormula x (Binary op a b) = IsSumOrProduct op × IsFormula x a × IsFormula x b
+IsFormula x (ast.Int n) = Unit {0}
+IsFormula x (ast.Name y) = y ≡ x
+IsFormula x (ast.Arith op a b) = IsSumOrProduct op × IsFormula x a × IsFormula x b
 IsFormula x _ = ⊥
 
 -- a function that is graded: no builtin has the entry's name, and the body is a formula of the parameter

@@ -1,6 +1,7 @@
 -- What a program's text is, as the code answers it.
 use Rattle.std.specs.Prelude.{◌≡◌, ℕ, List}
-use Rattle.mpy_tree.specs.Syntax.{Term, a_term, at, Give, Statement, Routine}
+use Rattle.mpy_tree.specs.Syntax.{Term, a_term, at, Statement, Routine}
+use Rattle.mpy_tree.specs.Syntax as ast
 use Rattle.grade_top.specs.declared.program_form.ProgramRead.{ProgramRead}
 use Rattle.grade_top.specs.declared.program_form.ProgramRead.TheVariants.{Read, Refused}
 use Rattle.grade_top.specs.ProgramForm.{Function, IsForm, IsFormula, IsProgram, IsProgramRefused, program}
@@ -13,7 +14,7 @@ pub record IsFormulaOf (x : List ℕ) (e read : Term) : Type 0 where
 
 -- the statement returns the term
 abbrev pub Gives : Statement → ℕ → Term → Type 0
-Gives s line e = s ≡ at line (Give (a_term e))
+Gives s line e = s ≡ at line (ast.Return (a_term e))
 
 abbrev pub GivesNothing : Statement → Type 0
 GivesNothing s = (line : ℕ) (e : Term) → Gives s line e → ⊥

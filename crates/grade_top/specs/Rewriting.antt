@@ -1,6 +1,7 @@
 -- Which terms the rules make of a term, at which cost, and by which edits.
 use Rattle.std.specs.Prelude.{◌≡◌, ◌⊎◌, ℕ, suc, ◌+◌, ◌^◌, List, [], ◌∷◌, ◌++◌, map, length, slice_get, Some}
-use Rattle.mpy_tree.specs.Syntax.{Term, Number, Var, Binary}
+use Rattle.mpy_tree.specs.Syntax.{Term}
+use Rattle.mpy_tree.specs.Syntax as ast
 use Rattle.grade_top.specs.RulesForm.{Rule}
 use Rattle.grade_top.specs.ProgramForm.{Function}
 
@@ -43,9 +44,9 @@ pub record IsReplaced (rules : List Rule) (line n : ℕ) (e' : Term) (cost : ℕ
   pub place : ℕ
   pub alternative : Alternative
   pub listed : slice_get (alternatives rules) place ≡ Some alternative
-  pub term : e' ≡ Number alternative.literal
+  pub term : e' ≡ ast.Int alternative.literal
   pub cost_is : cost ≡ alternative.cost
-  pub edits_are : edits ≡ record { line = line; rule = alternative.rule; old = Number n; new = Number alternative.literal } ∷ []
+  pub edits_are : edits ≡ record { line = line; rule = alternative.rule; old = ast.Int n; new = ast.Int alternative.literal } ∷ []
 
 -- a rewriting of the operation's operands
 pub record Operands : Type 0 where
@@ -58,11 +59,11 @@ pub record Operands : Type 0 where
 
 -- the rules make e' of e on this line, at this cost, by these edits, from left to right
 abbrev pub Rewrites : List Rule → ℕ → Term → Term → ℕ → List Edit → Type 0
-Rewrites rules line (Number n) e' cost edits = IsKept (Number n) e' cost edits ⊎ IsReplaced rules line n e' cost edits
-Rewrites rules line (Var x) e' cost edits = IsKept (Var x) e' cost edits
-Rewrites rules line (Binary op a b) e' cost edits =
+Rewrites rules line (ast.Int n) e' cost edits = IsKept (ast.Int n) e' cost edits ⊎ IsReplaced rules line n e' cost edits
+Rewrites rules line (ast.Name x) e' cost edits = IsKept (ast.Name x) e' cost edits
+Rewrites rules line (ast.Arith op a b) e' cost edits =
     (o : Operands) × Rewrites rules line a o.left o.left_cost o.left_edits × Rewrites rules line b o.right o.right_cost o.right_edits
-    × (e' ≡ Binary op o.left o.right) × (cost ≡ o.left_cost + o.right_cost) × (edits ≡ o.left_edits ++ o.right_edits)
+    × (e' ≡ ast.Arith op o.left o.right) × (cost ≡ o.left_cost + o.right_cost) × (edits ≡ o.left_edits ++ o.right_edits)
 Rewrites rules line _ e' cost edits = ⊥
 
 -- the same of a function, on the line of its `return`; all but the body stays
@@ -72,8 +73,8 @@ pub record IsRewriting (rules : List Rule) (s p : Function) (cost : ℕ) (edits 
 
 -- how many number literals a term has
 abbrev pub literals_in : Term → ℕ
-literals_in (Number n) = 1
-literals_in (Binary op a b) = literals_in a + literals_in b
+literals_in (ast.Int n) = 1
+literals_in (ast.Arith op a b) = literals_in a + literals_in b
 literals_in _ = 0
 
 -- the number of ways to keep or replace each literal

@@ -1,6 +1,7 @@
 -- The code's rewritings as the definitions see them.
 use Rattle.std.specs.Prelude.{ℕ, List, map}
-use Rattle.mpy_tree.specs.Syntax.{Term, Number}
+use Rattle.mpy_tree.specs.Syntax.{Term}
+use Rattle.mpy_tree.specs.Syntax as ast
 use Rattle.grade_top.specs.declared.formula.Formula.{Formula}
 use Rattle.grade_top.specs.declared.alternatives.Alternative as code_alternative
 use Rattle.grade_top.specs.declared.rewritings.Edit as code_edit
@@ -13,7 +14,7 @@ abbrev pub alternative_of : code_alternative.Alternative → Alternative
 alternative_of a = record { rule = a.rule; cost = a.cost; literal = a.literal }
 
 abbrev pub edit_of : code_edit.Edit → Edit
-edit_of e = record { line = e.line; rule = e.rule; old = Number e.old; new = Number e.new }
+edit_of e = record { line = e.line; rule = e.rule; old = ast.Int e.old; new = ast.Int e.new }
 
 abbrev pub alternatives_seen : Rewritings → List Alternative
 alternatives_seen r = map alternative_of r.alternatives.now

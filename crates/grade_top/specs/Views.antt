@@ -2,7 +2,8 @@
 use Rattle.std.specs.Prelude.{ℕ, List, map}
 use Rattle.mpy_tree.specs.declared.operators.ArithOp.{ArithOp}
 use Rattle.mpy_tree.specs.declared.operators.ArithOp.TheVariants as arith
-use Rattle.mpy_tree.specs.Syntax.{Term, Number, Var, Binary}
+use Rattle.mpy_tree.specs.Syntax.{Term}
+use Rattle.mpy_tree.specs.Syntax as ast
 use Rattle.grade_top.specs.declared.formula.Operation.{Operation}
 use Rattle.grade_top.specs.declared.formula.Operation.TheVariants as operation
 use Rattle.grade_top.specs.declared.formula.Formula.{Formula}
@@ -23,9 +24,9 @@ operator_of operation.Sub = arith.Sub
 operator_of operation.Mul = arith.Mul
 
 abbrev pub formula_step : List ℕ → F.Formula-F Term → Term
-formula_step x (F.Number n) = Number n
-formula_step x F.Param = Var x
-formula_step x (F.Binary op a b) = Binary (operator_of op) a.value b.value
+formula_step x (F.Number n) = ast.Int n
+formula_step x F.Param = ast.Name x
+formula_step x (F.Binary op a b) = ast.Arith (operator_of op) a.value b.value
 
 -- the term of a formula of this parameter
 abbrev pub term_of : List ℕ → Formula → Term

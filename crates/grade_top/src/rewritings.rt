@@ -4,7 +4,7 @@
 //! digit takes one of the alternatives.
 ghost use Rattle.std.specs.Prelude.{◌≡◌, ◌+◌, ◌*◌, ◌^◌, ◌<◌, ◌≤◌, ◌++◌, ◌/◌, IfOk, OnOk, IfSome, IfNone, length, map, slice_get};
 ghost use Rattle.std.specs.Option.{option_map};
-ghost use Rattle.mpy_tree.specs.Syntax.{Number};
+ghost use Rattle.mpy_tree.specs.Syntax as ast;
 ghost use Rattle.grade_top.specs.Rewriting.{literals_in};
 ghost use Rattle.grade_top.specs.Selections.{at_most, choices_of, cost_by, counted, literal_of, next_digit, taken, times_at_most};
 ghost use Rattle.grade_top.specs.RewritingViews.{alternative_of, alternatives_seen, chosen_by, cost_under, edit_of, edits_under, formula_in, rest_under};
@@ -139,7 +139,7 @@ pub(crate) fn selections(rewritings: &Rewritings<'_>, formula: &Formula, most: u
 
 /// The number that stands in place of a literal.
 pub(crate) fn literal(n: u32, taken: Option<Alternative>) -> u32
-    ensures { Number result ≡ literal_of n (option_map alternative_of taken) }
+    ensures { ast.Int result ≡ literal_of n (option_map alternative_of taken) }
 {
     match taken {
         None => n,

@@ -12,48 +12,49 @@ use Rattle.mpy_tree.specs.declared.tree.Act.{Act, Assign, Augment, Put, AugmentA
 use Rattle.mpy_tree.specs.declared.tree.Act.TheVariants.{rolls-Assign, rolls-Augment, rolls-Put, rolls-AugmentAt, rolls-Append, rolls-Return, rolls-While, rolls-For}
 use Rattle.mpy_tree.specs.declared.tree.Act.TheFolds.{fold-roll-Act}
 use Rattle.mpy_tree.specs.declared.tree.Act.TheOpen as G
-use Rattle.mpy_tree.specs.Syntax.{Action, Branch, Branches, Statement, Block, SetTo, SetBy, SetAt, SetAtBy, AppendTo, Give, Loop, Each}
+use Rattle.mpy_tree.specs.Syntax.{Action, Branch, Branches, Statement, Block}
+use Rattle.mpy_tree.specs.Syntax as ast
 use Rattle.mpy_tree.specs.View.{term_of, maybe_term, action_of, block_of, act_step, arm_step, arms_step, stmt_step, stmts_step}
 use Rattle.mpy_interp.specs.declared.exec.Flow.{Flow}
 use Rattle.mpy_interp.specs.declared.stop.Stop.{Stop}
 use Rattle.mpy_interp.specs.Flows.{EndsAs}
 
-pub assign_is : (x : List ℕ) (e : Expr) → action_of (Assign x e) ≡ SetTo x (term_of e)
+pub assign_is : (x : List ℕ) (e : Expr) → action_of (Assign x e) ≡ ast.Assign x (term_of e)
 assign_is x e =
     ap action_of (sym (rolls-Assign x e))
     ∙ fold-roll-Act Action Branch Branches Statement Block act_step arm_step arms_step stmt_step stmts_step (G.Assign x e)
 
-pub augment_is : (x : List ℕ) (op : ArithOp) (e : Expr) → action_of (Augment x op e) ≡ SetBy x op (term_of e)
+pub augment_is : (x : List ℕ) (op : ArithOp) (e : Expr) → action_of (Augment x op e) ≡ ast.Augment x op (term_of e)
 augment_is x op e =
     ap action_of (sym (rolls-Augment x op e))
     ∙ fold-roll-Act Action Branch Branches Statement Block act_step arm_step arms_step stmt_step stmts_step (G.Augment x op e)
 
-pub put_is : (x : List ℕ) (i e : Expr) → action_of (Put x i e) ≡ SetAt x (term_of i) (term_of e)
+pub put_is : (x : List ℕ) (i e : Expr) → action_of (Put x i e) ≡ ast.Put x (term_of i) (term_of e)
 put_is x i e =
     ap action_of (sym (rolls-Put x i e))
     ∙ fold-roll-Act Action Branch Branches Statement Block act_step arm_step arms_step stmt_step stmts_step (G.Put x i e)
 
-pub augment_at_is : (x : List ℕ) (i : Expr) (op : ArithOp) (e : Expr) → action_of (AugmentAt x i op e) ≡ SetAtBy x (term_of i) op (term_of e)
+pub augment_at_is : (x : List ℕ) (i : Expr) (op : ArithOp) (e : Expr) → action_of (AugmentAt x i op e) ≡ ast.AugmentAt x (term_of i) op (term_of e)
 augment_at_is x i op e =
     ap action_of (sym (rolls-AugmentAt x i op e))
     ∙ fold-roll-Act Action Branch Branches Statement Block act_step arm_step arms_step stmt_step stmts_step (G.AugmentAt x i op e)
 
-pub append_is : (x : List ℕ) (e : Expr) → action_of (Append x e) ≡ AppendTo x (term_of e)
+pub append_is : (x : List ℕ) (e : Expr) → action_of (Append x e) ≡ ast.Append x (term_of e)
 append_is x e =
     ap action_of (sym (rolls-Append x e))
     ∙ fold-roll-Act Action Branch Branches Statement Block act_step arm_step arms_step stmt_step stmts_step (G.Append x e)
 
-pub return_is : (e : Option Expr) → action_of (Return e) ≡ Give (maybe_term e)
+pub return_is : (e : Option Expr) → action_of (Return e) ≡ ast.Return (maybe_term e)
 return_is e =
     ap action_of (sym (rolls-Return e))
     ∙ fold-roll-Act Action Branch Branches Statement Block act_step arm_step arms_step stmt_step stmts_step (G.Return e)
 
-pub while_is : (e : Expr) (body : Stmts) → action_of (While e body) ≡ Loop (term_of e) (block_of body)
+pub while_is : (e : Expr) (body : Stmts) → action_of (While e body) ≡ ast.While (term_of e) (block_of body)
 while_is e body =
     ap action_of (sym (rolls-While e body))
     ∙ fold-roll-Act Action Branch Branches Statement Block act_step arm_step arms_step stmt_step stmts_step (G.While e body)
 
-pub for_is : (x : List ℕ) (e : Expr) (body : Stmts) → action_of (For x e body) ≡ Each x (term_of e) (block_of body)
+pub for_is : (x : List ℕ) (e : Expr) (body : Stmts) → action_of (For x e body) ≡ ast.For x (term_of e) (block_of body)
 for_is x e body =
     ap action_of (sym (rolls-For x e body))
     ∙ fold-roll-Act Action Branch Branches Statement Block act_step arm_step arms_step stmt_step stmts_step (G.For x e body)

@@ -1,6 +1,6 @@
 //! The values of expressions.
 ghost use Rattle.std.specs.Prelude.{◌≡◌, ℕ, List, map};
-ghost use Rattle.mpy_tree.specs.Syntax.{Items, Minus, Negation, Binary, Compare, Both, Either, Choose, At, Apply};
+ghost use Rattle.mpy_tree.specs.Syntax as ast;
 ghost use Rattle.mpy_tree.specs.View.{term_of, terms_of, end_by};
 ghost use Rattle.mpy_interp.specs.Answers.{Meets, MeetsBy};
 ghost use Rattle.mpy_interp.specs.Frames.{state_of};
@@ -63,7 +63,7 @@ fn eval_list<C: Calls>(
     line: u32,
     es: &Exprs,
 ) -> Result<Value, Stop>
-    ensures { Meets result (value_of l.now (C.gives calls.now) (state_of frame.now) line (Items (terms_of es.now))) }
+    ensures { Meets result (value_of l.now (C.gives calls.now) (state_of frame.now) line (ast.List (terms_of es.now))) }
 {
     let vs = eval_all(alloc, l, calls, frame, line, es)?;
     list_literal(alloc, l, line, &vs)
@@ -79,7 +79,7 @@ fn eval_neg<C: Calls>(
     line: u32,
     a: &Expr,
 ) -> Result<Value, Stop>
-    ensures { Meets result (value_of l.now (C.gives calls.now) (state_of frame.now) line (Minus (term_of a.now))) }
+    ensures { Meets result (value_of l.now (C.gives calls.now) (state_of frame.now) line (ast.Neg (term_of a.now))) }
 {
     let v = eval(alloc, l, calls, frame, line, a)?;
     negate(l, line, &v)
@@ -95,7 +95,7 @@ fn eval_not<C: Calls>(
     line: u32,
     a: &Expr,
 ) -> Result<Value, Stop>
-    ensures { Meets result (value_of l.now (C.gives calls.now) (state_of frame.now) line (Negation (term_of a.now))) }
+    ensures { Meets result (value_of l.now (C.gives calls.now) (state_of frame.now) line (ast.Not (term_of a.now))) }
 {
     let v = eval(alloc, l, calls, frame, line, a)?;
     Ok(Value::Bool(!is_true(&v)))
@@ -113,7 +113,7 @@ fn eval_arith<C: Calls>(
     a: &Expr,
     b: &Expr,
 ) -> Result<Value, Stop>
-    ensures { Meets result (value_of l.now (C.gives calls.now) (state_of frame.now) line (Binary op (term_of a.now) (term_of b.now))) }
+    ensures { Meets result (value_of l.now (C.gives calls.now) (state_of frame.now) line (ast.Arith op (term_of a.now) (term_of b.now))) }
 {
     let v = eval(alloc, l, calls, frame, line, a)?;
     let w = eval(alloc, l, calls, frame, line, b)?;
@@ -132,7 +132,7 @@ fn eval_cmp<C: Calls>(
     a: &Expr,
     b: &Expr,
 ) -> Result<Value, Stop>
-    ensures { Meets result (value_of l.now (C.gives calls.now) (state_of frame.now) line (Compare op (term_of a.now) (term_of b.now))) }
+    ensures { Meets result (value_of l.now (C.gives calls.now) (state_of frame.now) line (ast.Cmp op (term_of a.now) (term_of b.now))) }
 {
     let v = eval(alloc, l, calls, frame, line, a)?;
     let w = eval(alloc, l, calls, frame, line, b)?;
@@ -150,7 +150,7 @@ fn eval_and<C: Calls>(
     a: &Expr,
     b: &Expr,
 ) -> Result<Value, Stop>
-    ensures { Meets result (value_of l.now (C.gives calls.now) (state_of frame.now) line (Both (term_of a.now) (term_of b.now))) }
+    ensures { Meets result (value_of l.now (C.gives calls.now) (state_of frame.now) line (ast.And (term_of a.now) (term_of b.now))) }
 {
     match eval(alloc, l, calls, frame, line, a)? {
         Value::Bool(true) => eval(alloc, l, calls, frame, line, b),
@@ -170,7 +170,7 @@ fn eval_or<C: Calls>(
     a: &Expr,
     b: &Expr,
 ) -> Result<Value, Stop>
-    ensures { Meets result (value_of l.now (C.gives calls.now) (state_of frame.now) line (Either (term_of a.now) (term_of b.now))) }
+    ensures { Meets result (value_of l.now (C.gives calls.now) (state_of frame.now) line (ast.Or (term_of a.now) (term_of b.now))) }
 {
     match eval(alloc, l, calls, frame, line, a)? {
         Value::Bool(true) => Ok(Value::Bool(true)),
@@ -191,7 +191,7 @@ fn eval_cond<C: Calls>(
     yes: &Expr,
     no: &Expr,
 ) -> Result<Value, Stop>
-    ensures { Meets result (value_of l.now (C.gives calls.now) (state_of frame.now) line (Choose (term_of test.now) (term_of yes.now) (term_of no.now))) }
+    ensures { Meets result (value_of l.now (C.gives calls.now) (state_of frame.now) line (ast.Cond (term_of test.now) (term_of yes.now) (term_of no.now))) }
 {
     let v = eval(alloc, l, calls, frame, line, test)?;
     if is_true(&v) {
@@ -212,7 +212,7 @@ fn eval_index<C: Calls>(
     a: &Expr,
     i: &Expr,
 ) -> Result<Value, Stop>
-    ensures { Meets result (value_of l.now (C.gives calls.now) (state_of frame.now) line (At (term_of a.now) (term_of i.now))) }
+    ensures { Meets result (value_of l.now (C.gives calls.now) (state_of frame.now) line (ast.Index (term_of a.now) (term_of i.now))) }
 {
     let v = eval(alloc, l, calls, frame, line, a)?;
     let k = eval(alloc, l, calls, frame, line, i)?;
@@ -230,7 +230,7 @@ fn eval_call<C: Calls>(
     f: &Name,
     es: &Exprs,
 ) -> Result<Value, Stop>
-    ensures { Meets result (value_of l.now (C.gives calls.now) (state_of frame.now) line (Apply f.now (terms_of es.now))) }
+    ensures { Meets result (value_of l.now (C.gives calls.now) (state_of frame.now) line (ast.Call f.now (terms_of es.now))) }
 {
     let vs = eval_all(alloc, l, calls, frame, line, es)?;
     applied(alloc, l, calls, f, &vs, line)

@@ -3,7 +3,7 @@ ghost use Rattle.std.specs.Prelude.{◌≡◌, ℕ, List};
 ghost use Rattle.std.specs.declared.result.Result.{Result};
 ghost use Rattle.mpy_tree.specs.declared.value.Value.{Value};
 ghost use Rattle.mpy_tree.specs.declared.outcome.Fault.{Fault};
-ghost use Rattle.mpy_tree.specs.Syntax.{Loop, Each};
+ghost use Rattle.mpy_tree.specs.Syntax as ast;
 ghost use Rattle.mpy_tree.specs.View.{term_of, maybe_term, action_of, block_of, branches_of, block_or_none};
 ghost use Rattle.mpy_interp.specs.Answers.{Meets};
 ghost use Rattle.mpy_interp.specs.Flows.{EndsAs, ArmsEndAs};
@@ -175,7 +175,7 @@ fn exec_while<C: Calls>(
     line: u32,
     test: &Expr,
 ) -> Result<Flow, Stop>
-    ensures { EndsAs result (state_of frame.new) (run_action l.now (C.gives calls.now) (Loop (term_of test.now) (block_of body.now)) line (state_of frame.old)) }
+    ensures { EndsAs result (state_of frame.new) (run_action l.now (C.gives calls.now) (ast.While (term_of test.now) (block_of body.now)) line (state_of frame.old)) }
 {
     let mut left = l.turns;
     'turns: loop {
@@ -209,7 +209,7 @@ fn exec_for<C: Calls>(
     x: &Name,
     e: &Expr,
 ) -> Result<Flow, Stop>
-    ensures { EndsAs result (state_of frame.new) (run_action l.now (C.gives calls.now) (Each x.now (term_of e.now) (block_of body.now)) line (state_of frame.old)) }
+    ensures { EndsAs result (state_of frame.new) (run_action l.now (C.gives calls.now) (ast.For x.now (term_of e.now) (block_of body.now)) line (state_of frame.old)) }
 {
     let list = eval(alloc, l, calls, frame, line, e)?;
     let values = members_of(alloc, line, &list)?;

@@ -8,25 +8,26 @@ use Rattle.mpy_tree.specs.declared.tree.Act.{If, Pass, Break, Continue}
 use Rattle.mpy_tree.specs.declared.tree.Act.TheVariants.{rolls-If, rolls-Pass, rolls-Break, rolls-Continue}
 use Rattle.mpy_tree.specs.declared.tree.Act.TheFolds.{fold-roll-Act, fold_out-Stmt, fold_out-Stmts, fold_out-Arm}
 use Rattle.mpy_tree.specs.declared.tree.Act.TheOpen as G
-use Rattle.mpy_tree.specs.Syntax.{Action, Branch, Branches, Statement, Block, Nothing, Leave, Again, Test, at, arm}
+use Rattle.mpy_tree.specs.Syntax.{Action, Branch, Branches, Statement, Block, at, arm}
+use Rattle.mpy_tree.specs.Syntax as ast
 use Rattle.mpy_tree.specs.View.{term_of, action_of, branch_of, branches_of, statement_of, block, block_of, block_or_none, act_step, arm_step, arms_step, stmt_step, stmts_step}
 
-pub pass_is : action_of Pass ≡ Nothing
+pub pass_is : action_of Pass ≡ ast.Pass
 pass_is =
     ap action_of (sym rolls-Pass)
     ∙ fold-roll-Act Action Branch Branches Statement Block act_step arm_step arms_step stmt_step stmts_step G.Pass
 
-pub break_is : action_of Break ≡ Leave
+pub break_is : action_of Break ≡ ast.Break
 break_is =
     ap action_of (sym rolls-Break)
     ∙ fold-roll-Act Action Branch Branches Statement Block act_step arm_step arms_step stmt_step stmts_step G.Break
 
-pub continue_is : action_of Continue ≡ Again
+pub continue_is : action_of Continue ≡ ast.Continue
 continue_is =
     ap action_of (sym rolls-Continue)
     ∙ fold-roll-Act Action Branch Branches Statement Block act_step arm_step arms_step stmt_step stmts_step G.Continue
 
-pub if_is : (arms : Arms) (last : Option Stmts) → action_of (If arms last) ≡ Test (branches_of arms) (block_or_none last)
+pub if_is : (arms : Arms) (last : Option Stmts) → action_of (If arms last) ≡ ast.If (branches_of arms) (block_or_none last)
 if_is arms None =
     ap action_of (sym (rolls-If arms None))
     ∙ fold-roll-Act Action Branch Branches Statement Block act_step arm_step arms_step stmt_step stmts_step (G.If arms None)

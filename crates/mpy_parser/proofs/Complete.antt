@@ -4,7 +4,8 @@ use Rattle.mpy_tree.specs.declared.operators.ArithOp.{ArithOp}
 use Rattle.mpy_tree.specs.declared.operators.ArithOp.TheVariants.{Add, Sub, Mul, Floor, Rem, Power}
 use Rattle.mpy_tree.specs.declared.operators.CmpOp.{CmpOp}
 use Rattle.mpy_tree.specs.declared.operators.CmpOp.TheVariants.{Eq, Ne, Lt, Le, Gt, Ge, Member, NotMember}
-use Rattle.mpy_tree.specs.Syntax.{Term, Terms, MaybeTerm, no_terms, term_and, no_term, a_term, Number, Quoted, Truth, Items, At, Cut, Negation, Minus, Var, Apply, Binary, Choose, Compare}
+use Rattle.mpy_tree.specs.Syntax.{Term, Terms, MaybeTerm, no_terms, term_and, no_term, a_term}
+use Rattle.mpy_tree.specs.Syntax as ast
 use Rattle.mpy_parser.specs.declared.levels.Level.{Level}
 use Rattle.mpy_parser.specs.declared.levels.Level.TheVariants as level
 use Rattle.mpy_parser.specs.declared.levels.Joint.{Joint}
@@ -48,7 +49,7 @@ exact k front e rest f h = f.1 ∙ ap Some (f.3 h)
 conditional_tail_reads : (ts us : List Terminal) (t : Term) (x : Term × List Terminal) → reading level.Disjunction (ts ++ (terminal.Word word.Else ∷ us)) ≡ Some (t, terminal.Word word.Else ∷ us) → reading level.Conditional us ≡ Some x → conditional_tail reading (terminal.Word word.If ∷ (ts ++ (terminal.Word word.Else ∷ us))) ≡ Some (t, x.0, x.1)
 conditional_tail_reads ts us t x p q = rw (p, q)
 
-found_conditional : (xs ts ys : List Terminal) (a t b : Term) → AllFound level.Disjunction xs a → AllFound level.Disjunction ts t → AllFound level.Conditional ys b → AllFound level.Conditional ((xs ++ (terminal.Word word.If ∷ ts)) ++ (terminal.Word word.Else ∷ ys)) (Choose t a b)
+found_conditional : (xs ts ys : List Terminal) (a t b : Term) → AllFound level.Disjunction xs a → AllFound level.Disjunction ts t → AllFound level.Conditional ys b → AllFound level.Conditional ((xs ++ (terminal.Word word.If ∷ ts)) ++ (terminal.Word word.Else ∷ ys)) (ast.Cond t a b)
 found_conditional xs ts ys a t b f g h rest =
     let after_test = terminal.Word word.Else ∷ (ys ++ rest) in
     let after_yes = terminal.Word word.If ∷ (ts ++ after_test) in
@@ -57,10 +58,10 @@ found_conditional xs ts ys a t b f g h rest =
     let q = exact level.Disjunction ts t after_test (g after_test) tt in
     let regroup : ((xs ++ (terminal.Word word.If ∷ ts)) ++ (terminal.Word word.Else ∷ ys)) ++ rest ≡ xs ++ after_yes = simp append_assoc in
     let tail = conditional_tail_reads ts (ys ++ rest) t last.0 q last.1 in (
-      (Choose t a last.0.0, last.0.1),
+      (ast.Cond t a last.0.0, last.0.1),
       ap (reading level.Conditional) regroup ∙ reading_step level.Conditional (xs ++ after_yes) ∙ rw (p, tail),
       last.2,
-      λ stops. ap (λ x. (Choose t a x.0, x.1)) (last.3 stops),
+      λ stops. ap (λ x. (ast.Cond t a x.0, x.1)) (last.3 stops),
     )
 
 -- what is read at the level above, and the tail that there is not
@@ -129,15 +130,15 @@ goes_joint k w j is stop xs ys a b g h rest stops =
     ∙ ap Some (turn ∙ ap (λ x. with_joints reading k (length x.1) (joined j a x.0, x.1)) (f.3 stops))
 
 -- operators before their parts
-found_negation : (xs : List Terminal) (a : Term) → AllFound level.Negation xs a → AllFound level.Negation (terminal.Word word.Not ∷ xs) (Negation a)
+found_negation : (xs : List Terminal) (a : Term) → AllFound level.Negation xs a → AllFound level.Negation (terminal.Word word.Not ∷ xs) (ast.Not a)
 found_negation xs a h rest =
     let f = h rest in
-    ((Negation f.0.0, f.0.1), reading_step level.Negation (terminal.Word word.Not ∷ (xs ++ rest)) ∙ rw f.1, f.2, λ stops. ap (λ x. (Negation x.0, x.1)) (f.3 stops))
+    ((ast.Not f.0.0, f.0.1), reading_step level.Negation (terminal.Word word.Not ∷ (xs ++ rest)) ∙ rw f.1, f.2, λ stops. ap (λ x. (ast.Not x.0, x.1)) (f.3 stops))
 
-found_minus : (xs : List Terminal) (a : Term) → AllFound level.Unary xs a → AllFound level.Unary (terminal.Word word.Minus ∷ xs) (Minus a)
+found_minus : (xs : List Terminal) (a : Term) → AllFound level.Unary xs a → AllFound level.Unary (terminal.Word word.Minus ∷ xs) (ast.Neg a)
 found_minus xs a h rest =
     let f = h rest in
-    ((Minus f.0.0, f.0.1), reading_step level.Unary (terminal.Word word.Minus ∷ (xs ++ rest)) ∙ rw f.1, f.2, λ stops. ap (λ x. (Minus x.0, x.1)) (f.3 stops))
+    ((ast.Neg f.0.0, f.0.1), reading_step level.Unary (terminal.Word word.Minus ∷ (xs ++ rest)) ∙ rw f.1, f.2, λ stops. ap (λ x. (ast.Neg x.0, x.1)) (f.3 stops))
 
 without_operator : (k : Level) (b : List Terminal → Option (List Terminal)) (f : Term → Term) (ts : List Terminal) → b ts ≡ None → prefixed reading k b f ts ≡ reading (above k) ts
 without_operator k b f ts h = ap (λ o. elim o as (λ _. Option (Term × List Terminal)) [ Some rest ↦ (reading k rest >>= λ e. Some (f e.0, e.1)) | None ↦ reading (above k) ts ]) h
@@ -146,13 +147,13 @@ found_higher_negation : (xs : List Terminal) (e : Term) → AllFound level.Compa
 found_higher_negation xs e h rest =
     let f = h rest in
     let no = not_first behind_not level.Comparison (xs ++ rest) f.0 (never_not (xs ++ rest)) f.1 in
-    (f.0, reading_step level.Negation (xs ++ rest) ∙ without_operator level.Negation behind_not Negation (xs ++ rest) no ∙ f.1, f.2, λ stops. f.3 (Stops-above level.Negation rest stops))
+    (f.0, reading_step level.Negation (xs ++ rest) ∙ without_operator level.Negation behind_not ast.Not (xs ++ rest) no ∙ f.1, f.2, λ stops. f.3 (Stops-above level.Negation rest stops))
 
 found_higher_unary : (xs : List Terminal) (e : Term) → AllFound level.Power xs e → AllFound level.Unary xs e
 found_higher_unary xs e h rest =
     let f = h rest in
     let no = not_first behind_minus level.Power (xs ++ rest) f.0 (never_minus (xs ++ rest)) f.1 in
-    (f.0, reading_step level.Unary (xs ++ rest) ∙ without_operator level.Unary behind_minus Minus (xs ++ rest) no ∙ f.1, f.2, λ stops. f.3 (Stops-above level.Unary rest stops))
+    (f.0, reading_step level.Unary (xs ++ rest) ∙ without_operator level.Unary behind_minus ast.Neg (xs ++ rest) no ∙ f.1, f.2, λ stops. f.3 (Stops-above level.Unary rest stops))
 
 -- comparisons
 comparison_is : (op : CmpOp) (us : List Terminal) → comparison_at (comparison op ++ us) ≡ Some (op, us)
@@ -178,17 +179,17 @@ comparison_stops NotMember us = omega arith
 comparison_tail_reads : (op : CmpOp) (us : List Terminal) (x : Term × List Terminal) → reading level.Sum us ≡ Some x → comparison_tail reading (comparison op ++ us) ≡ Some (op, x.0, x.1)
 comparison_tail_reads op us x q = let p = comparison_is op us in rw (p, q)
 
-found_compared : (op : CmpOp) (xs ys : List Terminal) (a b : Term) → AllFound level.Sum xs a → AllFound level.Sum ys b → AllFound level.Comparison ((xs ++ comparison op) ++ ys) (Compare op a b)
+found_compared : (op : CmpOp) (xs ys : List Terminal) (a b : Term) → AllFound level.Sum xs a → AllFound level.Sum ys b → AllFound level.Comparison ((xs ++ comparison op) ++ ys) (ast.Cmp op a b)
 found_compared op xs ys a b f g rest =
     let after = comparison op ++ (ys ++ rest) in
     let last = g rest in
     let p = exact level.Sum xs a after (f after) (comparison_stops op (ys ++ rest)) in
     let regroup : ((xs ++ comparison op) ++ ys) ++ rest ≡ xs ++ after = simp append_assoc in
     let tail = comparison_tail_reads op (ys ++ rest) last.0 last.1 in (
-      (Compare op a last.0.0, last.0.1),
+      (ast.Cmp op a last.0.0, last.0.1),
       ap (reading level.Comparison) regroup ∙ reading_step level.Comparison (xs ++ after) ∙ rw (p, tail),
       last.2,
-      λ stops. ap (λ x. (Compare op a x.0, x.1)) (last.3 (Stops-above level.Comparison rest stops)),
+      λ stops. ap (λ x. (ast.Cmp op a x.0, x.1)) (last.3 (Stops-above level.Comparison rest stops)),
     )
 
 no_comparison_tail : (e : Term) (ts : List Terminal) → Stops level.Comparison ts → with_comparison reading (e, ts) ≡ (e, ts)
@@ -208,16 +209,16 @@ found_higher_comparison xs e h rest =
 power_tail_reads : (us : List Terminal) (x : Term × List Terminal) → reading level.Unary us ≡ Some x → power_tail reading (terminal.Word word.DoubleStar ∷ us) ≡ Some x
 power_tail_reads us x q = q
 
-found_power : (xs ys : List Terminal) (a b : Term) → AllFound level.Postfix xs a → AllFound level.Unary ys b → AllFound level.Power (xs ++ (terminal.Word word.DoubleStar ∷ ys)) (Binary Power a b)
+found_power : (xs ys : List Terminal) (a b : Term) → AllFound level.Postfix xs a → AllFound level.Unary ys b → AllFound level.Power (xs ++ (terminal.Word word.DoubleStar ∷ ys)) (ast.Arith Power a b)
 found_power xs ys a b f g rest =
     let after = terminal.Word word.DoubleStar ∷ (ys ++ rest) in
     let last = g rest in
     let p = exact level.Postfix xs a after (f after) (omega arith) in
     let tail = power_tail_reads (ys ++ rest) last.0 last.1 in (
-      (Binary Power a last.0.0, last.0.1),
+      (ast.Arith Power a last.0.0, last.0.1),
       ap (reading level.Power) (regroup_two xs ys rest word.DoubleStar) ∙ reading_step level.Power (xs ++ after) ∙ rw (p, tail),
       last.2,
-      λ stops. ap (λ x. (Binary Power a x.0, x.1)) (last.3 (Stops-unary rest stops)),
+      λ stops. ap (λ x. (ast.Arith Power a x.0, x.1)) (last.3 (Stops-unary rest stops)),
     )
 
 no_power_tail : (e : Term) (ts : List Terminal) → Stops level.Power ts → with_power reading (e, ts) ≡ (e, ts)
@@ -353,33 +354,33 @@ some_read b xs ys e es h g rest =
     elements_without b ts (not_first (closed b) level.Conditional ts f.0 (never_closed b ts) p) ∙ g rest
 
 -- atoms
-found_number : (n : ℕ) → AllFound level.Atom (terminal.Number n ∷ []) (Number n)
-found_number n rest = ((Number n, rest), reading_step level.Atom (terminal.Number n ∷ rest), omega arith, λ stops. refl)
+found_number : (n : ℕ) → AllFound level.Atom (terminal.Number n ∷ []) (ast.Int n)
+found_number n rest = ((ast.Int n, rest), reading_step level.Atom (terminal.Number n ∷ rest), omega arith, λ stops. refl)
 
-found_quoted : (cs : List ℕ) → AllFound level.Atom (terminal.Text cs ∷ []) (Quoted cs)
-found_quoted cs rest = ((Quoted cs, rest), reading_step level.Atom (terminal.Text cs ∷ rest), omega arith, λ stops. refl)
+found_quoted : (cs : List ℕ) → AllFound level.Atom (terminal.Text cs ∷ []) (ast.Text cs)
+found_quoted cs rest = ((ast.Text cs, rest), reading_step level.Atom (terminal.Text cs ∷ rest), omega arith, λ stops. refl)
 
-found_truth : (b : Bool) → AllFound level.Atom (terminal.Word (truth_word b) ∷ []) (Truth b)
-found_truth true rest = ((Truth true, rest), reading_step level.Atom (terminal.Word word.True ∷ rest), omega arith, λ stops. refl)
-found_truth false rest = ((Truth false, rest), reading_step level.Atom (terminal.Word word.False ∷ rest), omega arith, λ stops. refl)
+found_truth : (b : Bool) → AllFound level.Atom (terminal.Word (truth_word b) ∷ []) (ast.Bool b)
+found_truth true rest = ((ast.Bool true, rest), reading_step level.Atom (terminal.Word word.True ∷ rest), omega arith, λ stops. refl)
+found_truth false rest = ((ast.Bool false, rest), reading_step level.Atom (terminal.Word word.False ∷ rest), omega arith, λ stops. refl)
 
-no_call : (x : List ℕ) (ts : List Terminal) → Stops level.Atom ts → name_or_call reading x ts ≡ (Var x, ts)
+no_call : (x : List ℕ) (ts : List Terminal) → Stops level.Atom ts → name_or_call reading x ts ≡ (ast.Name x, ts)
 no_call x ts h = let p = no_arguments ts h in rw p
 
-found_name : (x : List ℕ) → AllFound level.Atom (terminal.Name x ∷ []) (Var x)
+found_name : (x : List ℕ) → AllFound level.Atom (terminal.Name x ∷ []) (ast.Name x)
 found_name x rest =
     let short = name_or_call_short reading reading_short x rest in
     (name_or_call reading x rest, reading_step level.Atom (terminal.Name x ∷ rest), short, λ stops. no_call x rest stops)
 
-found_call : (f : List ℕ) (xs : List Terminal) (es : Terms) → AreRead bracket.Round xs es → AllFound level.Atom ((terminal.Name f ∷ terminal.Word word.LeftParen ∷ xs) ++ (terminal.Word word.RightParen ∷ [])) (Apply f es)
+found_call : (f : List ℕ) (xs : List Terminal) (es : Terms) → AreRead bracket.Round xs es → AllFound level.Atom ((terminal.Name f ∷ terminal.Word word.LeftParen ∷ xs) ++ (terminal.Word word.RightParen ∷ [])) (ast.Call f es)
 found_call f xs es h rest =
     let p : elements reading bracket.Round ((xs ++ (terminal.Word word.RightParen ∷ [])) ++ rest) ≡ Some (es, rest) = ap (elements reading bracket.Round) (append_assoc xs (terminal.Word word.RightParen ∷ []) rest) ∙ h rest in
-    ((Apply f es, rest), reading_step level.Atom (terminal.Name f ∷ terminal.Word word.LeftParen ∷ ((xs ++ (terminal.Word word.RightParen ∷ [])) ++ rest)) ∙ rw p, omega arith, λ stops. refl)
+    ((ast.Call f es, rest), reading_step level.Atom (terminal.Name f ∷ terminal.Word word.LeftParen ∷ ((xs ++ (terminal.Word word.RightParen ∷ [])) ++ rest)) ∙ rw p, omega arith, λ stops. refl)
 
-found_items : (xs : List Terminal) (es : Terms) → AreRead bracket.Square xs es → AllFound level.Atom ((terminal.Word word.LeftBracket ∷ xs) ++ (terminal.Word word.RightBracket ∷ [])) (Items es)
+found_items : (xs : List Terminal) (es : Terms) → AreRead bracket.Square xs es → AllFound level.Atom ((terminal.Word word.LeftBracket ∷ xs) ++ (terminal.Word word.RightBracket ∷ [])) (ast.List es)
 found_items xs es h rest =
     let p : elements reading bracket.Square ((xs ++ (terminal.Word word.RightBracket ∷ [])) ++ rest) ≡ Some (es, rest) = ap (elements reading bracket.Square) (append_assoc xs (terminal.Word word.RightBracket ∷ []) rest) ∙ h rest in
-    ((Items es, rest), reading_step level.Atom (terminal.Word word.LeftBracket ∷ ((xs ++ (terminal.Word word.RightBracket ∷ [])) ++ rest)) ∙ rw p, omega arith, λ stops. refl)
+    ((ast.List es, rest), reading_step level.Atom (terminal.Word word.LeftBracket ∷ ((xs ++ (terminal.Word word.RightBracket ∷ [])) ++ rest)) ∙ rw p, omega arith, λ stops. refl)
 
 found_parenthesized : (xs : List Terminal) (e : Term) → AllFound level.Conditional xs e → AllFound level.Atom ((terminal.Word word.LeftParen ∷ xs) ++ (terminal.Word word.RightParen ∷ [])) e
 found_parenthesized xs e h rest =
@@ -402,7 +403,7 @@ complete_higher level.Power xs e h = (found_higher_power xs e h.0, tt)
 complete_higher level.Postfix xs e h = (found_higher_postfix xs e h.0, goes_higher_postfix xs e h.0)
 complete_higher level.Atom xs e h = h
 
-complete_arithmetic : (op : ArithOp) (xs ys : List Terminal) (a b : Term) → Complete (left_level op) xs a → Complete (right_level op) ys b → Complete (operator_level op) (xs ++ (terminal.Word (arith_word op) ∷ ys)) (Binary op a b)
+complete_arithmetic : (op : ArithOp) (xs ys : List Terminal) (a b : Term) → Complete (left_level op) xs a → Complete (right_level op) ys b → Complete (operator_level op) (xs ++ (terminal.Word (arith_word op) ∷ ys)) (ast.Arith op a b)
 complete_arithmetic Add xs ys a b f g = (found_joint level.Sum word.Plus (joint.Arith Add) refl (omega arith) xs ys a b f.1 g.0, goes_joint level.Sum word.Plus (joint.Arith Add) refl (omega arith) xs ys a b f.1 g.0)
 complete_arithmetic Sub xs ys a b f g = (found_joint level.Sum word.Minus (joint.Arith Sub) refl (omega arith) xs ys a b f.1 g.0, goes_joint level.Sum word.Minus (joint.Arith Sub) refl (omega arith) xs ys a b f.1 g.0)
 complete_arithmetic Mul xs ys a b f g = (found_joint level.Product word.Star (joint.Arith Mul) refl (omega arith) xs ys a b f.1 g.0, goes_joint level.Product word.Star (joint.Arith Mul) refl (omega arith) xs ys a b f.1 g.0)
@@ -429,11 +430,11 @@ mutual
   complete k front e (arithmetic {xs} {ys} {a} {b} op s t) = complete_arithmetic op xs ys a b (complete (left_level op) xs a s) (complete (right_level op) ys b t)
   complete k front e (minus {xs} {a} s) = (found_minus xs a (complete level.Unary xs a s).0, tt)
   complete k front e (index {xs} {ys} {v} {i} s t) =
-      subst (λ l. Complete level.Postfix l (At v i)) (sym (append_assoc xs (terminal.Word word.LeftBracket ∷ ys) (terminal.Word word.RightBracket ∷ [])))
+      subst (λ l. Complete level.Postfix l (ast.Index v i)) (sym (append_assoc xs (terminal.Word word.LeftBracket ∷ ys) (terminal.Word word.RightBracket ∷ [])))
       (complete_suffix xs (ys ++ (terminal.Word word.RightBracket ∷ [])) v (by_index i) (complete level.Postfix xs v s).1 (index_read ys i (complete level.Conditional ys i t).0))
   complete k front e (slice {xs} {ys} {zs} {v} {from} {to} s f t) =
       let regroup : ((xs ++ (terminal.Word word.LeftBracket ∷ ys)) ++ (terminal.Word word.Colon ∷ zs)) ++ (terminal.Word word.RightBracket ∷ []) ≡ xs ++ (terminal.Word word.LeftBracket ∷ ((ys ++ (terminal.Word word.Colon ∷ zs)) ++ (terminal.Word word.RightBracket ∷ []))) = simp append_assoc in
-      subst (λ l. Complete level.Postfix l (Cut v from to)) (sym regroup)
+      subst (λ l. Complete level.Postfix l (ast.Slice v from to)) (sym regroup)
       (complete_suffix xs ((ys ++ (terminal.Word word.Colon ∷ zs)) ++ (terminal.Word word.RightBracket ∷ [])) v (by_ends from to) (complete level.Postfix xs v s).1 (slice_read ys zs from to (complete_end ys from f).0 (complete_end zs to t).1))
   complete k front e (number n) = (found_number n, tt)
   complete k front e (quoted cs) = (found_quoted cs, tt)

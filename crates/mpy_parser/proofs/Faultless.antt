@@ -1,6 +1,7 @@
 -- None of the lines of a program is at fault.
 use Rattle.std.proofs.Common.{◌≡◌, ℕ, ◌<◌, ◌≤◌, Bool, true, false, not, ◌&&◌, ◌||◌, ◌==◌, nat_lt, inl, inr, List, [], ◌∷◌, ◌++◌, Option, None, refl, sym, ◌∙◌, ap, subst, arith, append_assoc, ltb-true, ltb-false, lt-ltb, le-ltb, eq-eqb, ne_eqb, eqb-true}
-use Rattle.mpy_tree.specs.Syntax.{Action, SetTo, SetBy, SetAt, SetAtBy, AppendTo, Give, Nothing, Leave, Again, Test, Loop, Each, Block, MaybeBlock, Branches, Routine}
+use Rattle.mpy_tree.specs.Syntax.{Action, Block, MaybeBlock, Branches, Routine}
+use Rattle.mpy_tree.specs.Syntax as ast
 use Rattle.mpy_parser.specs.Items.{Opening, function, when, else_when, otherwise, while, for_each, LineItem, simple, headed}
 use Rattle.mpy_parser.specs.Nesting.{ItemLine, item_line, MayStand, IsBlock, IsBody, AreArms, AreRoutines, no_lines, a_simple, a_loop, an_each, a_test, behind_colon, below, no_more, an_elif, an_else, no_routines, a_routine}
 use Rattle.mpy_parser.specs.Faults.{returns_to, is_indent_fault, is_open, is_arm, is_loop, goes_on_arm, is_function, leaves_turn, leaves, has_deeper, is_stray, follows_arm, in_loop}
@@ -86,18 +87,18 @@ returns_onto c (x ∷ xs) before h r = returns_onto c xs (x ∷ before) h.1 (eli
 
 may_leave : (loop : Bool) (act : Action) → MayStand loop act → (leaves_turn act && not loop) ≡ false
 may_leave true act h = and_false (leaves_turn act)
-may_leave false Leave h = elim h [ ]
-may_leave false Again h = elim h [ ]
-may_leave false (SetTo x e) h = refl
-may_leave false (SetBy x op e) h = refl
-may_leave false (SetAt x i e) h = refl
-may_leave false (SetAtBy x i op e) h = refl
-may_leave false (AppendTo x e) h = refl
-may_leave false (Give e) h = refl
-may_leave false Nothing h = refl
-may_leave false (Test arms last) h = refl
-may_leave false (Loop e b) h = refl
-may_leave false (Each x e b) h = refl
+may_leave false ast.Break h = elim h [ ]
+may_leave false ast.Continue h = elim h [ ]
+may_leave false (ast.Assign x e) h = refl
+may_leave false (ast.Augment x op e) h = refl
+may_leave false (ast.Put x i e) h = refl
+may_leave false (ast.AugmentAt x i op e) h = refl
+may_leave false (ast.Append x e) h = refl
+may_leave false (ast.Return e) h = refl
+may_leave false ast.Pass h = refl
+may_leave false (ast.If arms last) h = refl
+may_leave false (ast.While e b) h = refl
+may_leave false (ast.For x e b) h = refl
 
 placed : (line c : ℕ) (item : LineItem) → 0 < c → is_function item ≡ false → is_misplaced (item_line line c item) ≡ false
 placed line c item z h = let e : (c == 0) ≡ false = ne_eqb c 0 (λ w. omega arith) in rw (e, h) refl

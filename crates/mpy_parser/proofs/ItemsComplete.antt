@@ -1,7 +1,8 @@
 -- The item that the terminals spell is read.
 use Rattle.std.proofs.Common.{◌≡◌, ℕ, List, [], ◌∷◌, ◌++◌, Option, Some, None, refl, ap, sym, ◌∙◌, append_assoc, append-nil}
 use Rattle.mpy_tree.specs.declared.operators.ArithOp.{ArithOp}
-use Rattle.mpy_tree.specs.Syntax.{Term, a_term, Action, SetBy, SetAt, SetAtBy, AppendTo, Give}
+use Rattle.mpy_tree.specs.Syntax.{Term, a_term, Action}
+use Rattle.mpy_tree.specs.Syntax as ast
 use Rattle.mpy_parser.specs.declared.levels.Level.TheVariants as level
 use Rattle.mpy_parser.specs.declared.words.Word.{Word}
 use Rattle.mpy_parser.specs.declared.words.Word.TheVariants as word
@@ -21,23 +22,23 @@ augmenting_reads : (w : Word) (op : ArithOp) (ts : List Terminal) (e : Term) →
 augmenting_reads w op ts e h p = ap (λ o. o >>= λ f. whole ts >>= λ a. Some (f, a)) h ∙ ap (λ o. o >>= λ a. Some (op, a)) p
 
 -- a word that augments is none of the others
-augment_reads : (x : List ℕ) (w : Word) (op : ArithOp) (ts : List Terminal) (e : Term) → augmented w ≡ Some op → whole ts ≡ Some e → behind_name x w ts ≡ Some (SetBy x op e)
+augment_reads : (x : List ℕ) (w : Word) (op : ArithOp) (ts : List Terminal) (e : Term) → augmented w ≡ Some op → whole ts ≡ Some e → behind_name x w ts ≡ Some (ast.Augment x op e)
 augment_reads x word.Assign op ts e h p = absurd (cc)
 augment_reads x word.LeftBracket op ts e h p = absurd (cc)
 augment_reads x word.Dot op ts e h p = absurd (cc)
-augment_reads x w op ts e h p = ap (λ o. o >>= λ a. Some (SetBy x a.0 a.1)) (augmenting_reads w op ts e h p)
+augment_reads x w op ts e h p = ap (λ o. o >>= λ a. Some (ast.Augment x a.0 a.1)) (augmenting_reads w op ts e h p)
 
-augment_at_reads : (x : List ℕ) (i : Term) (w : Word) (op : ArithOp) (ts : List Terminal) (e : Term) → augmented w ≡ Some op → whole ts ≡ Some e → assigned x i (terminal.Word w ∷ ts) ≡ Some (SetAtBy x i op e)
+augment_at_reads : (x : List ℕ) (i : Term) (w : Word) (op : ArithOp) (ts : List Terminal) (e : Term) → augmented w ≡ Some op → whole ts ≡ Some e → assigned x i (terminal.Word w ∷ ts) ≡ Some (ast.AugmentAt x i op e)
 augment_at_reads x i word.Assign op ts e h p = absurd (cc)
-augment_at_reads x i w op ts e h p = ap (λ o. o >>= λ a. Some (SetAtBy x i a.0 a.1)) (augmenting_reads w op ts e h p)
+augment_at_reads x i w op ts e h p = ap (λ o. o >>= λ a. Some (ast.AugmentAt x i a.0 a.1)) (augmenting_reads w op ts e h p)
 
 place_reads : (x : List ℕ) (is rest : List Terminal) (i : Term) (act : Action) → Spells level.Conditional is i → assigned x i rest ≡ Some act → at_place x (is ++ (terminal.Word word.RightBracket ∷ rest)) ≡ Some act
 place_reads x is rest i act s p = let q = reading_exact level.Conditional is i (terminal.Word word.RightBracket ∷ rest) s tt in rw (q, p)
 
-argument_reads : (x : List ℕ) (es : List Terminal) (e : Term) → Spells level.Conditional es e → argument x (es ++ (terminal.Word word.RightParen ∷ [])) ≡ Some (AppendTo x e)
+argument_reads : (x : List ℕ) (es : List Terminal) (e : Term) → Spells level.Conditional es e → argument x (es ++ (terminal.Word word.RightParen ∷ [])) ≡ Some (ast.Append x e)
 argument_reads x es e s = let q = reading_exact level.Conditional es e (terminal.Word word.RightParen ∷ []) s tt in rw q
 
-given_reads : (ts : List Terminal) (e : Term) → Spells level.Conditional ts e → given_at ts ≡ Some (Give (a_term e))
+given_reads : (ts : List Terminal) (e : Term) → Spells level.Conditional ts e → given_at ts ≡ Some (ast.Return (a_term e))
 given_reads [] e s = absurd (let p = whole_reads [] e s in let q = nothing_read in let z : None ≡ Some e = sym q ∙ p in cc)
   where
     nothing_read : whole [] ≡ None
@@ -47,8 +48,8 @@ given_reads (t ∷ ts) e s = let p = whole_reads (t ∷ ts) e s in rw p
 simple_reads : (ts : List Terminal) (act : Action) → SpellsSimple ts act → simple_at ts ≡ Some act
 simple_reads ts act (assign x {es} {e} s) = let p = whole_reads es e s in rw p
 simple_reads ts act (augment x w {op} {es} {e} h s) = augment_reads x w op es e h (whole_reads es e s)
-simple_reads ts act (put x {is} {es} {i} {e} s t) = let p = whole_reads es e t in place_reads x is (terminal.Word word.Assign ∷ es) i (SetAt x i e) s (rw p)
-simple_reads ts act (augment_at x w {op} {is} {es} {i} {e} h s t) = place_reads x is (terminal.Word w ∷ es) i (SetAtBy x i op e) s (augment_at_reads x i w op es e h (whole_reads es e t))
+simple_reads ts act (put x {is} {es} {i} {e} s t) = let p = whole_reads es e t in place_reads x is (terminal.Word word.Assign ∷ es) i (ast.Put x i e) s (rw p)
+simple_reads ts act (augment_at x w {op} {is} {es} {i} {e} h s t) = place_reads x is (terminal.Word w ∷ es) i (ast.AugmentAt x i op e) s (augment_at_reads x i w op es e h (whole_reads es e t))
 simple_reads ts act (append x {es} {e} s) = argument_reads x es e s
 simple_reads ts act give_nothing = refl
 simple_reads ts act (give {es} {e} s) = given_reads es e s

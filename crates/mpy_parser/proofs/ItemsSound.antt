@@ -2,7 +2,8 @@
 use Rattle.std.proofs.Common.{◌≡◌, ℕ, Bool, true, false, List, [], ◌∷◌, ◌++◌, Option, Some, None, IfSome, cond, refl, ap, sym, ◌∙◌, subst, append_assoc, append-nil, codes}
 use Rattle.std.proofs.lemmas.Slice.Eq.{bytes_eq-Decides}
 use Rattle.mpy_tree.specs.declared.operators.ArithOp.{ArithOp}
-use Rattle.mpy_tree.specs.Syntax.{Term, Action, SetBy, AppendTo, Nothing, Leave, Again}
+use Rattle.mpy_tree.specs.Syntax.{Term, Action}
+use Rattle.mpy_tree.specs.Syntax as ast
 use Rattle.mpy_parser.specs.declared.levels.Level.TheVariants as level
 use Rattle.mpy_parser.specs.declared.words.Word.{Word}
 use Rattle.mpy_parser.specs.declared.words.Word.TheVariants as word
@@ -37,7 +38,7 @@ augmenting_sound w ts = if_bound (augmented w) _ (λ op. augmented w ≡ Some op
     itself None = tt
     itself (Some a) = refl
 
-augment_sound : (x : List ℕ) (w : Word) (ts : List Terminal) → IfSome (augmenting w ts >>= λ a. Some (SetBy x a.0 a.1)) (SpellsSimple (terminal.Name x ∷ terminal.Word w ∷ ts))
+augment_sound : (x : List ℕ) (w : Word) (ts : List Terminal) → IfSome (augmenting w ts >>= λ a. Some (ast.Augment x a.0 a.1)) (SpellsSimple (terminal.Name x ∷ terminal.Word w ∷ ts))
 augment_sound x w ts = if_bound (augmenting w ts) _ (Augments w ts) _ (augmenting_sound w ts) (λ a s. augment x w s.0 s.1)
 
 augment_at_sound : (x : List ℕ) (i : Term) (is : List Terminal) (w : Word) (ts : List Terminal) → Spells level.Conditional is i → IfSome (augmented_at x i w ts) (SpellsSimple ((terminal.Name x ∷ terminal.Word word.LeftBracket ∷ is) ++ (terminal.Word word.RightBracket ∷ terminal.Word w ∷ ts)))
@@ -65,10 +66,10 @@ at_place_sound x ts = if_bound (reading level.Conditional ts) _ (Fronts level.Co
 argument_sound : (x : List ℕ) (ts : List Terminal) → IfSome (argument x ts) (SpellsSimple (terminal.Name x ∷ terminal.Word word.Dot ∷ terminal.Name (codes "append") ∷ terminal.Word word.LeftParen ∷ ts))
 argument_sound x ts = if_bound (reading level.Conditional ts) _ (Fronts level.Conditional ts) _ (reading_sound level.Conditional ts) (λ e f.
     if_bound (behind_closing_paren e.1) _ (Begins word.RightParen e.1) _ (begins_closing_paren e.1) (λ rest p.
-    weaker (ended (AppendTo x e.0) rest) (λ b. (AppendTo x e.0 ≡ b) × (rest ≡ [])) _ (ended_sound (AppendTo x e.0) rest) (λ b q.
+    weaker (ended (ast.Append x e.0) rest) (λ b. (ast.Append x e.0 ≡ b) × (rest ≡ [])) _ (ended_sound (ast.Append x e.0) rest) (λ b q.
     let same : ts ≡ f.0 ++ (terminal.Word word.RightParen ∷ []) = f.1 ∙ ap (λ l. f.0 ++ l) (p ∙ ap (λ l. terminal.Word word.RightParen ∷ l) q.1) in
     subst (SpellsSimple (terminal.Name x ∷ terminal.Word word.Dot ∷ terminal.Name (codes "append") ∷ terminal.Word word.LeftParen ∷ ts)) q.0
-    (subst (λ l. SpellsSimple (terminal.Name x ∷ terminal.Word word.Dot ∷ terminal.Name (codes "append") ∷ terminal.Word word.LeftParen ∷ l) (AppendTo x e.0)) (sym same) (append x f.2)))))
+    (subst (λ l. SpellsSimple (terminal.Name x ∷ terminal.Word word.Dot ∷ terminal.Name (codes "append") ∷ terminal.Word word.LeftParen ∷ l) (ast.Append x e.0)) (sym same) (append x f.2)))))
 
 method_sound_at : (x f : List ℕ) (ts : List Terminal) (b : Bool) → (b ≡ true → f ≡ codes "append") → IfSome (cond b (argument x ts) None) (SpellsSimple (terminal.Name x ∷ terminal.Word word.Dot ∷ terminal.Name f ∷ terminal.Word word.LeftParen ∷ ts))
 method_sound_at x f ts false same = tt
@@ -95,9 +96,9 @@ word_sound w act s [] = s
 word_sound w act s (t ∷ ts) = tt
 
 pub simple_sound : (ts : List Terminal) → IfSome (simple_at ts) (SpellsSimple ts)
-simple_sound (terminal.Word word.Pass ∷ ts) = word_sound word.Pass Nothing pass ts
-simple_sound (terminal.Word word.Break ∷ ts) = word_sound word.Break Leave leave ts
-simple_sound (terminal.Word word.Continue ∷ ts) = word_sound word.Continue Again again ts
+simple_sound (terminal.Word word.Pass ∷ ts) = word_sound word.Pass ast.Pass pass ts
+simple_sound (terminal.Word word.Break ∷ ts) = word_sound word.Break ast.Break leave ts
+simple_sound (terminal.Word word.Continue ∷ ts) = word_sound word.Continue ast.Continue again ts
 simple_sound (terminal.Word word.Return ∷ ts) = given_sound ts
 simple_sound (terminal.Name x ∷ terminal.Word w ∷ ts) = behind_name_sound x w ts
 simple_sound _ = tt

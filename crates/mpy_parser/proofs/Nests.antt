@@ -1,6 +1,7 @@
 -- Lines none of which is at fault nest as the functions of a program.
 use Rattle.std.proofs.Common.{◌≡◌, ℕ, zero, suc, ◌+◌, ◌<◌, ◌≤◌, Bool, true, false, not, ◌&&◌, ◌||◌, ◌==◌, nat_lt, inl, inr, List, [], ◌∷◌, ◌++◌, length, Option, Some, None, refl, sym, ◌∙◌, ap, subst, arith, append_assoc, length-append, ltb-true, ltb-false, lt-ltb, le-ltb, ne_eqb}
-use Rattle.mpy_tree.specs.Syntax.{at, Action, SetTo, SetBy, SetAt, SetAtBy, AppendTo, Give, Nothing, Leave, Again, Test, Loop, Each, Block, end, step, MaybeBlock, no_block, a_block, arm, Branches, no_arms, arm_and, Routine}
+use Rattle.mpy_tree.specs.Syntax.{at, Action, Block, end, step, MaybeBlock, no_block, a_block, arm, Branches, no_arms, arm_and, Routine}
+use Rattle.mpy_tree.specs.Syntax as ast
 use Rattle.mpy_parser.specs.Items.{Opening, function, when, else_when, otherwise, while, for_each, LineItem, simple, headed}
 use Rattle.mpy_parser.specs.Nesting.{ItemLine, item_line, MayStand, IsBlock, IsBody, AreArms, AreRoutines, no_lines, a_simple, a_loop, an_each, a_test, behind_colon, below, no_more, an_elif, an_else, no_routines, a_routine, routine}
 use Rattle.mpy_parser.specs.Faults.{returns_to, is_arm, is_loop, goes_on_arm, leaves_turn, follows_arm, in_loop}
@@ -12,18 +13,18 @@ no_truth h = absurd cc
 
 may_stand : (loop : Bool) (act : Action) → (leaves_turn act && not loop) ≡ false → MayStand loop act
 may_stand true act h = tt
-may_stand false Leave h = no_truth h
-may_stand false Again h = no_truth h
-may_stand false (SetTo x e) h = tt
-may_stand false (SetBy x op e) h = tt
-may_stand false (SetAt x i e) h = tt
-may_stand false (SetAtBy x i op e) h = tt
-may_stand false (AppendTo x e) h = tt
-may_stand false (Give e) h = tt
-may_stand false Nothing h = tt
-may_stand false (Test arms last) h = tt
-may_stand false (Loop e b) h = tt
-may_stand false (Each x e b) h = tt
+may_stand false ast.Break h = no_truth h
+may_stand false ast.Continue h = no_truth h
+may_stand false (ast.Assign x e) h = tt
+may_stand false (ast.Augment x op e) h = tt
+may_stand false (ast.Put x i e) h = tt
+may_stand false (ast.AugmentAt x i op e) h = tt
+may_stand false (ast.Append x e) h = tt
+may_stand false (ast.Return e) h = tt
+may_stand false ast.Pass h = tt
+may_stand false (ast.If arms last) h = tt
+may_stand false (ast.While e b) h = tt
+may_stand false (ast.For x e b) h = tt
 
 -- what follows no arm doesn't go on with one
 goes_off : (a b : Bool) → (a && not b) ≡ false → b ≡ false → a ≡ false
@@ -201,14 +202,14 @@ statement_read n r loop line c (headed (while e) m) before more z q h g =
     let i = s.inner_len in let j = s.others_len in
     let b = body_read n r loop line c (while e) m before s.inner (omega arith) s.deep s.fine h.turns in
     let k = r loop c (onto s.inner (l ∷ before)) s.others z (omega arith) s.next (cut_begins loop line c (headed (while e) m) before more s refl) in
-    (step (at line (Loop e b.0)) k.0, subst (λ y. IsBlock loop c (l ∷ y) (step (at line (Loop e b.0)) k.0)) (sym s.whole) (a_loop b.1 k.1))
+    (step (at line (ast.While e b.0)) k.0, subst (λ y. IsBlock loop c (l ∷ y) (step (at line (ast.While e b.0)) k.0)) (sym s.whole) (a_loop b.1 k.1))
 statement_read n r loop line c (headed (for_each x e) m) before more z q h g =
     let l : ItemLine = item_line line c (headed (for_each x e) m) in
     let s : Cut loop c l before more = cut loop line c (headed (for_each x e) m) before more h in
     let i = s.inner_len in let j = s.others_len in
     let b = body_read n r loop line c (for_each x e) m before s.inner (omega arith) s.deep s.fine h.turns in
     let k = r loop c (onto s.inner (l ∷ before)) s.others z (omega arith) s.next (cut_begins loop line c (headed (for_each x e) m) before more s refl) in
-    (step (at line (Each x e b.0)) k.0, subst (λ y. IsBlock loop c (l ∷ y) (step (at line (Each x e b.0)) k.0)) (sym s.whole) (an_each b.1 k.1))
+    (step (at line (ast.For x e b.0)) k.0, subst (λ y. IsBlock loop c (l ∷ y) (step (at line (ast.For x e b.0)) k.0)) (sym s.whole) (an_each b.1 k.1))
 statement_read n r loop line c (headed (when e) m) before more z q h g =
     let l : ItemLine = item_line line c (headed (when e) m) in
     let s : Cut loop c l before more = cut loop line c (headed (when e) m) before more h in
@@ -217,8 +218,8 @@ statement_read n r loop line c (headed (when e) m) before more z q h g =
     let t : ArmsRead loop c (onto s.inner (l ∷ before)) s.others = arms_read n r n loop c (onto s.inner (l ∷ before)) s.others (omega arith) (omega arith) s.next in
     let v : length s.others ≡ length t.others + length t.rest = ap length t.whole ∙ length-append t.others t.rest in
     let k = r loop c (onto t.others (onto s.inner (l ∷ before))) t.rest z (omega arith) t.next t.begins in (
-      step (at line (Test (arm_and (arm line e b.0) t.arms) t.last)) k.0,
-      subst (λ y. IsBlock loop c (l ∷ y) (step (at line (Test (arm_and (arm line e b.0) t.arms) t.last)) k.0)) (append_assoc s.inner t.others t.rest ∙ sym (s.whole ∙ ap (λ y. s.inner ++ y) t.whole)) (a_test b.1 t.read k.1),
+      step (at line (ast.If (arm_and (arm line e b.0) t.arms) t.last)) k.0,
+      subst (λ y. IsBlock loop c (l ∷ y) (step (at line (ast.If (arm_and (arm line e b.0) t.arms) t.last)) k.0)) (append_assoc s.inner t.others t.rest ∙ sym (s.whole ∙ ap (λ y. s.inner ++ y) t.whole)) (a_test b.1 t.read k.1),
     )
 
 blocks : (n : ℕ) → Blocks n

@@ -1,7 +1,8 @@
 -- Lines that nest as blocks are put together as those blocks.
 use Rattle.std.proofs.Common.{◌≡◌, ℕ, ◌<◌, ◌≤◌, Bool, true, false, nat_lt, ◌==◌, inl, inr, List, [], ◌∷◌, ◌++◌, Option, None, refl, sym, ◌∙◌, ap, subst, arith, append_assoc, lt-ltb, le-ltb, eq-eqb, ne_eqb, eqb-true}
 use Rattle.std.proofs.lemmas.List.{map-append}
-use Rattle.mpy_tree.specs.Syntax.{Term, Statement, at, Action, Test, Loop, Each, Block, end, step, MaybeBlock, no_block, a_block, Branch, arm, Branches, no_arms, arm_and, Routine}
+use Rattle.mpy_tree.specs.Syntax.{Term, Statement, at, Action, Block, end, step, MaybeBlock, no_block, a_block, Branch, arm, Branches, no_arms, arm_and, Routine}
+use Rattle.mpy_tree.specs.Syntax as ast
 use Rattle.mpy_parser.specs.declared.entries.Entry.{Entry}
 use Rattle.mpy_parser.specs.Items.{Opening, function, when, else_when, otherwise, while, for_each, headed}
 use Rattle.mpy_parser.specs.Nesting.{ItemLine, item_line, IsBlock, IsBody, AreArms, AreRoutines, no_lines, a_simple, a_loop, an_each, a_test, behind_colon, below, no_more, an_elif, an_else, no_routines, a_routine}
@@ -51,9 +52,9 @@ statement_put : (c : ℕ) (b : Block) (arms : Branches) (last : MaybeBlock) (h :
 statement_put c b arms last h s m st p = subst (λ w. Stands c (step st w.body) no_arms no_block (heap (waiting c (step st (group_at c h.groups).body) no_arms no_block ∷ behind_group c h.groups) h.made) s m) p.group
     (group_put c (step st (group_at c h.groups).body) no_arms no_block (behind_group c h.groups) s h.made m p.behind p.made)
 
-test_put : (c line : ℕ) (e : Term) (body b : Block) (arms : Branches) (last : MaybeBlock) (h : Heap) (s : List Waiting) (m : List Routine) → Stands c b arms last h s m → Stands c (step (at line (Test (arm_and (arm line e body) arms) last)) b) no_arms no_block (heap (with_if c line e body h.groups) h.made) s m
-test_put c line e body b arms last h s m p = subst (λ w. Stands c (step (at line (Test (arm_and (arm line e body) w.arms) w.last)) b) no_arms no_block (heap (with_if c line e body h.groups) h.made) s m) p.group
-    (statement_put c b arms last h s m (at line (Test (arm_and (arm line e body) (group_at c h.groups).arms) (group_at c h.groups).last)) p)
+test_put : (c line : ℕ) (e : Term) (body b : Block) (arms : Branches) (last : MaybeBlock) (h : Heap) (s : List Waiting) (m : List Routine) → Stands c b arms last h s m → Stands c (step (at line (ast.If (arm_and (arm line e body) arms) last)) b) no_arms no_block (heap (with_if c line e body h.groups) h.made) s m
+test_put c line e body b arms last h s m p = subst (λ w. Stands c (step (at line (ast.If (arm_and (arm line e body) w.arms) w.last)) b) no_arms no_block (heap (with_if c line e body h.groups) h.made) s m) p.group
+    (statement_put c b arms last h s m (at line (ast.If (arm_and (arm line e body) (group_at c h.groups).arms) (group_at c h.groups).last)) p)
 
 arm_put : (c : ℕ) (a : Branch) (b : Block) (arms : Branches) (last : MaybeBlock) (h : Heap) (s : List Waiting) (m : List Routine) → Stands c b arms last h s m → Stands c b (arm_and a arms) last (heap (with_arm c a h.groups) h.made) s m
 arm_put c a b arms last h s m p = subst (λ w. Stands c w.body (arm_and a w.arms) w.last (heap (with_arm c a h.groups) h.made) s m) p.group
@@ -112,19 +113,19 @@ mutual
   block_put {c = c} (a_loop {line = line} {e} {m = mm} {inner} {rest} {body} {b} i d) s m u =
       let p : Stands c b no_arms no_block (with_lines rest (heap s m)) s m = block_put d s m u in
       let q = below_header c line (while e) mm body inner rest (heap s m) (body_put i (with_lines rest (heap s m)) (not_above c (with_lines rest (heap s m)).groups s p.behind u)) in
-      subst (λ h. Stands c (step (at line (Loop e body)) b) no_arms no_block h s m) (sym q) (statement_put c b no_arms no_block (with_lines rest (heap s m)) s m (at line (Loop e body)) p)
+      subst (λ h. Stands c (step (at line (ast.While e body)) b) no_arms no_block h s m) (sym q) (statement_put c b no_arms no_block (with_lines rest (heap s m)) s m (at line (ast.While e body)) p)
   block_put {c = c} (an_each {line = line} {x} {e} {m = mm} {inner} {rest} {body} {b} i d) s m u =
       let p : Stands c b no_arms no_block (with_lines rest (heap s m)) s m = block_put d s m u in
       let q = below_header c line (for_each x e) mm body inner rest (heap s m) (body_put i (with_lines rest (heap s m)) (not_above c (with_lines rest (heap s m)).groups s p.behind u)) in
-      subst (λ h. Stands c (step (at line (Each x e body)) b) no_arms no_block h s m) (sym q) (statement_put c b no_arms no_block (with_lines rest (heap s m)) s m (at line (Each x e body)) p)
+      subst (λ h. Stands c (step (at line (ast.For x e body)) b) no_arms no_block h s m) (sym q) (statement_put c b no_arms no_block (with_lines rest (heap s m)) s m (at line (ast.For x e body)) p)
   block_put {c = c} (a_test {line = line} {e} {m = mm} {inner} {others} {rest} {body} {b} {arms} {last} i a d) s m u =
       let k : Heap = with_lines others (with_lines rest (heap s m)) in
       let p : Stands c b arms last k s m = arms_put a b (with_lines rest (heap s m)) s m u (block_put d s m u) in
       let w : with_lines (others ++ rest) (heap s m) ≡ k = with_lines-append others rest (heap s m) in
       let t : Taken c line mm body (with_lines inner k) k = body_put i k (not_above c k.groups s p.behind u) in
       let q = below_header c line (when e) mm body inner (others ++ rest) (heap s m) (subst (λ h. Taken c line mm body (with_lines inner h) h) (sym w) t) ∙ ap (with_header line c (when e) body) w in
-      subst (λ l. Stands c (step (at line (Test (arm_and (arm line e body) arms) last)) b) no_arms no_block (with_lines (item_line line c (headed (when e) mm) ∷ l) (heap s m)) s m) (sym (append_assoc inner others rest))
-      (subst (λ h. Stands c (step (at line (Test (arm_and (arm line e body) arms) last)) b) no_arms no_block h s m) (sym q) (test_put c line e body b arms last k s m p))
+      subst (λ l. Stands c (step (at line (ast.If (arm_and (arm line e body) arms) last)) b) no_arms no_block (with_lines (item_line line c (headed (when e) mm) ∷ l) (heap s m)) s m) (sym (append_assoc inner others rest))
+      (subst (λ h. Stands c (step (at line (ast.If (arm_and (arm line e body) arms) last)) b) no_arms no_block h s m) (sym q) (test_put c line e body b arms last k s m p))
 
   body_put : {loop : Bool} {c line : ℕ} {m : Option Action} {inner : List ItemLine} {body : Block} → IsBody loop c line m inner body → (k : Heap) → NotAbove c k.groups → Taken c line m body (with_lines inner k) k
   body_put (behind_colon may) k n = record { taken = refl; left = refl; made = refl }

@@ -1,7 +1,8 @@
 -- Reading doesn't depend on how many steps it may take, as long as they are enough.
 use Rattle.std.proofs.Common.{◌≡◌, ℕ, zero, suc, ◌+◌, ◌*◌, ◌<◌, ◌≤◌, List, [], ◌∷◌, length, Option, Some, None, IfSome, refl, ap, sym, ◌∙◌, arith}
 use Rattle.mpy_tree.specs.declared.operators.ArithOp.TheVariants.{Power}
-use Rattle.mpy_tree.specs.Syntax.{Term, Terms, MaybeTerm, no_term, a_term, no_terms, term_and, Var, Items, Negation, Minus, Binary, Compare, Choose, Apply}
+use Rattle.mpy_tree.specs.Syntax.{Term, Terms, MaybeTerm, no_term, a_term, no_terms, term_and}
+use Rattle.mpy_tree.specs.Syntax as ast
 use Rattle.mpy_parser.specs.declared.levels.Level.{Level}
 use Rattle.mpy_parser.specs.declared.levels.Level.TheVariants as level
 use Rattle.mpy_parser.specs.declared.levels.Joint.{Joint}
@@ -99,7 +100,7 @@ arguments_same : (r s : Reader) → Shortens r → (n : ℕ) → AgreeBelow n r 
 arguments_same r s h n agree ts within = same_bound (behind_paren ts) _ _ (λ rest. length rest < length ts) (pass_paren ts) (λ rest p. elements_same r s h n agree bracket.Round rest (omega arith))
 
 name_or_call_same : (r s : Reader) → Shortens r → (n : ℕ) → AgreeBelow n r s → (x : List ℕ) (ts : List Terminal) → length ts ≤ n → name_or_call r x ts ≡ name_or_call s x ts
-name_or_call_same r s h n agree x ts within = ap (λ o. or_else (o >>= λ es. Some (Apply x es.0, es.1)) (Var x, ts)) (arguments_same r s h n agree ts within)
+name_or_call_same r s h n agree x ts within = ap (λ o. or_else (o >>= λ es. Some (ast.Call x es.0, es.1)) (ast.Name x, ts)) (arguments_same r s h n agree ts within)
 
 atom_same : (r s : Reader) → Shortens r → (ts : List Terminal) → AgreeBelow (length ts) r s → atom r ts ≡ atom s ts
 atom_same r s h (terminal.Number n ∷ ts) agree = refl
@@ -107,7 +108,7 @@ atom_same r s h (terminal.Text cs ∷ ts) agree = refl
 atom_same r s h (terminal.Word word.True ∷ ts) agree = refl
 atom_same r s h (terminal.Word word.False ∷ ts) agree = refl
 atom_same r s h (terminal.Name x ∷ ts) agree = ap Some (name_or_call_same r s h _ agree x ts (omega arith))
-atom_same r s h (terminal.Word word.LeftBracket ∷ ts) agree = ap (λ o. o >>= λ es. Some (Items es.0, es.1)) (elements_same r s h _ agree bracket.Square ts (omega arith))
+atom_same r s h (terminal.Word word.LeftBracket ∷ ts) agree = ap (λ o. o >>= λ es. Some (ast.List es.0, es.1)) (elements_same r s h _ agree bracket.Square ts (omega arith))
 atom_same r s h (terminal.Word word.LeftParen ∷ ts) agree = ap (λ o. o >>= λ e. behind_closing_paren e.1 >>= λ rest. Some (e.0, rest)) (agree level.Conditional ts (omega arith))
 atom_same r s h _ agree = refl
 
@@ -116,15 +117,15 @@ prefixed_same r s k b f p ts agree e = either_same (b ts) _ _ _ _ (λ rest. leng
 
 -- reading at a level looks at the level above, and at shorter lists
 at_level_same : (r s : Reader) → Shortens r → (k : Level) (ts : List Terminal) → AgreeBelow (length ts) r s → (levels_above (above k) < levels_above k → r (above k) ts ≡ s (above k) ts) → at_level r k ts ≡ at_level s k ts
-at_level_same r s h level.Conditional ts agree next = step_same (r level.Disjunction ts) (s level.Disjunction ts) _ _ (λ a. length a.1 < length ts) (next (omega arith)) (h level.Disjunction ts) (λ a p. ap (λ o. Some (or_else (o >>= λ c. Some (Choose c.0 a.0 c.1, c.2)) a)) (conditional_tail_same r s h _ agree a.1 (omega arith)))
+at_level_same r s h level.Conditional ts agree next = step_same (r level.Disjunction ts) (s level.Disjunction ts) _ _ (λ a. length a.1 < length ts) (next (omega arith)) (h level.Disjunction ts) (λ a p. ap (λ o. Some (or_else (o >>= λ c. Some (ast.Cond c.0 a.0 c.1, c.2)) a)) (conditional_tail_same r s h _ agree a.1 (omega arith)))
 at_level_same r s h level.Disjunction ts agree next = step_same (r level.Conjunction ts) (s level.Conjunction ts) _ _ (λ a. length a.1 < length ts) (next (omega arith)) (h level.Conjunction ts) (λ a p. ap Some (with_joints_same r s h _ agree level.Disjunction (length a.1) a (omega arith)))
 at_level_same r s h level.Conjunction ts agree next = step_same (r level.Negation ts) (s level.Negation ts) _ _ (λ a. length a.1 < length ts) (next (omega arith)) (h level.Negation ts) (λ a p. ap Some (with_joints_same r s h _ agree level.Conjunction (length a.1) a (omega arith)))
-at_level_same r s h level.Negation ts agree next = prefixed_same r s level.Negation behind_not Negation pass_not ts agree (next (omega arith))
-at_level_same r s h level.Comparison ts agree next = step_same (r level.Sum ts) (s level.Sum ts) _ _ (λ a. length a.1 < length ts) (next (omega arith)) (h level.Sum ts) (λ a p. ap (λ o. Some (or_else (o >>= λ c. Some (Compare c.0 a.0 c.1, c.2)) a)) (comparison_tail_same r s h _ agree a.1 (omega arith)))
+at_level_same r s h level.Negation ts agree next = prefixed_same r s level.Negation behind_not ast.Not pass_not ts agree (next (omega arith))
+at_level_same r s h level.Comparison ts agree next = step_same (r level.Sum ts) (s level.Sum ts) _ _ (λ a. length a.1 < length ts) (next (omega arith)) (h level.Sum ts) (λ a p. ap (λ o. Some (or_else (o >>= λ c. Some (ast.Cmp c.0 a.0 c.1, c.2)) a)) (comparison_tail_same r s h _ agree a.1 (omega arith)))
 at_level_same r s h level.Sum ts agree next = step_same (r level.Product ts) (s level.Product ts) _ _ (λ a. length a.1 < length ts) (next (omega arith)) (h level.Product ts) (λ a p. ap Some (with_joints_same r s h _ agree level.Sum (length a.1) a (omega arith)))
 at_level_same r s h level.Product ts agree next = step_same (r level.Unary ts) (s level.Unary ts) _ _ (λ a. length a.1 < length ts) (next (omega arith)) (h level.Unary ts) (λ a p. ap Some (with_joints_same r s h _ agree level.Product (length a.1) a (omega arith)))
-at_level_same r s h level.Unary ts agree next = prefixed_same r s level.Unary behind_minus Minus pass_minus ts agree (next (omega arith))
-at_level_same r s h level.Power ts agree next = step_same (r level.Postfix ts) (s level.Postfix ts) _ _ (λ a. length a.1 < length ts) (next (omega arith)) (h level.Postfix ts) (λ a p. ap (λ o. Some (or_else (o >>= λ b. Some (Binary Power a.0 b.0, b.1)) a)) (power_tail_same r s h _ agree a.1 (omega arith)))
+at_level_same r s h level.Unary ts agree next = prefixed_same r s level.Unary behind_minus ast.Neg pass_minus ts agree (next (omega arith))
+at_level_same r s h level.Power ts agree next = step_same (r level.Postfix ts) (s level.Postfix ts) _ _ (λ a. length a.1 < length ts) (next (omega arith)) (h level.Postfix ts) (λ a p. ap (λ o. Some (or_else (o >>= λ b. Some (ast.Arith Power a.0 b.0, b.1)) a)) (power_tail_same r s h _ agree a.1 (omega arith)))
 at_level_same r s h level.Postfix ts agree next = step_same (r level.Atom ts) (s level.Atom ts) _ _ (λ a. length a.1 < length ts) (next (omega arith)) (h level.Atom ts) (λ a p. ap Some (with_suffixes_same r s h _ agree (length a.1) a (omega arith)))
 at_level_same r s h level.Atom ts agree next = atom_same r s h ts agree
 

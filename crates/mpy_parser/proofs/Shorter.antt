@@ -1,6 +1,7 @@
 -- What is read leaves fewer terminals.
 use Rattle.std.proofs.Common.{ℕ, zero, suc, ◌<◌, ◌≤◌, List, ◌∷◌, length, Option, Some, None, IfSome, arith}
-use Rattle.mpy_tree.specs.Syntax.{Term, MaybeTerm, no_term, a_term, Var, Negation, Minus}
+use Rattle.mpy_tree.specs.Syntax.{Term, MaybeTerm, no_term, a_term}
+use Rattle.mpy_tree.specs.Syntax as ast
 use Rattle.mpy_parser.specs.declared.levels.Level.{Level}
 use Rattle.mpy_parser.specs.declared.levels.Level.TheVariants as level
 use Rattle.mpy_parser.specs.declared.words.Word.TheVariants as word
@@ -176,7 +177,7 @@ pub arguments_short : (r : Reader) → Shortens r → (ts : List Terminal) → I
 arguments_short r h ts = if_bound (behind_paren ts) _ (λ rest. length rest < length ts) _ (pass_paren ts) (λ rest p. weaker (elements r bracket.Round rest) _ _ (elements_short r h bracket.Round rest) (λ es q. omega arith))
 
 pub name_or_call_short : (r : Reader) → Shortens r → (x : List ℕ) (ts : List Terminal) → length (name_or_call r x ts).1 ≤ length ts
-name_or_call_short r h x ts = let a : Term × List Terminal = (Var x, ts) in with_tail (arguments r ts) _ a (λ es. length es.1 < length ts) (λ y. length y.1 ≤ length ts) (arguments_short r h ts) (λ es q. omega arith) (omega arith)
+name_or_call_short r h x ts = let a : Term × List Terminal = (ast.Name x, ts) in with_tail (arguments r ts) _ a (λ es. length es.1 < length ts) (λ y. length y.1 ≤ length ts) (arguments_short r h ts) (λ es q. omega arith) (omega arith)
 
 pub parenthesized_short : (r : Reader) → Shortens r → (ts : List Terminal) → IfSome (parenthesized r ts) (λ x. length x.1 < length ts)
 parenthesized_short r h ts =
@@ -200,11 +201,11 @@ pub at_level_short : (r : Reader) → Shortens r → Shortens (at_level r)
 at_level_short r h level.Conditional ts = if_bound (r level.Disjunction ts) _ (λ a. length a.1 < length ts) _ (h level.Disjunction ts) (λ a p. let e = with_conditional_tail_short r h a in omega arith)
 at_level_short r h level.Disjunction ts = if_bound (r level.Conjunction ts) _ (λ a. length a.1 < length ts) _ (h level.Conjunction ts) (λ a p. let e = with_joints_short r h level.Disjunction (length a.1) a in omega arith)
 at_level_short r h level.Conjunction ts = if_bound (r level.Negation ts) _ (λ a. length a.1 < length ts) _ (h level.Negation ts) (λ a p. let e = with_joints_short r h level.Conjunction (length a.1) a in omega arith)
-at_level_short r h level.Negation ts = prefixed_short r h level.Negation behind_not Negation pass_not ts
+at_level_short r h level.Negation ts = prefixed_short r h level.Negation behind_not ast.Not pass_not ts
 at_level_short r h level.Comparison ts = if_bound (r level.Sum ts) _ (λ a. length a.1 < length ts) _ (h level.Sum ts) (λ a p. let e = with_comparison_short r h a in omega arith)
 at_level_short r h level.Sum ts = if_bound (r level.Product ts) _ (λ a. length a.1 < length ts) _ (h level.Product ts) (λ a p. let e = with_joints_short r h level.Sum (length a.1) a in omega arith)
 at_level_short r h level.Product ts = if_bound (r level.Unary ts) _ (λ a. length a.1 < length ts) _ (h level.Unary ts) (λ a p. let e = with_joints_short r h level.Product (length a.1) a in omega arith)
-at_level_short r h level.Unary ts = prefixed_short r h level.Unary behind_minus Minus pass_minus ts
+at_level_short r h level.Unary ts = prefixed_short r h level.Unary behind_minus ast.Neg pass_minus ts
 at_level_short r h level.Power ts = if_bound (r level.Postfix ts) _ (λ a. length a.1 < length ts) _ (h level.Postfix ts) (λ a p. let e = with_power_short r h a in omega arith)
 at_level_short r h level.Postfix ts = if_bound (r level.Atom ts) _ (λ a. length a.1 < length ts) _ (h level.Atom ts) (λ a p. let e = with_suffixes_short r h (length a.1) a in omega arith)
 at_level_short r h level.Atom ts = atom_short r h ts

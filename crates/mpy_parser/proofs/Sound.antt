@@ -2,7 +2,8 @@
 use Rattle.std.proofs.Common.{◌≡◌, ℕ, zero, suc, true, false, List, [], ◌∷◌, ◌++◌, length, Option, Some, IfSome, refl, ap, sym, ◌∙◌, subst, append_assoc}
 use Rattle.mpy_tree.specs.declared.operators.ArithOp.TheVariants.{Add, Sub, Mul, Floor, Rem, Power}
 use Rattle.mpy_tree.specs.declared.operators.CmpOp.{CmpOp}
-use Rattle.mpy_tree.specs.Syntax.{Term, Terms, MaybeTerm, no_terms, term_and, no_term, a_term, Negation, Minus, Var}
+use Rattle.mpy_tree.specs.Syntax.{Term, Terms, MaybeTerm, no_terms, term_and, no_term, a_term}
+use Rattle.mpy_tree.specs.Syntax as ast
 use Rattle.mpy_parser.specs.declared.levels.Level.{Level}
 use Rattle.mpy_parser.specs.declared.levels.Level.TheVariants as level
 use Rattle.mpy_parser.specs.declared.levels.Joint.{Joint}
@@ -285,7 +286,7 @@ arguments_sound r h ts = if_bound (behind_paren ts) _ (Begins word.LeftParen ts)
     weaker (elements r bracket.Round rest) (AreElements bracket.Round rest) _ (elements_sound r h bracket.Round rest) (λ es t. (t.0, p ∙ ap (λ l. terminal.Word word.LeftParen ∷ l) t.1, t.2)))
 
 name_or_call_sound : (r : Reader) → Sound r → (x : List ℕ) (ts : List Terminal) → Fronts level.Atom (terminal.Name x ∷ ts) (name_or_call r x ts)
-name_or_call_sound r h x ts = let a : Term × List Terminal = (Var x, ts) in with_tail (arguments r ts) _ a (AreArguments ts) (Fronts level.Atom (terminal.Name x ∷ ts)) (arguments_sound r h ts)
+name_or_call_sound r h x ts = let a : Term × List Terminal = (ast.Name x, ts) in with_tail (arguments r ts) _ a (AreArguments ts) (Fronts level.Atom (terminal.Name x ∷ ts)) (arguments_sound r h ts)
     (λ es t. (terminal.Name x ∷ ((terminal.Word word.LeftParen ∷ t.0) ++ (terminal.Word word.RightParen ∷ [])), ap (λ l. terminal.Name x ∷ l) t.1, call x t.2))
     (terminal.Name x ∷ [], refl, name x)
 
@@ -318,11 +319,11 @@ at_level_sound : (r : Reader) → Sound r → Sound (at_level r)
 at_level_sound r h level.Conditional ts = if_bound (r level.Disjunction ts) _ (Fronts level.Disjunction ts) _ (h level.Disjunction ts) (λ a f. with_conditional_tail_sound r h ts a f)
 at_level_sound r h level.Disjunction ts = chain_sound r h level.Disjunction ts
 at_level_sound r h level.Conjunction ts = chain_sound r h level.Conjunction ts
-at_level_sound r h level.Negation ts = prefixed_sound r h level.Negation word.Not behind_not Negation begins_not (λ xs e s. negation s) ts
+at_level_sound r h level.Negation ts = prefixed_sound r h level.Negation word.Not behind_not ast.Not begins_not (λ xs e s. negation s) ts
 at_level_sound r h level.Comparison ts = if_bound (r level.Sum ts) _ (Fronts level.Sum ts) _ (h level.Sum ts) (λ a f. with_comparison_sound r h ts a f)
 at_level_sound r h level.Sum ts = chain_sound r h level.Sum ts
 at_level_sound r h level.Product ts = chain_sound r h level.Product ts
-at_level_sound r h level.Unary ts = prefixed_sound r h level.Unary word.Minus behind_minus Minus begins_minus (λ xs e s. minus s) ts
+at_level_sound r h level.Unary ts = prefixed_sound r h level.Unary word.Minus behind_minus ast.Neg begins_minus (λ xs e s. minus s) ts
 at_level_sound r h level.Power ts = if_bound (r level.Postfix ts) _ (Fronts level.Postfix ts) _ (h level.Postfix ts) (λ a f. with_power_sound r h ts a f)
 at_level_sound r h level.Postfix ts = if_bound (r level.Atom ts) _ (Fronts level.Atom ts) _ (h level.Atom ts) (λ a f. with_suffixes_sound r h (length a.1) ts a (f.0, f.1, higher f.2))
 at_level_sound r h level.Atom ts = atom_sound r h ts

@@ -1,6 +1,7 @@
 -- Where a reading stops: nothing in front goes on with it, and with some words none begins.
 use Rattle.std.proofs.Common.{◌≡◌, ℕ, zero, suc, ◌<◌, ◌≤◌, List, [], ◌∷◌, length, Option, Some, None, IfSome, refl, ap, sym, ◌∙◌, arith}
-use Rattle.mpy_tree.specs.Syntax.{Term, Negation, Minus}
+use Rattle.mpy_tree.specs.Syntax.{Term}
+use Rattle.mpy_tree.specs.Syntax as ast
 use Rattle.mpy_parser.specs.declared.levels.Level.{Level}
 use Rattle.mpy_parser.specs.declared.levels.Level.TheVariants as level
 use Rattle.mpy_parser.specs.declared.words.Word.{Word}
@@ -195,7 +196,7 @@ no_power_reading w h ts = reading_step level.Power (terminal.Word w ∷ ts) ∙ 
 
 no_unary_reading : (w : Word) → no_atom w → ((ts : List Terminal) → behind_minus (terminal.Word w ∷ ts) ≡ None) → (ts : List Terminal) → reading level.Unary (terminal.Word w ∷ ts) ≡ None
 no_unary_reading w h m ts = reading_step level.Unary (terminal.Word w ∷ ts)
-    ∙ ap (λ o. elim o as (λ _. Option (Term × List Terminal)) [ Some rest ↦ (reading level.Unary rest >>= λ e. Some (Minus e.0, e.1)) | None ↦ reading level.Power (terminal.Word w ∷ ts) ]) (m ts)
+    ∙ ap (λ o. elim o as (λ _. Option (Term × List Terminal)) [ Some rest ↦ (reading level.Unary rest >>= λ e. Some (ast.Neg e.0, e.1)) | None ↦ reading level.Power (terminal.Word w ∷ ts) ]) (m ts)
     ∙ no_power_reading w h ts
 
 no_product_reading : (w : Word) → no_atom w → ((ts : List Terminal) → behind_minus (terminal.Word w ∷ ts) ≡ None) → (ts : List Terminal) → reading level.Product (terminal.Word w ∷ ts) ≡ None
@@ -213,7 +214,7 @@ no_reading w h m n ts =
     (reading_step level.Disjunction (terminal.Word w ∷ ts) ∙ ap (λ o. o >>= λ a. Some (with_joints reading level.Disjunction (length a.1) a))
     (reading_step level.Conjunction (terminal.Word w ∷ ts) ∙ ap (λ o. o >>= λ a. Some (with_joints reading level.Conjunction (length a.1) a))
     (reading_step level.Negation (terminal.Word w ∷ ts)
-    ∙ ap (λ o. elim o as (λ _. Option (Term × List Terminal)) [ Some rest ↦ (reading level.Negation rest >>= λ e. Some (Negation e.0, e.1)) | None ↦ reading level.Comparison (terminal.Word w ∷ ts) ]) (n ts)
+    ∙ ap (λ o. elim o as (λ _. Option (Term × List Terminal)) [ Some rest ↦ (reading level.Negation rest >>= λ e. Some (ast.Not e.0, e.1)) | None ↦ reading level.Comparison (terminal.Word w ∷ ts) ]) (n ts)
     ∙ no_comparison_reading w h m ts)))
 
 -- what is read doesn't begin with such a word

@@ -1,6 +1,7 @@
 -- Where logical lines don't nest: the faults of columns, and those of blocks. The lines before one are listed with the nearest first.
 use Rattle.std.specs.Prelude.{ℕ, Bool, true, false, not, ◌&&◌, ◌||◌, ◌==◌, nat_lt, List, [], ◌∷◌, Option, Some, None, if◌then◌else◌}
-use Rattle.mpy_tree.specs.Syntax.{Action, Leave, Again}
+use Rattle.mpy_tree.specs.Syntax.{Action}
+use Rattle.mpy_tree.specs.Syntax as ast
 use Rattle.mpy_lexer.specs.declared.line.Line.{Line}
 use Rattle.mpy_parser.specs.Items.{function, when, else_when, otherwise, while, for_each, LineItem, simple, headed}
 use Rattle.mpy_parser.specs.Nesting.{ItemLine}
@@ -49,8 +50,8 @@ is_loop _ = false
 
 -- a `break` or a `continue`
 abbrev pub leaves_turn : Action → Bool
-leaves_turn Leave = true
-leaves_turn Again = true
+leaves_turn ast.Break = true
+leaves_turn ast.Continue = true
 leaves_turn _ = false
 
 abbrev pub leaves : LineItem → Bool

@@ -3,7 +3,8 @@ use Rattle.std.specs.Prelude.{ℕ, Bool, true, false, List, [], ◌∷◌, ◌++
 use Rattle.mpy_tree.specs.declared.operators.ArithOp.{ArithOp}
 use Rattle.mpy_tree.specs.declared.operators.CmpOp.{CmpOp}
 use Rattle.mpy_tree.specs.declared.operators.CmpOp.TheVariants.{Eq, Ne, Lt, Le, Gt, Ge, Member, NotMember}
-use Rattle.mpy_tree.specs.Syntax.{Term, Terms, MaybeTerm, Number, Truth, Quoted, Var, Items, Minus, Negation, Binary, Compare, Both, Either, Choose, At, Cut, Apply, no_terms, term_and, no_term, a_term}
+use Rattle.mpy_tree.specs.Syntax.{Term, Terms, MaybeTerm, no_terms, term_and, no_term, a_term}
+use Rattle.mpy_tree.specs.Syntax as ast
 use Rattle.mpy_parser.specs.declared.levels.Level.{Level}
 use Rattle.mpy_parser.specs.declared.levels.Level.TheVariants as level
 use Rattle.mpy_parser.specs.declared.words.Word.{Word}
@@ -30,21 +31,21 @@ truth_word false = word.False
 -- One case for each row of the grammar. Operators of one level group to the left.
 mutual
   pub data Spells : Level → List Terminal → Term → Type 0 where
-    conditional : {xs ts ys : List Terminal} {a t b : Term} → Spells level.Disjunction xs a → Spells level.Disjunction ts t → Spells level.Conditional ys b → Spells level.Conditional (xs ++ terminal.Word word.If ∷ ts ++ terminal.Word word.Else ∷ ys) (Choose t a b)
-    disjunction : {xs ys : List Terminal} {a b : Term} → Spells level.Disjunction xs a → Spells level.Conjunction ys b → Spells level.Disjunction (xs ++ terminal.Word word.Or ∷ ys) (Either a b)
-    conjunction : {xs ys : List Terminal} {a b : Term} → Spells level.Conjunction xs a → Spells level.Negation ys b → Spells level.Conjunction (xs ++ terminal.Word word.And ∷ ys) (Both a b)
-    negation : {xs : List Terminal} {a : Term} → Spells level.Negation xs a → Spells level.Negation (terminal.Word word.Not ∷ xs) (Negation a)
-    compared : {xs ys : List Terminal} {a b : Term} (op : CmpOp) → Spells level.Sum xs a → Spells level.Sum ys b → Spells level.Comparison (xs ++ comparison op ++ ys) (Compare op a b)
-    arithmetic : {xs ys : List Terminal} {a b : Term} (op : ArithOp) → Spells (left_level op) xs a → Spells (right_level op) ys b → Spells (operator_level op) (xs ++ terminal.Word (arith_word op) ∷ ys) (Binary op a b)
-    minus : {xs : List Terminal} {a : Term} → Spells level.Unary xs a → Spells level.Unary (terminal.Word word.Minus ∷ xs) (Minus a)
-    index : {xs ys : List Terminal} {v i : Term} → Spells level.Postfix xs v → Spells level.Conditional ys i → Spells level.Postfix (xs ++ terminal.Word word.LeftBracket ∷ ys ++ terminal.Word word.RightBracket ∷ []) (At v i)
-    slice : {xs ys zs : List Terminal} {v : Term} {from to : MaybeTerm} → Spells level.Postfix xs v → SpellsEnd ys from → SpellsEnd zs to → Spells level.Postfix (xs ++ terminal.Word word.LeftBracket ∷ ys ++ terminal.Word word.Colon ∷ zs ++ terminal.Word word.RightBracket ∷ []) (Cut v from to)
-    number : (n : ℕ) → Spells level.Atom (terminal.Number n ∷ []) (Number n)
-    quoted : (cs : List ℕ) → Spells level.Atom (terminal.Text cs ∷ []) (Quoted cs)
-    truth : (b : Bool) → Spells level.Atom (terminal.Word (truth_word b) ∷ []) (Truth b)
-    name : (x : List ℕ) → Spells level.Atom (terminal.Name x ∷ []) (Var x)
-    call : (f : List ℕ) {xs : List Terminal} {es : Terms} → SpellsAll xs es → Spells level.Atom (terminal.Name f ∷ terminal.Word word.LeftParen ∷ xs ++ terminal.Word word.RightParen ∷ []) (Apply f es)
-    items : {xs : List Terminal} {es : Terms} → SpellsAll xs es → Spells level.Atom (terminal.Word word.LeftBracket ∷ xs ++ terminal.Word word.RightBracket ∷ []) (Items es)
+    conditional : {xs ts ys : List Terminal} {a t b : Term} → Spells level.Disjunction xs a → Spells level.Disjunction ts t → Spells level.Conditional ys b → Spells level.Conditional (xs ++ terminal.Word word.If ∷ ts ++ terminal.Word word.Else ∷ ys) (ast.Cond t a b)
+    disjunction : {xs ys : List Terminal} {a b : Term} → Spells level.Disjunction xs a → Spells level.Conjunction ys b → Spells level.Disjunction (xs ++ terminal.Word word.Or ∷ ys) (ast.Or a b)
+    conjunction : {xs ys : List Terminal} {a b : Term} → Spells level.Conjunction xs a → Spells level.Negation ys b → Spells level.Conjunction (xs ++ terminal.Word word.And ∷ ys) (ast.And a b)
+    negation : {xs : List Terminal} {a : Term} → Spells level.Negation xs a → Spells level.Negation (terminal.Word word.Not ∷ xs) (ast.Not a)
+    compared : {xs ys : List Terminal} {a b : Term} (op : CmpOp) → Spells level.Sum xs a → Spells level.Sum ys b → Spells level.Comparison (xs ++ comparison op ++ ys) (ast.Cmp op a b)
+    arithmetic : {xs ys : List Terminal} {a b : Term} (op : ArithOp) → Spells (left_level op) xs a → Spells (right_level op) ys b → Spells (operator_level op) (xs ++ terminal.Word (arith_word op) ∷ ys) (ast.Arith op a b)
+    minus : {xs : List Terminal} {a : Term} → Spells level.Unary xs a → Spells level.Unary (terminal.Word word.Minus ∷ xs) (ast.Neg a)
+    index : {xs ys : List Terminal} {v i : Term} → Spells level.Postfix xs v → Spells level.Conditional ys i → Spells level.Postfix (xs ++ terminal.Word word.LeftBracket ∷ ys ++ terminal.Word word.RightBracket ∷ []) (ast.Index v i)
+    slice : {xs ys zs : List Terminal} {v : Term} {from to : MaybeTerm} → Spells level.Postfix xs v → SpellsEnd ys from → SpellsEnd zs to → Spells level.Postfix (xs ++ terminal.Word word.LeftBracket ∷ ys ++ terminal.Word word.Colon ∷ zs ++ terminal.Word word.RightBracket ∷ []) (ast.Slice v from to)
+    number : (n : ℕ) → Spells level.Atom (terminal.Number n ∷ []) (ast.Int n)
+    quoted : (cs : List ℕ) → Spells level.Atom (terminal.Text cs ∷ []) (ast.Text cs)
+    truth : (b : Bool) → Spells level.Atom (terminal.Word (truth_word b) ∷ []) (ast.Bool b)
+    name : (x : List ℕ) → Spells level.Atom (terminal.Name x ∷ []) (ast.Name x)
+    call : (f : List ℕ) {xs : List Terminal} {es : Terms} → SpellsAll xs es → Spells level.Atom (terminal.Name f ∷ terminal.Word word.LeftParen ∷ xs ++ terminal.Word word.RightParen ∷ []) (ast.Call f es)
+    items : {xs : List Terminal} {es : Terms} → SpellsAll xs es → Spells level.Atom (terminal.Word word.LeftBracket ∷ xs ++ terminal.Word word.RightBracket ∷ []) (ast.List es)
     parenthesized : {xs : List Terminal} {e : Term} → Spells level.Conditional xs e → Spells level.Atom (terminal.Word word.LeftParen ∷ xs ++ terminal.Word word.RightParen ∷ []) e
     -- what a level spells, each level below it spells too
     higher : {k : Level} {xs : List Terminal} {e : Term} → Spells (above k) xs e → Spells k xs e

@@ -1,7 +1,8 @@
 -- Reading the item of a logical line, all of its terminals.
 use Rattle.std.specs.Prelude.{ℕ, Bool, List, [], ◌∷◌, nat_eq, Option, Some, None, if◌then◌else◌, codes}
 use Rattle.std.specs.Cmp.Lexicographic.{pointwise}
-use Rattle.mpy_tree.specs.Syntax.{Term, no_term, a_term, Action, SetTo, SetBy, SetAt, SetAtBy, AppendTo, Give, Nothing, Leave, Again}
+use Rattle.mpy_tree.specs.Syntax.{Term, no_term, a_term, Action}
+use Rattle.mpy_tree.specs.Syntax as ast
 use Rattle.mpy_tree.specs.declared.operators.ArithOp.{ArithOp}
 use Rattle.mpy_parser.specs.declared.levels.Level.TheVariants as level
 use Rattle.mpy_parser.specs.declared.words.Word.{Word}
@@ -26,11 +27,11 @@ augmenting w ts = augmented w >>= λ op. whole ts >>= λ e. Some (op, e)
 
 -- an augmented assignment, behind the target in brackets
 abbrev pub augmented_at : List ℕ → Term → Word → List Terminal → Option Action
-augmented_at x i w ts = augmenting w ts >>= λ a. Some (SetAtBy x i a.0 a.1)
+augmented_at x i w ts = augmenting w ts >>= λ a. Some (ast.AugmentAt x i a.0 a.1)
 
 -- behind the target in brackets
 abbrev pub assigned : List ℕ → Term → List Terminal → Option Action
-assigned x i (terminal.Word word.Assign ∷ ts) = whole ts >>= λ e. Some (SetAt x i e)
+assigned x i (terminal.Word word.Assign ∷ ts) = whole ts >>= λ e. Some (ast.Put x i e)
 assigned x i (terminal.Word w ∷ ts) = augmented_at x i w ts
 assigned x i _ = None
 
@@ -47,7 +48,7 @@ abbrev pub argument : List ℕ → List Terminal → Option Action
 argument x ts = do
   e ← reading level.Conditional ts
   rest ← behind_closing_paren e.1
-  ended (AppendTo x e.0) rest
+  ended (ast.Append x e.0) rest
 
 abbrev pub method : List ℕ → List Terminal → Option Action
 method x (terminal.Name f ∷ terminal.Word word.LeftParen ∷ ts) = if is_append f then argument x ts else None
@@ -55,19 +56,19 @@ method x _ = None
 
 -- behind a name and a word
 abbrev pub behind_name : List ℕ → Word → List Terminal → Option Action
-behind_name x word.Assign ts = whole ts >>= λ e. Some (SetTo x e)
+behind_name x word.Assign ts = whole ts >>= λ e. Some (ast.Assign x e)
 behind_name x word.LeftBracket ts = at_place x ts
 behind_name x word.Dot ts = method x ts
-behind_name x w ts = augmenting w ts >>= λ a. Some (SetBy x a.0 a.1)
+behind_name x w ts = augmenting w ts >>= λ a. Some (ast.Augment x a.0 a.1)
 
 abbrev pub given_at : List Terminal → Option Action
-given_at [] = Some (Give no_term)
-given_at (t ∷ ts) = whole (t ∷ ts) >>= λ e. Some (Give (a_term e))
+given_at [] = Some (ast.Return no_term)
+given_at (t ∷ ts) = whole (t ∷ ts) >>= λ e. Some (ast.Return (a_term e))
 
 abbrev pub simple_at : List Terminal → Option Action
-simple_at (terminal.Word word.Pass ∷ ts) = ended Nothing ts
-simple_at (terminal.Word word.Break ∷ ts) = ended Leave ts
-simple_at (terminal.Word word.Continue ∷ ts) = ended Again ts
+simple_at (terminal.Word word.Pass ∷ ts) = ended ast.Pass ts
+simple_at (terminal.Word word.Break ∷ ts) = ended ast.Break ts
+simple_at (terminal.Word word.Continue ∷ ts) = ended ast.Continue ts
 simple_at (terminal.Word word.Return ∷ ts) = given_at ts
 simple_at (terminal.Name x ∷ terminal.Word w ∷ ts) = behind_name x w ts
 simple_at _ = None

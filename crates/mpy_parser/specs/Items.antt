@@ -2,7 +2,8 @@
 use Rattle.std.specs.Prelude.{◌≡◌, ℕ, List, [], ◌∷◌, ◌++◌, Option, Some, None, codes}
 use Rattle.mpy_tree.specs.declared.operators.ArithOp.{ArithOp}
 use Rattle.mpy_tree.specs.declared.operators.ArithOp.TheVariants.{Add, Sub, Mul, Floor, Rem}
-use Rattle.mpy_tree.specs.Syntax.{Term, no_term, a_term, Action, SetTo, SetBy, SetAt, SetAtBy, AppendTo, Give, Nothing, Leave, Again}
+use Rattle.mpy_tree.specs.Syntax.{Term, no_term, a_term, Action}
+use Rattle.mpy_tree.specs.Syntax as ast
 use Rattle.mpy_parser.specs.declared.levels.Level.TheVariants as level
 use Rattle.mpy_parser.specs.declared.words.Word.{Word}
 use Rattle.mpy_parser.specs.declared.words.Word.TheVariants as word
@@ -34,16 +35,16 @@ augmented word.PercentAssign = Some Rem
 augmented _ = None
 
 pub data SpellsSimple : List Terminal → Action → Type 0 where
-  assign : (x : List ℕ) {es : List Terminal} {e : Term} → Spells level.Conditional es e → SpellsSimple (terminal.Name x ∷ terminal.Word word.Assign ∷ es) (SetTo x e)
-  augment : (x : List ℕ) (w : Word) {op : ArithOp} {es : List Terminal} {e : Term} → augmented w ≡ Some op → Spells level.Conditional es e → SpellsSimple (terminal.Name x ∷ terminal.Word w ∷ es) (SetBy x op e)
-  put : (x : List ℕ) {is es : List Terminal} {i e : Term} → Spells level.Conditional is i → Spells level.Conditional es e → SpellsSimple (terminal.Name x ∷ terminal.Word word.LeftBracket ∷ is ++ terminal.Word word.RightBracket ∷ terminal.Word word.Assign ∷ es) (SetAt x i e)
-  augment_at : (x : List ℕ) (w : Word) {op : ArithOp} {is es : List Terminal} {i e : Term} → augmented w ≡ Some op → Spells level.Conditional is i → Spells level.Conditional es e → SpellsSimple (terminal.Name x ∷ terminal.Word word.LeftBracket ∷ is ++ terminal.Word word.RightBracket ∷ terminal.Word w ∷ es) (SetAtBy x i op e)
-  append : (x : List ℕ) {es : List Terminal} {e : Term} → Spells level.Conditional es e → SpellsSimple (terminal.Name x ∷ terminal.Word word.Dot ∷ terminal.Name (codes "append") ∷ terminal.Word word.LeftParen ∷ es ++ terminal.Word word.RightParen ∷ []) (AppendTo x e)
-  give_nothing : SpellsSimple (terminal.Word word.Return ∷ []) (Give no_term)
-  give : {es : List Terminal} {e : Term} → Spells level.Conditional es e → SpellsSimple (terminal.Word word.Return ∷ es) (Give (a_term e))
-  pass : SpellsSimple (terminal.Word word.Pass ∷ []) Nothing
-  leave : SpellsSimple (terminal.Word word.Break ∷ []) Leave
-  again : SpellsSimple (terminal.Word word.Continue ∷ []) Again
+  assign : (x : List ℕ) {es : List Terminal} {e : Term} → Spells level.Conditional es e → SpellsSimple (terminal.Name x ∷ terminal.Word word.Assign ∷ es) (ast.Assign x e)
+  augment : (x : List ℕ) (w : Word) {op : ArithOp} {es : List Terminal} {e : Term} → augmented w ≡ Some op → Spells level.Conditional es e → SpellsSimple (terminal.Name x ∷ terminal.Word w ∷ es) (ast.Augment x op e)
+  put : (x : List ℕ) {is es : List Terminal} {i e : Term} → Spells level.Conditional is i → Spells level.Conditional es e → SpellsSimple (terminal.Name x ∷ terminal.Word word.LeftBracket ∷ is ++ terminal.Word word.RightBracket ∷ terminal.Word word.Assign ∷ es) (ast.Put x i e)
+  augment_at : (x : List ℕ) (w : Word) {op : ArithOp} {is es : List Terminal} {i e : Term} → augmented w ≡ Some op → Spells level.Conditional is i → Spells level.Conditional es e → SpellsSimple (terminal.Name x ∷ terminal.Word word.LeftBracket ∷ is ++ terminal.Word word.RightBracket ∷ terminal.Word w ∷ es) (ast.AugmentAt x i op e)
+  append : (x : List ℕ) {es : List Terminal} {e : Term} → Spells level.Conditional es e → SpellsSimple (terminal.Name x ∷ terminal.Word word.Dot ∷ terminal.Name (codes "append") ∷ terminal.Word word.LeftParen ∷ es ++ terminal.Word word.RightParen ∷ []) (ast.Append x e)
+  give_nothing : SpellsSimple (terminal.Word word.Return ∷ []) (ast.Return no_term)
+  give : {es : List Terminal} {e : Term} → Spells level.Conditional es e → SpellsSimple (terminal.Word word.Return ∷ es) (ast.Return (a_term e))
+  pass : SpellsSimple (terminal.Word word.Pass ∷ []) ast.Pass
+  leave : SpellsSimple (terminal.Word word.Break ∷ []) ast.Break
+  again : SpellsSimple (terminal.Word word.Continue ∷ []) ast.Continue
 
 -- names joined by commas
 abbrev pub name_list : List (List ℕ) → List Terminal

@@ -1,26 +1,27 @@
 -- How large a program may be, and where one is larger.
 use Rattle.std.specs.Prelude.{ℕ, zero, suc, ◌+◌, max, Bool, false, ◌||◌, nat_lt, List, [], ◌∷◌, ◌++◌, length, map, take, drop, Result, Ok, Err, if◌then◌else◌}
 use Rattle.std.specs.List.{flat_map, list_any}
-use Rattle.mpy_tree.specs.Syntax.{Term, Terms, MaybeTerm, Number, Truth, Quoted, Var, Items, Minus, Negation, Binary, Compare, Both, Either, Choose, At, Cut, Apply, no_terms, term_and, no_term, a_term, at, Action, SetTo, SetBy, SetAt, SetAtBy, AppendTo, Give, Nothing, Leave, Again, Test, Loop, Each, Block, end, step, MaybeBlock, no_block, a_block, arm, Branches, no_arms, arm_and, Routine}
+use Rattle.mpy_tree.specs.Syntax.{Term, Terms, MaybeTerm, no_terms, term_and, no_term, a_term, at, Action, Block, end, step, MaybeBlock, no_block, a_block, arm, Branches, no_arms, arm_and, Routine}
+use Rattle.mpy_tree.specs.Syntax as ast
 
 -- a leaf has depth 1, and every other node one more than its deepest part
 abbrev mutual
   pub depth : Term → ℕ
-  depth (Number n) = 1
-  depth (Truth b) = 1
-  depth (Quoted cs) = 1
-  depth (Var x) = 1
-  depth (Items es) = 1 + most_depth es
-  depth (Minus e) = 1 + depth e
-  depth (Negation e) = 1 + depth e
-  depth (Binary op a b) = 1 + max (depth a) (depth b)
-  depth (Compare op a b) = 1 + max (depth a) (depth b)
-  depth (Both a b) = 1 + max (depth a) (depth b)
-  depth (Either a b) = 1 + max (depth a) (depth b)
-  depth (Choose t a b) = 1 + max (depth t) (max (depth a) (depth b))
-  depth (At v i) = 1 + max (depth v) (depth i)
-  depth (Cut v from to) = 1 + max (depth v) (max (end_depth from) (end_depth to))
-  depth (Apply f es) = 1 + most_depth es
+  depth (ast.Int n) = 1
+  depth (ast.Bool b) = 1
+  depth (ast.Text cs) = 1
+  depth (ast.Name x) = 1
+  depth (ast.List es) = 1 + most_depth es
+  depth (ast.Neg e) = 1 + depth e
+  depth (ast.Not e) = 1 + depth e
+  depth (ast.Arith op a b) = 1 + max (depth a) (depth b)
+  depth (ast.Cmp op a b) = 1 + max (depth a) (depth b)
+  depth (ast.And a b) = 1 + max (depth a) (depth b)
+  depth (ast.Or a b) = 1 + max (depth a) (depth b)
+  depth (ast.Cond t a b) = 1 + max (depth t) (max (depth a) (depth b))
+  depth (ast.Index v i) = 1 + max (depth v) (depth i)
+  depth (ast.Slice v from to) = 1 + max (depth v) (max (end_depth from) (end_depth to))
+  depth (ast.Call f es) = 1 + most_depth es
 
   pub most_depth : Terms → ℕ
   most_depth no_terms = 0
@@ -36,21 +37,21 @@ is_long x = nat_lt 40 (length x)
 
 abbrev mutual
   pub has_long : Term → Bool
-  has_long (Number n) = false
-  has_long (Truth b) = false
-  has_long (Quoted cs) = false
-  has_long (Var x) = is_long x
-  has_long (Items es) = some_has_long es
-  has_long (Minus e) = has_long e
-  has_long (Negation e) = has_long e
-  has_long (Binary op a b) = has_long a || has_long b
-  has_long (Compare op a b) = has_long a || has_long b
-  has_long (Both a b) = has_long a || has_long b
-  has_long (Either a b) = has_long a || has_long b
-  has_long (Choose t a b) = has_long t || has_long a || has_long b
-  has_long (At v i) = has_long v || has_long i
-  has_long (Cut v from to) = has_long v || end_has_long from || end_has_long to
-  has_long (Apply f es) = is_long f || some_has_long es
+  has_long (ast.Int n) = false
+  has_long (ast.Bool b) = false
+  has_long (ast.Text cs) = false
+  has_long (ast.Name x) = is_long x
+  has_long (ast.List es) = some_has_long es
+  has_long (ast.Neg e) = has_long e
+  has_long (ast.Not e) = has_long e
+  has_long (ast.Arith op a b) = has_long a || has_long b
+  has_long (ast.Cmp op a b) = has_long a || has_long b
+  has_long (ast.And a b) = has_long a || has_long b
+  has_long (ast.Or a b) = has_long a || has_long b
+  has_long (ast.Cond t a b) = has_long t || has_long a || has_long b
+  has_long (ast.Index v i) = has_long v || has_long i
+  has_long (ast.Slice v from to) = has_long v || end_has_long from || end_has_long to
+  has_long (ast.Call f es) = is_long f || some_has_long es
 
   pub some_has_long : Terms → Bool
   some_has_long no_terms = false
@@ -87,18 +88,18 @@ abbrev mutual
   block_lines d (step (at line act) rest) = action_lines d line act ++ block_lines d rest
 
   pub action_lines : ℕ → ℕ → Action → List ℕ
-  action_lines d line (SetTo x e) = line_if (is_long x || is_large e) line
-  action_lines d line (SetBy x op e) = line_if (is_long x || is_large e) line
-  action_lines d line (SetAt x i e) = line_if (is_long x || is_large i || is_large e) line
-  action_lines d line (SetAtBy x i op e) = line_if (is_long x || is_large i || is_large e) line
-  action_lines d line (AppendTo x e) = line_if (is_long x || is_large e) line
-  action_lines d line (Give e) = line_if (end_is_large e) line
-  action_lines d line Nothing = []
-  action_lines d line Leave = []
-  action_lines d line Again = []
-  action_lines d line (Test arms last) = arms_lines d arms ++ last_lines d last
-  action_lines d line (Loop e body) = line_if (is_large e) line ++ too_deep (deeper d) body ++ block_lines (deeper d) body
-  action_lines d line (Each x e body) = line_if (is_long x || is_large e) line ++ too_deep (deeper d) body ++ block_lines (deeper d) body
+  action_lines d line (ast.Assign x e) = line_if (is_long x || is_large e) line
+  action_lines d line (ast.Augment x op e) = line_if (is_long x || is_large e) line
+  action_lines d line (ast.Put x i e) = line_if (is_long x || is_large i || is_large e) line
+  action_lines d line (ast.AugmentAt x i op e) = line_if (is_long x || is_large i || is_large e) line
+  action_lines d line (ast.Append x e) = line_if (is_long x || is_large e) line
+  action_lines d line (ast.Return e) = line_if (end_is_large e) line
+  action_lines d line ast.Pass = []
+  action_lines d line ast.Break = []
+  action_lines d line ast.Continue = []
+  action_lines d line (ast.If arms last) = arms_lines d arms ++ last_lines d last
+  action_lines d line (ast.While e body) = line_if (is_large e) line ++ too_deep (deeper d) body ++ block_lines (deeper d) body
+  action_lines d line (ast.For x e body) = line_if (is_long x || is_large e) line ++ too_deep (deeper d) body ++ block_lines (deeper d) body
 
   pub arms_lines : ℕ → Branches → List ℕ
   arms_lines d no_arms = []
@@ -115,9 +116,9 @@ abbrev mutual
   statements (step (at line act) rest) = (line ∷ statements_in act) ++ statements rest
 
   pub statements_in : Action → List ℕ
-  statements_in (Test arms last) = statements_of arms ++ statements_last last
-  statements_in (Loop e body) = statements body
-  statements_in (Each x e body) = statements body
+  statements_in (ast.If arms last) = statements_of arms ++ statements_last last
+  statements_in (ast.While e body) = statements body
+  statements_in (ast.For x e body) = statements body
   statements_in _ = []
 
   pub statements_of : Branches → List ℕ

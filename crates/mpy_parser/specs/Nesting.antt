@@ -1,6 +1,7 @@
 -- How logical lines nest as the blocks of a program, by their columns.
 use Rattle.std.specs.Prelude.{◌<◌, ℕ, Bool, true, false, List, [], ◌∷◌, ◌++◌, Option, Some, None}
-use Rattle.mpy_tree.specs.Syntax.{Term, at, Action, Leave, Again, Test, Loop, Each, Block, end, step, MaybeBlock, no_block, a_block, arm, Branches, no_arms, arm_and, Routine}
+use Rattle.mpy_tree.specs.Syntax.{Term, at, Action, Block, end, step, MaybeBlock, no_block, a_block, arm, Branches, no_arms, arm_and, Routine}
+use Rattle.mpy_tree.specs.Syntax as ast
 use Rattle.mpy_parser.specs.Items.{function, when, else_when, otherwise, while, for_each, LineItem, simple, headed}
 
 -- a logical line: the physical line on which it begins, its column, and its item
@@ -15,8 +16,8 @@ item_line line column item = record { line = line; column = column; item = item 
 -- whether a simple statement may stand there: `break` and `continue` only in a loop
 abbrev pub MayStand : Bool → Action → Type 0
 MayStand true act = Unit {0}
-MayStand false Leave = ⊥
-MayStand false Again = ⊥
+MayStand false ast.Break = ⊥
+MayStand false ast.Continue = ⊥
 MayStand false act = Unit {0}
 
 -- The lines of one column, with those that are deeper, are the statements of a block; `loop` says whether it stands in a loop.
@@ -24,9 +25,9 @@ mutual
   pub data IsBlock : (loop : Bool) (column : ℕ) → List ItemLine → Block → Type 0 where
     no_lines : {loop : Bool} {c : ℕ} → IsBlock loop c [] end
     a_simple : {loop : Bool} {c line : ℕ} {act : Action} {rest : List ItemLine} {b : Block} → MayStand loop act → IsBlock loop c rest b → IsBlock loop c (item_line line c (simple act) ∷ rest) (step (at line act) b)
-    a_loop : {loop : Bool} {c line : ℕ} {e : Term} {m : Option Action} {inner rest : List ItemLine} {body b : Block} → IsBody true c line m inner body → IsBlock loop c rest b → IsBlock loop c (item_line line c (headed (while e) m) ∷ inner ++ rest) (step (at line (Loop e body)) b)
-    an_each : {loop : Bool} {c line : ℕ} {x : List ℕ} {e : Term} {m : Option Action} {inner rest : List ItemLine} {body b : Block} → IsBody true c line m inner body → IsBlock loop c rest b → IsBlock loop c (item_line line c (headed (for_each x e) m) ∷ inner ++ rest) (step (at line (Each x e body)) b)
-    a_test : {loop : Bool} {c line : ℕ} {e : Term} {m : Option Action} {inner others rest : List ItemLine} {body b : Block} {arms : Branches} {last : MaybeBlock} → IsBody loop c line m inner body → AreArms loop c others arms last → IsBlock loop c rest b → IsBlock loop c (item_line line c (headed (when e) m) ∷ inner ++ others ++ rest) (step (at line (Test (arm_and (arm line e body) arms) last)) b)
+    a_loop : {loop : Bool} {c line : ℕ} {e : Term} {m : Option Action} {inner rest : List ItemLine} {body b : Block} → IsBody true c line m inner body → IsBlock loop c rest b → IsBlock loop c (item_line line c (headed (while e) m) ∷ inner ++ rest) (step (at line (ast.While e body)) b)
+    an_each : {loop : Bool} {c line : ℕ} {x : List ℕ} {e : Term} {m : Option Action} {inner rest : List ItemLine} {body b : Block} → IsBody true c line m inner body → IsBlock loop c rest b → IsBlock loop c (item_line line c (headed (for_each x e) m) ∷ inner ++ rest) (step (at line (ast.For x e body)) b)
+    a_test : {loop : Bool} {c line : ℕ} {e : Term} {m : Option Action} {inner others rest : List ItemLine} {body b : Block} {arms : Branches} {last : MaybeBlock} → IsBody loop c line m inner body → AreArms loop c others arms last → IsBlock loop c rest b → IsBlock loop c (item_line line c (headed (when e) m) ∷ inner ++ others ++ rest) (step (at line (ast.If (arm_and (arm line e body) arms) last)) b)
 
   -- the body of a header: the statement behind its colon, or the lines below it, which are deeper
   pub data IsBody : (loop : Bool) (column line : ℕ) → Option Action → List ItemLine → Block → Type 0 where

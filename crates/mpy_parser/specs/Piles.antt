@@ -1,6 +1,7 @@
 -- A program put together from its lines, the last line first.
 use Rattle.std.specs.Prelude.{ℕ, ◌==◌, nat_lt, List, [], ◌∷◌, map, Option, Some, None, if◌then◌else◌}
-use Rattle.mpy_tree.specs.Syntax.{Term, Statement, at, Action, Test, Loop, Each, Block, end, step, MaybeBlock, no_block, a_block, Branch, arm, Branches, no_arms, arm_and, Routine}
+use Rattle.mpy_tree.specs.Syntax.{Term, Statement, at, Action, Block, end, step, MaybeBlock, no_block, a_block, Branch, arm, Branches, no_arms, arm_and, Routine}
+use Rattle.mpy_tree.specs.Syntax as ast
 use Rattle.mpy_tree.specs.View.{statement_of, branch_of, block, branches, block_or_none, routine_of}
 use Rattle.mpy_parser.specs.declared.piles.Group.{Group}
 use Rattle.mpy_parser.specs.declared.piles.Pile.{Pile}
@@ -56,7 +57,7 @@ abbrev pub with_statement : ℕ → Statement → List Waiting → List Waiting
 with_statement c s gs = waiting c (step s (group_at c gs).body) no_arms no_block ∷ behind_group c gs
 
 abbrev pub with_if : ℕ → ℕ → Term → Block → List Waiting → List Waiting
-with_if c line e b gs = with_statement c (at line (Test (arm_and (arm line e b) (group_at c gs).arms) (group_at c gs).last)) gs
+with_if c line e b gs = with_statement c (at line (ast.If (arm_and (arm line e b) (group_at c gs).arms) (group_at c gs).last)) gs
 
 abbrev pub with_arm : ℕ → Branch → List Waiting → List Waiting
 with_arm c b gs = waiting c (group_at c gs).body (arm_and b (group_at c gs).arms) (group_at c gs).last ∷ behind_group c gs
@@ -70,8 +71,8 @@ with_header line c (function f params) b h = heap h.groups (routine line f param
 with_header line c (when e) b h = heap (with_if c line e b h.groups) h.made
 with_header line c (else_when e) b h = heap (with_arm c (arm line e b) h.groups) h.made
 with_header line c otherwise b h = heap (with_else c b h.groups) h.made
-with_header line c (while e) b h = heap (with_statement c (at line (Loop e b)) h.groups) h.made
-with_header line c (for_each x e) b h = heap (with_statement c (at line (Each x e b)) h.groups) h.made
+with_header line c (while e) b h = heap (with_statement c (at line (ast.While e b)) h.groups) h.made
+with_header line c (for_each x e) b h = heap (with_statement c (at line (ast.For x e b)) h.groups) h.made
 
 abbrev pub with_item : ℕ → ℕ → LineItem → Heap → Heap
 with_item line c (simple act) h = heap (with_statement c (at line act) h.groups) h.made

@@ -3,7 +3,8 @@ use Rattle.std.specs.Prelude.{ℕ, zero, suc, ◌+◌, ◌*◌, true, false, Lis
 use Rattle.mpy_tree.specs.declared.operators.ArithOp.TheVariants.{Power}
 use Rattle.mpy_tree.specs.declared.operators.CmpOp.{CmpOp}
 use Rattle.mpy_tree.specs.declared.operators.CmpOp.TheVariants.{Eq, Ne, Lt, Le, Gt, Ge, Member, NotMember}
-use Rattle.mpy_tree.specs.Syntax.{Term, Terms, MaybeTerm, Number, Truth, Quoted, Var, Items, Minus, Negation, Binary, Compare, Both, Either, Choose, At, Cut, Apply, no_terms, term_and, no_term, a_term}
+use Rattle.mpy_tree.specs.Syntax.{Term, Terms, MaybeTerm, no_terms, term_and, no_term, a_term}
+use Rattle.mpy_tree.specs.Syntax as ast
 use Rattle.mpy_parser.specs.declared.levels.Level.{Level}
 use Rattle.mpy_parser.specs.declared.levels.Level.TheVariants as level
 use Rattle.mpy_parser.specs.declared.levels.Joint.{Joint}
@@ -94,9 +95,9 @@ joint_before k (terminal.Word w ∷ ts) = joint_at k w >>= λ j. Some (j, ts)
 joint_before k _ = None
 
 abbrev pub joined : Joint → Term → Term → Term
-joined joint.Or a b = Either a b
-joined joint.And a b = Both a b
-joined (joint.Arith op) a b = Binary op a b
+joined joint.Or a b = ast.Or a b
+joined joint.And a b = ast.And a b
+joined (joint.Arith op) a b = ast.Arith op a b
 
 -- the rest of a conditional: its test, its other value, and what stands behind it
 abbrev pub conditional_tail : Reader → List Terminal → Option (Term × Term × List Terminal)
@@ -108,7 +109,7 @@ conditional_tail read ts = do
   Some (t.0, b.0, b.1)
 
 abbrev pub with_conditional_tail : Reader → Term × List Terminal → Term × List Terminal
-with_conditional_tail read a = or_else (conditional_tail read a.1 >>= λ c. Some (Choose c.0 a.0 c.1, c.2)) a
+with_conditional_tail read a = or_else (conditional_tail read a.1 >>= λ c. Some (ast.Cond c.0 a.0 c.1, c.2)) a
 
 -- zero or more joints of the level, each with what stands right of it
 abbrev pub joint_tail : Reader → Level → List Terminal → Option (Joint × Term × List Terminal)
@@ -128,7 +129,7 @@ comparison_tail read ts = do
   Some (op.0, b.0, b.1)
 
 abbrev pub with_comparison : Reader → Term × List Terminal → Term × List Terminal
-with_comparison read a = or_else (comparison_tail read a.1 >>= λ c. Some (Compare c.0 a.0 c.1, c.2)) a
+with_comparison read a = or_else (comparison_tail read a.1 >>= λ c. Some (ast.Cmp c.0 a.0 c.1, c.2)) a
 
 abbrev pub power_tail : Reader → List Terminal → Reading
 power_tail read ts = do
@@ -136,7 +137,7 @@ power_tail read ts = do
   read level.Unary at_exponent
 
 abbrev pub with_power : Reader → Term × List Terminal → Term × List Terminal
-with_power read a = or_else (power_tail read a.1 >>= λ b. Some (Binary Power a.0 b.0, b.1)) a
+with_power read a = or_else (power_tail read a.1 >>= λ b. Some (ast.Arith Power a.0 b.0, b.1)) a
 
 -- what stands behind a value in brackets
 pub data Suffix : Type 0 where
@@ -144,8 +145,8 @@ pub data Suffix : Type 0 where
   by_ends : (from to : MaybeTerm) → Suffix
 
 abbrev pub suffixed : Term → Suffix → Term
-suffixed v (by_index i) = At v i
-suffixed v (by_ends from to) = Cut v from to
+suffixed v (by_index i) = ast.Index v i
+suffixed v (by_ends from to) = ast.Slice v from to
 
 -- the second end of a slice, and the closing bracket
 abbrev pub second_end : Reader → List Terminal → Option (MaybeTerm × List Terminal)
@@ -215,7 +216,7 @@ arguments read ts = do
   elements read bracket.Round inside
 
 abbrev pub name_or_call : Reader → List ℕ → List Terminal → Term × List Terminal
-name_or_call read x ts = or_else (arguments read ts >>= λ es. Some (Apply x es.0, es.1)) (Var x, ts)
+name_or_call read x ts = or_else (arguments read ts >>= λ es. Some (ast.Call x es.0, es.1)) (ast.Name x, ts)
 
 abbrev pub parenthesized : Reader → List Terminal → Reading
 parenthesized read ts = do
@@ -224,12 +225,12 @@ parenthesized read ts = do
   Some (e.0, rest)
 
 abbrev pub atom : Reader → List Terminal → Reading
-atom read (terminal.Number n ∷ ts) = Some (Number n, ts)
-atom read (terminal.Text cs ∷ ts) = Some (Quoted cs, ts)
-atom read (terminal.Word word.True ∷ ts) = Some (Truth true, ts)
-atom read (terminal.Word word.False ∷ ts) = Some (Truth false, ts)
+atom read (terminal.Number n ∷ ts) = Some (ast.Int n, ts)
+atom read (terminal.Text cs ∷ ts) = Some (ast.Text cs, ts)
+atom read (terminal.Word word.True ∷ ts) = Some (ast.Bool true, ts)
+atom read (terminal.Word word.False ∷ ts) = Some (ast.Bool false, ts)
 atom read (terminal.Name x ∷ ts) = Some (name_or_call read x ts)
-atom read (terminal.Word word.LeftBracket ∷ ts) = elements read bracket.Square ts >>= λ es. Some (Items es.0, es.1)
+atom read (terminal.Word word.LeftBracket ∷ ts) = elements read bracket.Square ts >>= λ es. Some (ast.List es.0, es.1)
 atom read (terminal.Word word.LeftParen ∷ ts) = parenthesized read ts
 atom read _ = None
 
@@ -247,11 +248,11 @@ abbrev pub at_level : Reader → Level → List Terminal → Reading
 at_level read level.Conditional ts = read level.Disjunction ts >>= λ a. Some (with_conditional_tail read a)
 at_level read level.Disjunction ts = read level.Conjunction ts >>= λ a. Some (with_joints read level.Disjunction (length a.1) a)
 at_level read level.Conjunction ts = read level.Negation ts >>= λ a. Some (with_joints read level.Conjunction (length a.1) a)
-at_level read level.Negation ts = prefixed read level.Negation behind_not Negation ts
+at_level read level.Negation ts = prefixed read level.Negation behind_not ast.Not ts
 at_level read level.Comparison ts = read level.Sum ts >>= λ a. Some (with_comparison read a)
 at_level read level.Sum ts = read level.Product ts >>= λ a. Some (with_joints read level.Sum (length a.1) a)
 at_level read level.Product ts = read level.Unary ts >>= λ a. Some (with_joints read level.Product (length a.1) a)
-at_level read level.Unary ts = prefixed read level.Unary behind_minus Minus ts
+at_level read level.Unary ts = prefixed read level.Unary behind_minus ast.Neg ts
 at_level read level.Power ts = read level.Postfix ts >>= λ a. Some (with_power read a)
 at_level read level.Postfix ts = read level.Atom ts >>= λ a. Some (with_suffixes read (length a.1) a)
 at_level read level.Atom ts = atom read ts

@@ -1,6 +1,6 @@
 //! Simple statements, each of all terminals there are.
 ghost use Rattle.std.specs.Prelude.{◌≡◌, Option, Some, None, option_map, IfOk};
-ghost use Rattle.mpy_tree.specs.Syntax.{AppendTo};
+ghost use Rattle.mpy_tree.specs.Syntax as ast;
 ghost use Rattle.mpy_tree.specs.View.{term_of, action_of};
 ghost use Rattle.mpy_parser.specs.Items.{augmented};
 ghost use Rattle.mpy_parser.specs.ItemReading.{ended, whole, augmenting, augmented_at, assigned, at_place, is_append, argument, method, behind_name, given_at, simple_at};

@@ -1,6 +1,7 @@
 //! Expressions made of their parts.
 ghost use Rattle.std.specs.Prelude.{◌≡◌, option_map, IfOk};
-ghost use Rattle.mpy_tree.specs.Syntax.{Binary, Compare, Choose, Minus, Negation, Term};
+ghost use Rattle.mpy_tree.specs.Syntax.{Term};
+ghost use Rattle.mpy_tree.specs.Syntax as ast;
 ghost use Rattle.mpy_tree.specs.View.{term_of};
 ghost use Rattle.mpy_parser.specs.Reading.{joined, suffixed};
 ghost use Rattle.mpy_parser.specs.Views.{suffix_of};
@@ -69,7 +70,7 @@ fn sliced<T: Drop>(
 }
 
 pub(crate) fn arith(alloc: Global, op: ArithOp, a: Expr, b: Expr) -> Result<Expr, NoMemory>
-    ensures { IfOk result (λ e. term_of e ≡ Binary op (term_of a) (term_of b)) }
+    ensures { IfOk result (λ e. term_of e ≡ ast.Arith op (term_of a) (term_of b)) }
 {
     let (a, b) = two(alloc, a, b)?;
     Ok(Expr::Arith(op, a, b))
@@ -89,27 +90,27 @@ pub(crate) fn join(alloc: Global, joint: Joint, a: Expr, b: Expr) -> Result<Expr
 }
 
 pub(crate) fn compare(alloc: Global, op: CmpOp, a: Expr, b: Expr) -> Result<Expr, NoMemory>
-    ensures { IfOk result (λ e. term_of e ≡ Compare op (term_of a) (term_of b)) }
+    ensures { IfOk result (λ e. term_of e ≡ ast.Cmp op (term_of a) (term_of b)) }
 {
     let (a, b) = two(alloc, a, b)?;
     Ok(Expr::Cmp(op, a, b))
 }
 
 pub(crate) fn choose(alloc: Global, test: Expr, yes: Expr, no: Expr) -> Result<Expr, NoMemory>
-    ensures { IfOk result (λ e. term_of e ≡ Choose (term_of test) (term_of yes) (term_of no)) }
+    ensures { IfOk result (λ e. term_of e ≡ ast.Cond (term_of test) (term_of yes) (term_of no)) }
 {
     let (test, yes, no) = three(alloc, test, yes, no)?;
     Ok(Expr::Cond { test, yes, no })
 }
 
 pub(crate) fn negate(alloc: Global, e: Expr) -> Result<Expr, NoMemory>
-    ensures { IfOk result (λ r. term_of r ≡ Minus (term_of e)) }
+    ensures { IfOk result (λ r. term_of r ≡ ast.Neg (term_of e)) }
 {
     Ok(Expr::Neg(Box::new(alloc, e)?))
 }
 
 pub(crate) fn not(alloc: Global, e: Expr) -> Result<Expr, NoMemory>
-    ensures { IfOk result (λ r. term_of r ≡ Negation (term_of e)) }
+    ensures { IfOk result (λ r. term_of r ≡ ast.Not (term_of e)) }
 {
     Ok(Expr::Not(Box::new(alloc, e)?))
 }

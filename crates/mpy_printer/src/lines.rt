@@ -2,7 +2,7 @@
 ghost use Rattle.std.specs.Prelude.{◌≡◌, ◌++◌, ◌+◌, IfOk, OnOk, codes, suc};
 ghost use Rattle.mpy_tree.specs.Operations.{copies};
 ghost use Rattle.mpy_tree.specs.Printing.{action_text, arith_text, indented, return_text, text_of};
-ghost use Rattle.mpy_tree.specs.Syntax.{AppendTo, Give, SetAt, SetAtBy, SetBy, SetTo};
+ghost use Rattle.mpy_tree.specs.Syntax as ast;
 ghost use Rattle.mpy_tree.specs.View.{maybe_term, term_of};
 
 use crate::expressions::write_expr;
@@ -78,7 +78,7 @@ pub(crate) fn write_assign(
     depth: usize,
     out: &mut Vec<u8>,
 ) -> Result<(), NoMemory>
-    ensures { OnOk result (out.new.items ≡ out.old.items ++ action_text depth (SetTo x.now (term_of e.now))) }
+    ensures { OnOk result (out.new.items ≡ out.old.items ++ action_text depth (ast.Assign x.now (term_of e.now))) }
 {
     write_indent(depth, out)?;
     out.extend_from_slice(x.bytes())?;
@@ -97,7 +97,7 @@ pub(crate) fn write_augment(
     depth: usize,
     out: &mut Vec<u8>,
 ) -> Result<(), NoMemory>
-    ensures { OnOk result (out.new.items ≡ out.old.items ++ action_text depth (SetBy x.now op (term_of e.now))) }
+    ensures { OnOk result (out.new.items ≡ out.old.items ++ action_text depth (ast.Augment x.now op (term_of e.now))) }
 {
     write_indent(depth, out)?;
     out.extend_from_slice(x.bytes())?;
@@ -118,7 +118,7 @@ pub(crate) fn write_put(
     depth: usize,
     out: &mut Vec<u8>,
 ) -> Result<(), NoMemory>
-    ensures { OnOk result (out.new.items ≡ out.old.items ++ action_text depth (SetAt x.now (term_of i.now) (term_of e.now))) }
+    ensures { OnOk result (out.new.items ≡ out.old.items ++ action_text depth (ast.Put x.now (term_of i.now) (term_of e.now))) }
 {
     write_indent(depth, out)?;
     out.extend_from_slice(x.bytes())?;
@@ -140,7 +140,7 @@ pub(crate) fn write_augment_at(
     depth: usize,
     out: &mut Vec<u8>,
 ) -> Result<(), NoMemory>
-    ensures { OnOk result (out.new.items ≡ out.old.items ++ action_text depth (SetAtBy x.now (term_of i.now) op (term_of e.now))) }
+    ensures { OnOk result (out.new.items ≡ out.old.items ++ action_text depth (ast.AugmentAt x.now (term_of i.now) op (term_of e.now))) }
 {
     write_indent(depth, out)?;
     out.extend_from_slice(x.bytes())?;
@@ -162,7 +162,7 @@ pub(crate) fn write_append(
     depth: usize,
     out: &mut Vec<u8>,
 ) -> Result<(), NoMemory>
-    ensures { OnOk result (out.new.items ≡ out.old.items ++ action_text depth (AppendTo x.now (term_of e.now))) }
+    ensures { OnOk result (out.new.items ≡ out.old.items ++ action_text depth (ast.Append x.now (term_of e.now))) }
 {
     write_indent(depth, out)?;
     out.extend_from_slice(x.bytes())?;
@@ -179,7 +179,7 @@ pub(crate) fn write_return(
     depth: usize,
     out: &mut Vec<u8>,
 ) -> Result<(), NoMemory>
-    ensures { OnOk result (out.new.items ≡ out.old.items ++ action_text depth (Give (maybe_term e.now))) }
+    ensures { OnOk result (out.new.items ≡ out.old.items ++ action_text depth (ast.Return (maybe_term e.now))) }
 {
     match e {
         None => write_word(b"return", depth, out),

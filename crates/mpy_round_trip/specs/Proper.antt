@@ -3,7 +3,8 @@ use Rattle.std.specs.Prelude.{◌≡◌, ℕ, ◌≤◌, Bool, true, false, List
 use Rattle.std.specs.List.{list_all}
 use Rattle.mpy_tree.specs.declared.operators.ArithOp.{ArithOp}
 use Rattle.mpy_tree.specs.declared.operators.ArithOp.TheVariants.{Power}
-use Rattle.mpy_tree.specs.Syntax.{Term, Terms, MaybeTerm, Number, Truth, Quoted, Var, Items, Minus, Negation, Binary, Compare, Both, Either, Choose, At, Cut, Apply, no_terms, term_and, no_term, a_term, at, Action, SetTo, SetBy, SetAt, SetAtBy, AppendTo, Give, Nothing, Leave, Again, Test, Loop, Each, Block, end, step, MaybeBlock, no_block, a_block, arm, Branches, no_arms, arm_and, Routine}
+use Rattle.mpy_tree.specs.Syntax.{Term, Terms, MaybeTerm, no_terms, term_and, no_term, a_term, at, Action, Block, end, step, MaybeBlock, no_block, a_block, arm, Branches, no_arms, arm_and, Routine}
+use Rattle.mpy_tree.specs.Syntax as ast
 use Rattle.mpy_lexer.specs.declared.forms.Form.TheVariants.{Program}
 use Rattle.mpy_lexer.specs.declared.forms.Kind.TheVariants as kind
 use Rattle.mpy_lexer.specs.TokenForms.{has_form}
@@ -17,21 +18,21 @@ IsName x = has_form Program kind.Name x ≡ true
 -- Its names are names, its numbers at most 2147483647, and its texts printable.
 abbrev mutual
   pub IsProperTerm : Term → Type 0
-  IsProperTerm (Number n) = n ≤ 2147483647
-  IsProperTerm (Truth b) = Unit {0}
-  IsProperTerm (Quoted cs) = list_all is_printable cs ≡ true
-  IsProperTerm (Var x) = IsName x
-  IsProperTerm (Items es) = AreProperTerms es
-  IsProperTerm (Minus e) = IsProperTerm e
-  IsProperTerm (Negation e) = IsProperTerm e
-  IsProperTerm (Binary op a b) = IsProperTerm a × IsProperTerm b
-  IsProperTerm (Compare op a b) = IsProperTerm a × IsProperTerm b
-  IsProperTerm (Both a b) = IsProperTerm a × IsProperTerm b
-  IsProperTerm (Either a b) = IsProperTerm a × IsProperTerm b
-  IsProperTerm (Choose t a b) = IsProperTerm t × IsProperTerm a × IsProperTerm b
-  IsProperTerm (At v i) = IsProperTerm v × IsProperTerm i
-  IsProperTerm (Cut v from to) = IsProperTerm v × IsProperEnd from × IsProperEnd to
-  IsProperTerm (Apply f es) = IsName f × AreProperTerms es
+  IsProperTerm (ast.Int n) = n ≤ 2147483647
+  IsProperTerm (ast.Bool b) = Unit {0}
+  IsProperTerm (ast.Text cs) = list_all is_printable cs ≡ true
+  IsProperTerm (ast.Name x) = IsName x
+  IsProperTerm (ast.List es) = AreProperTerms es
+  IsProperTerm (ast.Neg e) = IsProperTerm e
+  IsProperTerm (ast.Not e) = IsProperTerm e
+  IsProperTerm (ast.Arith op a b) = IsProperTerm a × IsProperTerm b
+  IsProperTerm (ast.Cmp op a b) = IsProperTerm a × IsProperTerm b
+  IsProperTerm (ast.And a b) = IsProperTerm a × IsProperTerm b
+  IsProperTerm (ast.Or a b) = IsProperTerm a × IsProperTerm b
+  IsProperTerm (ast.Cond t a b) = IsProperTerm t × IsProperTerm a × IsProperTerm b
+  IsProperTerm (ast.Index v i) = IsProperTerm v × IsProperTerm i
+  IsProperTerm (ast.Slice v from to) = IsProperTerm v × IsProperEnd from × IsProperEnd to
+  IsProperTerm (ast.Call f es) = IsName f × AreProperTerms es
 
   pub AreProperTerms : Terms → Type 0
   AreProperTerms no_terms = Unit {0}
@@ -61,18 +62,18 @@ abbrev mutual
   IsProperBlock loop (step (at line act) rest) = IsProperAction loop act × IsProperBlock loop rest
 
   pub IsProperAction : Bool → Action → Type 0
-  IsProperAction loop (SetTo x e) = IsName x × IsProperTerm e
-  IsProperAction loop (SetBy x op e) = IsName x × MayAugment op × IsProperTerm e
-  IsProperAction loop (SetAt x i e) = IsName x × IsProperTerm i × IsProperTerm e
-  IsProperAction loop (SetAtBy x i op e) = IsName x × IsProperTerm i × MayAugment op × IsProperTerm e
-  IsProperAction loop (AppendTo x e) = IsName x × IsProperTerm e
-  IsProperAction loop (Give e) = IsProperEnd e
-  IsProperAction loop Nothing = Unit {0}
-  IsProperAction loop Leave = MayStand loop Leave
-  IsProperAction loop Again = MayStand loop Again
-  IsProperAction loop (Test arms last) = HasArm arms × AreProperArms loop arms × IsProperElse loop last
-  IsProperAction loop (Loop e body) = IsProperTerm e × (HasStatement body × IsProperBlock true body)
-  IsProperAction loop (Each x e body) = IsName x × IsProperTerm e × (HasStatement body × IsProperBlock true body)
+  IsProperAction loop (ast.Assign x e) = IsName x × IsProperTerm e
+  IsProperAction loop (ast.Augment x op e) = IsName x × MayAugment op × IsProperTerm e
+  IsProperAction loop (ast.Put x i e) = IsName x × IsProperTerm i × IsProperTerm e
+  IsProperAction loop (ast.AugmentAt x i op e) = IsName x × IsProperTerm i × MayAugment op × IsProperTerm e
+  IsProperAction loop (ast.Append x e) = IsName x × IsProperTerm e
+  IsProperAction loop (ast.Return e) = IsProperEnd e
+  IsProperAction loop ast.Pass = Unit {0}
+  IsProperAction loop ast.Break = MayStand loop ast.Break
+  IsProperAction loop ast.Continue = MayStand loop ast.Continue
+  IsProperAction loop (ast.If arms last) = HasArm arms × AreProperArms loop arms × IsProperElse loop last
+  IsProperAction loop (ast.While e body) = IsProperTerm e × (HasStatement body × IsProperBlock true body)
+  IsProperAction loop (ast.For x e body) = IsName x × IsProperTerm e × (HasStatement body × IsProperBlock true body)
 
   pub AreProperArms : Bool → Branches → Type 0
   AreProperArms loop no_arms = Unit {0}

@@ -9,7 +9,8 @@ use Rattle.mpy_tree.specs.declared.operators.CmpOp.{CmpOp}
 use Rattle.mpy_tree.specs.declared.operators.CmpOp.TheVariants.{Eq, Ne, Lt, Le, Gt, Ge, Member, NotMember}
 use Rattle.mpy_tree.specs.Operations.{same_truth}
 use Rattle.mpy_tree.specs.Values.{same_bytes}
-use Rattle.mpy_tree.specs.Syntax.{Term, Terms, MaybeTerm, Number, Truth, Quoted, Var, Items, Minus, Negation, Binary, Compare, Both, Either, Choose, At, Cut, Apply, no_terms, term_and, no_term, a_term, Statement, at, Action, SetTo, SetBy, SetAt, SetAtBy, AppendTo, Give, Nothing, Leave, Again, Test, Loop, Each, Block, end, step, MaybeBlock, no_block, a_block, Branch, arm, Branches, no_arms, arm_and, Routine}
+use Rattle.mpy_tree.specs.Syntax.{Term, Terms, MaybeTerm, no_terms, term_and, no_term, a_term, Statement, at, Action, Block, end, step, MaybeBlock, no_block, a_block, Branch, arm, Branches, no_arms, arm_and, Routine}
+use Rattle.mpy_tree.specs.Syntax as ast
 use Rattle.mpy_tree.specs.Comparing.{same_arith, same_cmp, same_term, same_terms, same_maybe, same_block, same_statement, same_action, same_branch, same_branches, same_last, same_routine}
 use Rattle.mpy_tree.specs.Equality.{block_without_lines, statement_without_lines, action_without_lines, arms_without_lines, arm_without_lines, else_without_lines, without_lines}
 
@@ -47,21 +48,21 @@ bytes = bytes_decides
 
 mutual
   pub term_decides : (a b : Term) → Decides (same_term a b) (a ≡ b)
-  term_decides (Number m) (Number n) = Decides-like _ (λ h. ap Number h) (λ h. cc) (Decides-eqb m n)
-  term_decides (Truth m) (Truth n) = Decides-like _ (λ h. ap Truth h) (λ h. cc) (truth_decides m n)
-  term_decides (Quoted m) (Quoted n) = Decides-like _ (λ h. ap Quoted h) (λ h. cc) (bytes m n)
-  term_decides (Var m) (Var n) = Decides-like _ (λ h. ap Var h) (λ h. cc) (bytes m n)
-  term_decides (Items m) (Items n) = Decides-like _ (λ h. ap Items h) (λ h. cc) (terms_decides m n)
-  term_decides (Minus m) (Minus n) = Decides-like _ (λ h. ap Minus h) (λ h. cc) (term_decides m n)
-  term_decides (Negation m) (Negation n) = Decides-like _ (λ h. ap Negation h) (λ h. cc) (term_decides m n)
-  term_decides (Binary o m p) (Binary r n q) = both _ _ (Decides-and _ _ (arith_decides o r) (term_decides m n)) (term_decides p q) (λ h k. λ i. Binary (h.0 i) (h.1 i) (k i)) (λ h. ((cc, cc), cc))
-  term_decides (Compare o m p) (Compare r n q) = both _ _ (Decides-and _ _ (cmp_decides o r) (term_decides m n)) (term_decides p q) (λ h k. λ i. Compare (h.0 i) (h.1 i) (k i)) (λ h. ((cc, cc), cc))
-  term_decides (Both m p) (Both n q) = both _ _ (term_decides m n) (term_decides p q) (λ h k. λ i. Both (h i) (k i)) (λ h. (cc, cc))
-  term_decides (Either m p) (Either n q) = both _ _ (term_decides m n) (term_decides p q) (λ h k. λ i. Either (h i) (k i)) (λ h. (cc, cc))
-  term_decides (Choose m p s) (Choose n q t) = both _ _ (Decides-and _ _ (term_decides m n) (term_decides p q)) (term_decides s t) (λ h k. λ i. Choose (h.0 i) (h.1 i) (k i)) (λ h. ((cc, cc), cc))
-  term_decides (At m p) (At n q) = both _ _ (term_decides m n) (term_decides p q) (λ h k. λ i. At (h i) (k i)) (λ h. (cc, cc))
-  term_decides (Cut m p s) (Cut n q t) = both _ _ (Decides-and _ _ (term_decides m n) (maybe_decides p q)) (maybe_decides s t) (λ h k. λ i. Cut (h.0 i) (h.1 i) (k i)) (λ h. ((cc, cc), cc))
-  term_decides (Apply f m) (Apply g n) = both _ _ (bytes f g) (terms_decides m n) (λ h k. λ i. Apply (h i) (k i)) (λ h. (cc, cc))
+  term_decides (ast.Int m) (ast.Int n) = Decides-like _ (λ h. ap ast.Int h) (λ h. cc) (Decides-eqb m n)
+  term_decides (ast.Bool m) (ast.Bool n) = Decides-like _ (λ h. ap ast.Bool h) (λ h. cc) (truth_decides m n)
+  term_decides (ast.Text m) (ast.Text n) = Decides-like _ (λ h. ap ast.Text h) (λ h. cc) (bytes m n)
+  term_decides (ast.Name m) (ast.Name n) = Decides-like _ (λ h. ap ast.Name h) (λ h. cc) (bytes m n)
+  term_decides (ast.List m) (ast.List n) = Decides-like _ (λ h. ap ast.List h) (λ h. cc) (terms_decides m n)
+  term_decides (ast.Neg m) (ast.Neg n) = Decides-like _ (λ h. ap ast.Neg h) (λ h. cc) (term_decides m n)
+  term_decides (ast.Not m) (ast.Not n) = Decides-like _ (λ h. ap ast.Not h) (λ h. cc) (term_decides m n)
+  term_decides (ast.Arith o m p) (ast.Arith r n q) = both _ _ (Decides-and _ _ (arith_decides o r) (term_decides m n)) (term_decides p q) (λ h k. λ i. ast.Arith (h.0 i) (h.1 i) (k i)) (λ h. ((cc, cc), cc))
+  term_decides (ast.Cmp o m p) (ast.Cmp r n q) = both _ _ (Decides-and _ _ (cmp_decides o r) (term_decides m n)) (term_decides p q) (λ h k. λ i. ast.Cmp (h.0 i) (h.1 i) (k i)) (λ h. ((cc, cc), cc))
+  term_decides (ast.And m p) (ast.And n q) = both _ _ (term_decides m n) (term_decides p q) (λ h k. λ i. ast.And (h i) (k i)) (λ h. (cc, cc))
+  term_decides (ast.Or m p) (ast.Or n q) = both _ _ (term_decides m n) (term_decides p q) (λ h k. λ i. ast.Or (h i) (k i)) (λ h. (cc, cc))
+  term_decides (ast.Cond m p s) (ast.Cond n q t) = both _ _ (Decides-and _ _ (term_decides m n) (term_decides p q)) (term_decides s t) (λ h k. λ i. ast.Cond (h.0 i) (h.1 i) (k i)) (λ h. ((cc, cc), cc))
+  term_decides (ast.Index m p) (ast.Index n q) = both _ _ (term_decides m n) (term_decides p q) (λ h k. λ i. ast.Index (h i) (k i)) (λ h. (cc, cc))
+  term_decides (ast.Slice m p s) (ast.Slice n q t) = both _ _ (Decides-and _ _ (term_decides m n) (maybe_decides p q)) (maybe_decides s t) (λ h k. λ i. ast.Slice (h.0 i) (h.1 i) (k i)) (λ h. ((cc, cc), cc))
+  term_decides (ast.Call f m) (ast.Call g n) = both _ _ (bytes f g) (terms_decides m n) (λ h k. λ i. ast.Call (h i) (k i)) (λ h. (cc, cc))
   term_decides _ _ = (λ h. cc, λ h. cc)
 
   pub terms_decides : (a b : Terms) → Decides (same_terms a b) (a ≡ b)
@@ -84,18 +85,18 @@ mutual
   statement_decides (at k s) (at l t) = Decides-like _ (λ h. ap (at 0) h) (λ h. cc) (action_decides s t)
 
   pub action_decides : (a b : Action) → Decides (same_action a b) (action_without_lines a ≡ action_without_lines b)
-  action_decides (SetTo x e) (SetTo y f) = both _ _ (bytes x y) (term_decides e f) (λ h k. λ i. SetTo (h i) (k i)) (λ h. (cc, cc))
-  action_decides (SetBy x o e) (SetBy y r f) = both _ _ (Decides-and _ _ (bytes x y) (arith_decides o r)) (term_decides e f) (λ h k. λ i. SetBy (h.0 i) (h.1 i) (k i)) (λ h. ((cc, cc), cc))
-  action_decides (SetAt x j e) (SetAt y k f) = both _ _ (Decides-and _ _ (bytes x y) (term_decides j k)) (term_decides e f) (λ h k. λ i. SetAt (h.0 i) (h.1 i) (k i)) (λ h. ((cc, cc), cc))
-  action_decides (SetAtBy x j o e) (SetAtBy y k r f) = both _ _ (Decides-and _ _ (Decides-and _ _ (bytes x y) (term_decides j k)) (arith_decides o r)) (term_decides e f) (λ h k. λ i. SetAtBy (h.0.0 i) (h.0.1 i) (h.1 i) (k i)) (λ h. (((cc, cc), cc), cc))
-  action_decides (AppendTo x e) (AppendTo y f) = both _ _ (bytes x y) (term_decides e f) (λ h k. λ i. AppendTo (h i) (k i)) (λ h. (cc, cc))
-  action_decides (Give e) (Give f) = Decides-like _ (λ h. ap Give h) (λ h. cc) (maybe_decides e f)
-  action_decides Nothing Nothing = (λ h. refl, λ h. refl)
-  action_decides Leave Leave = (λ h. refl, λ h. refl)
-  action_decides Again Again = (λ h. refl, λ h. refl)
-  action_decides (Test m p) (Test n q) = both _ _ (branches_decides m n) (last_decides p q) (λ h k. λ i. Test (h i) (k i)) (λ h. (cc, cc))
-  action_decides (Loop e p) (Loop f q) = both _ _ (term_decides e f) (block_decides p q) (λ h k. λ i. Loop (h i) (k i)) (λ h. (cc, cc))
-  action_decides (Each x e p) (Each y f q) = both _ _ (Decides-and _ _ (bytes x y) (term_decides e f)) (block_decides p q) (λ h k. λ i. Each (h.0 i) (h.1 i) (k i)) (λ h. ((cc, cc), cc))
+  action_decides (ast.Assign x e) (ast.Assign y f) = both _ _ (bytes x y) (term_decides e f) (λ h k. λ i. ast.Assign (h i) (k i)) (λ h. (cc, cc))
+  action_decides (ast.Augment x o e) (ast.Augment y r f) = both _ _ (Decides-and _ _ (bytes x y) (arith_decides o r)) (term_decides e f) (λ h k. λ i. ast.Augment (h.0 i) (h.1 i) (k i)) (λ h. ((cc, cc), cc))
+  action_decides (ast.Put x j e) (ast.Put y k f) = both _ _ (Decides-and _ _ (bytes x y) (term_decides j k)) (term_decides e f) (λ h k. λ i. ast.Put (h.0 i) (h.1 i) (k i)) (λ h. ((cc, cc), cc))
+  action_decides (ast.AugmentAt x j o e) (ast.AugmentAt y k r f) = both _ _ (Decides-and _ _ (Decides-and _ _ (bytes x y) (term_decides j k)) (arith_decides o r)) (term_decides e f) (λ h k. λ i. ast.AugmentAt (h.0.0 i) (h.0.1 i) (h.1 i) (k i)) (λ h. (((cc, cc), cc), cc))
+  action_decides (ast.Append x e) (ast.Append y f) = both _ _ (bytes x y) (term_decides e f) (λ h k. λ i. ast.Append (h i) (k i)) (λ h. (cc, cc))
+  action_decides (ast.Return e) (ast.Return f) = Decides-like _ (λ h. ap ast.Return h) (λ h. cc) (maybe_decides e f)
+  action_decides ast.Pass ast.Pass = (λ h. refl, λ h. refl)
+  action_decides ast.Break ast.Break = (λ h. refl, λ h. refl)
+  action_decides ast.Continue ast.Continue = (λ h. refl, λ h. refl)
+  action_decides (ast.If m p) (ast.If n q) = both _ _ (branches_decides m n) (last_decides p q) (λ h k. λ i. ast.If (h i) (k i)) (λ h. (cc, cc))
+  action_decides (ast.While e p) (ast.While f q) = both _ _ (term_decides e f) (block_decides p q) (λ h k. λ i. ast.While (h i) (k i)) (λ h. (cc, cc))
+  action_decides (ast.For x e p) (ast.For y f q) = both _ _ (Decides-and _ _ (bytes x y) (term_decides e f)) (block_decides p q) (λ h k. λ i. ast.For (h.0 i) (h.1 i) (k i)) (λ h. ((cc, cc), cc))
   action_decides _ _ = (λ h. cc, λ h. cc)
 
   pub branches_decides : (a b : Branches) → Decides (same_branches a b) (arms_without_lines a ≡ arms_without_lines b)

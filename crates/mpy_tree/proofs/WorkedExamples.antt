@@ -7,7 +7,8 @@ use Rattle.mpy_tree.specs.declared.value.Value.{Value}
 use Rattle.mpy_tree.specs.declared.value.Value.TheVariants.{Int, Bool as Truth, List as Items, Text}
 use Rattle.mpy_tree.specs.declared.operators.ArithOp.TheVariants.{Add, Sub, Mul, Floor, Rem, Power}
 use Rattle.mpy_tree.specs.declared.operators.CmpOp.TheVariants.{Eq, Lt}
-use Rattle.mpy_tree.specs.Syntax.{Term, Number, Var, Minus, Binary, Compare, Both, At, Cut, Apply, no_terms, term_and, a_term, at, SetTo, Give, Loop, end, step, Routine}
+use Rattle.mpy_tree.specs.Syntax.{Term, no_terms, term_and, a_term, at, end, step, Routine}
+use Rattle.mpy_tree.specs.Syntax as ast
 use Rattle.mpy_tree.specs.declared.outcome.FaultKind.TheVariants.{Overflow, Divisor, Index, Turns}
 use Rattle.mpy_tree.specs.declared.outcome.Fault.{Fault}
 use Rattle.mpy_tree.specs.Values.{fault}
@@ -22,7 +23,7 @@ abbrev narrow : Limits
 narrow = record { width = 4; turns = 4; depth = 2; cap = 4; width_range = (lit≤ tt, lit≤ tt); turns_range = (lit≤ tt, lit≤ tt); depth_range = (lit≤ tt, lit≤ tt); cap_range = (lit≤ tt, lit≤ tt) }
 
 abbrev returns : List (List ℕ) → Term → List Routine
-returns xs e = record { line = 1; name = codes "f"; params = xs; body = step (at 2 (Give (a_term e))) end } ∷ []
+returns xs e = record { line = 1; name = codes "f"; params = xs; body = step (at 2 (ast.Return (a_term e))) end } ∷ []
 
 abbrev x : List ℕ
 x = codes "x"
@@ -43,35 +44,35 @@ abbrev on : Limits → List (List ℕ) → Term → List Value → Result Value 
 on l xs e vs = evaluated l (returns xs e) (codes "f") vs
 
 -- quotients and remainders round towards minus infinity
-floor_of_negative : on wide (a ∷ b ∷ []) (Binary Floor (Var a) (Var b)) (Int (negsuc 6) ∷ Int (pos 2) ∷ []) ≡ Ok (Int (negsuc 3))
+floor_of_negative : on wide (a ∷ b ∷ []) (ast.Arith Floor (ast.Name a) (ast.Name b)) (Int (negsuc 6) ∷ Int (pos 2) ∷ []) ≡ Ok (Int (negsuc 3))
 floor_of_negative = refl
 
-floor_by_negative : on wide (a ∷ b ∷ []) (Binary Floor (Var a) (Var b)) (Int (pos 7) ∷ Int (negsuc 1) ∷ []) ≡ Ok (Int (negsuc 3))
+floor_by_negative : on wide (a ∷ b ∷ []) (ast.Arith Floor (ast.Name a) (ast.Name b)) (Int (pos 7) ∷ Int (negsuc 1) ∷ []) ≡ Ok (Int (negsuc 3))
 floor_by_negative = refl
 
-floor_by_zero : on wide (a ∷ b ∷ []) (Binary Floor (Var a) (Var b)) (Int (pos 7) ∷ Int (pos 0) ∷ []) ≡ Err (fault Divisor 2)
+floor_by_zero : on wide (a ∷ b ∷ []) (ast.Arith Floor (ast.Name a) (ast.Name b)) (Int (pos 7) ∷ Int (pos 0) ∷ []) ≡ Err (fault Divisor 2)
 floor_by_zero = refl
 
-remainder_of_negative : on wide (a ∷ b ∷ []) (Binary Rem (Var a) (Var b)) (Int (negsuc 6) ∷ Int (pos 2) ∷ []) ≡ Ok (Int (pos 1))
+remainder_of_negative : on wide (a ∷ b ∷ []) (ast.Arith Rem (ast.Name a) (ast.Name b)) (Int (negsuc 6) ∷ Int (pos 2) ∷ []) ≡ Ok (Int (pos 1))
 remainder_of_negative = refl
 
-remainder_by_negative : on wide (a ∷ b ∷ []) (Binary Rem (Var a) (Var b)) (Int (pos 7) ∷ Int (negsuc 1) ∷ []) ≡ Ok (Int (negsuc 0))
+remainder_by_negative : on wide (a ∷ b ∷ []) (ast.Arith Rem (ast.Name a) (ast.Name b)) (Int (pos 7) ∷ Int (negsuc 1) ∷ []) ≡ Ok (Int (negsuc 0))
 remainder_by_negative = refl
 
 -- numbers of four bits run from -8 to 7
-negation_overflows : on narrow (x ∷ []) (Minus (Var x)) (Int (negsuc 7) ∷ []) ≡ Err (fault Overflow 2)
+negation_overflows : on narrow (x ∷ []) (ast.Neg (ast.Name x)) (Int (negsuc 7) ∷ []) ≡ Err (fault Overflow 2)
 negation_overflows = refl
 
-quotient_overflows : on narrow (x ∷ []) (Binary Floor (Var x) (Minus (Number 1))) (Int (negsuc 7) ∷ []) ≡ Err (fault Overflow 2)
+quotient_overflows : on narrow (x ∷ []) (ast.Arith Floor (ast.Name x) (ast.Neg (ast.Int 1))) (Int (negsuc 7) ∷ []) ≡ Err (fault Overflow 2)
 quotient_overflows = refl
 
-least_number : on narrow (x ∷ []) (Binary Add (Var x) (Number 0)) (Int (negsuc 7) ∷ []) ≡ Ok (Int (negsuc 7))
+least_number : on narrow (x ∷ []) (ast.Arith Add (ast.Name x) (ast.Int 0)) (Int (negsuc 7) ∷ []) ≡ Ok (Int (negsuc 7))
 least_number = refl
 
-remainder_does_not_overflow : on narrow (x ∷ []) (Binary Rem (Var x) (Minus (Number 1))) (Int (negsuc 7) ∷ []) ≡ Ok (Int (pos 0))
+remainder_does_not_overflow : on narrow (x ∷ []) (ast.Arith Rem (ast.Name x) (ast.Neg (ast.Int 1))) (Int (negsuc 7) ∷ []) ≡ Ok (Int (pos 0))
 remainder_does_not_overflow = refl
 
-literal_overflows : on narrow (x ∷ []) (Number 8) (Int (negsuc 7) ∷ []) ≡ Err (fault Overflow 2)
+literal_overflows : on narrow (x ∷ []) (ast.Int 8) (Int (negsuc 7) ∷ []) ≡ Err (fault Overflow 2)
 literal_overflows = refl
 
 -- `and` evaluates its right side where the left is true
@@ -79,20 +80,20 @@ abbrev short_list : List Value
 short_list = Items (pos 1 ∷ pos 2 ∷ []) ∷ Int (pos 2) ∷ []
 
 abbrev in_list : Term
-in_list = Compare Lt (Var i) (Apply (codes "len") (term_and (Var v) no_terms))
+in_list = ast.Cmp Lt (ast.Name i) (ast.Call (codes "len") (term_and (ast.Name v) no_terms))
 
 abbrev is_nought : Term
-is_nought = Compare Eq (At (Var v) (Var i)) (Number 0)
+is_nought = ast.Cmp Eq (ast.Index (ast.Name v) (ast.Name i)) (ast.Int 0)
 
-and_stops_at_false : on wide (v ∷ i ∷ []) (Both in_list is_nought) short_list ≡ Ok (Truth false)
+and_stops_at_false : on wide (v ∷ i ∷ []) (ast.And in_list is_nought) short_list ≡ Ok (Truth false)
 and_stops_at_false = refl
 
-and_from_the_left : on wide (v ∷ i ∷ []) (Both is_nought in_list) short_list ≡ Err (fault Index 2)
+and_from_the_left : on wide (v ∷ i ∷ []) (ast.And is_nought in_list) short_list ≡ Err (fault Index 2)
 and_from_the_left = refl
 
 -- a loop may make four turns
 abbrev counts : List Routine
-counts = record { line = 1; name = codes "f"; params = x ∷ []; body = step (at 2 (SetTo i (Number 0))) (step (at 3 (Loop (Compare Lt (Var i) (Var x)) (step (at 4 (SetTo i (Binary Add (Var i) (Number 1)))) end))) (step (at 5 (Give (a_term (Var i)))) end)) } ∷ []
+counts = record { line = 1; name = codes "f"; params = x ∷ []; body = step (at 2 (ast.Assign i (ast.Int 0))) (step (at 3 (ast.While (ast.Cmp Lt (ast.Name i) (ast.Name x)) (step (at 4 (ast.Assign i (ast.Arith Add (ast.Name i) (ast.Int 1)))) end))) (step (at 5 (ast.Return (a_term (ast.Name i)))) end)) } ∷ []
 
 as_many_turns : evaluated wide counts (codes "f") (Int (pos 4) ∷ []) ≡ Ok (Int (pos 4))
 as_many_turns = refl
@@ -107,46 +108,46 @@ two = Items (pos 1 ∷ pos 2 ∷ []) ∷ []
 abbrev none : List Value
 none = Items [] ∷ []
 
-index_from_the_end : on wide (v ∷ []) (At (Var v) (Minus (Number 1))) two ≡ Ok (Int (pos 2))
+index_from_the_end : on wide (v ∷ []) (ast.Index (ast.Name v) (ast.Neg (ast.Int 1))) two ≡ Ok (Int (pos 2))
 index_from_the_end = refl
 
-slice_clamps_its_ends : on wide (v ∷ []) (Cut (Var v) (a_term (Minus (Number 3))) (a_term (Number 9))) two ≡ Ok (Items (pos 1 ∷ pos 2 ∷ []))
+slice_clamps_its_ends : on wide (v ∷ []) (ast.Slice (ast.Name v) (a_term (ast.Neg (ast.Int 3))) (a_term (ast.Int 9))) two ≡ Ok (Items (pos 1 ∷ pos 2 ∷ []))
 slice_clamps_its_ends = refl
 
-slice_may_be_empty : on wide (v ∷ []) (Cut (Var v) (a_term (Number 2)) (a_term (Number 1))) two ≡ Ok (Items [])
+slice_may_be_empty : on wide (v ∷ []) (ast.Slice (ast.Name v) (a_term (ast.Int 2)) (a_term (ast.Int 1))) two ≡ Ok (Items [])
 slice_may_be_empty = refl
 
-index_of_empty : on wide (v ∷ []) (At (Var v) (Minus (Number 1))) none ≡ Err (fault Index 2)
+index_of_empty : on wide (v ∷ []) (ast.Index (ast.Name v) (ast.Neg (ast.Int 1))) none ≡ Err (fault Index 2)
 index_of_empty = refl
 
-slice_of_empty : on wide (v ∷ []) (Cut (Var v) (a_term (Minus (Number 3))) (a_term (Number 9))) none ≡ Ok (Items [])
+slice_of_empty : on wide (v ∷ []) (ast.Slice (ast.Name v) (a_term (ast.Neg (ast.Int 3))) (a_term (ast.Int 9))) none ≡ Ok (Items [])
 slice_of_empty = refl
 
 -- the power and the range at their edges
-zero_to_zero : on wide [] (Binary Power (Number 0) (Number 0)) [] ≡ Ok (Int (pos 1))
+zero_to_zero : on wide [] (ast.Arith Power (ast.Int 0) (ast.Int 0)) [] ≡ Ok (Int (pos 1))
 zero_to_zero = refl
 
-range_down : on wide [] (Apply (codes "range") (term_and (Number 5) (term_and (Number 0) (term_and (Minus (Number 2)) no_terms)))) [] ≡ Ok (Items (pos 5 ∷ pos 3 ∷ pos 1 ∷ []))
+range_down : on wide [] (ast.Call (codes "range") (term_and (ast.Int 5) (term_and (ast.Int 0) (term_and (ast.Neg (ast.Int 2)) no_terms)))) [] ≡ Ok (Items (pos 5 ∷ pos 3 ∷ pos 1 ∷ []))
 range_down = refl
 
 -- parentheses stand where a part's level is below the one asked for
-power_of_negative : text_of (Binary Power (Minus (Number 2)) (Number 2)) ≡ codes "(-2) ** 2"
+power_of_negative : text_of (ast.Arith Power (ast.Neg (ast.Int 2)) (ast.Int 2)) ≡ codes "(-2) ** 2"
 unfolding digits
 power_of_negative = refl
 
-negative_of_power : text_of (Minus (Binary Power (Number 2) (Number 2))) ≡ codes "-2 ** 2"
+negative_of_power : text_of (ast.Neg (ast.Arith Power (ast.Int 2) (ast.Int 2))) ≡ codes "-2 ** 2"
 unfolding digits
 negative_of_power = refl
 
-sum_on_the_right : text_of (Binary Sub (Var x) (Binary Add (Var x) (Number 1))) ≡ codes "x - (x + 1)"
+sum_on_the_right : text_of (ast.Arith Sub (ast.Name x) (ast.Arith Add (ast.Name x) (ast.Int 1))) ≡ codes "x - (x + 1)"
 unfolding digits
 sum_on_the_right = refl
 
-sum_on_the_left : text_of (Binary Sub (Binary Add (Var x) (Number 1)) (Var x)) ≡ codes "x + 1 - x"
+sum_on_the_left : text_of (ast.Arith Sub (ast.Arith Add (ast.Name x) (ast.Int 1)) (ast.Name x)) ≡ codes "x + 1 - x"
 unfolding digits
 sum_on_the_left = refl
 
-sum_in_a_product : text_of (Binary Mul (Binary Add (Var x) (Number 1)) (Number 2)) ≡ codes "(x + 1) * 2"
+sum_in_a_product : text_of (ast.Arith Mul (ast.Arith Add (ast.Name x) (ast.Int 1)) (ast.Int 2)) ≡ codes "(x + 1) * 2"
 unfolding digits
 sum_in_a_product = refl
 

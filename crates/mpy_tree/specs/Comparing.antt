@@ -7,7 +7,8 @@ use Rattle.mpy_tree.specs.declared.operators.CmpOp.{CmpOp}
 use Rattle.mpy_tree.specs.declared.operators.CmpOp.TheVariants.{Eq, Ne, Lt, Le, Gt, Ge, Member, NotMember}
 use Rattle.mpy_tree.specs.Operations.{same_truth}
 use Rattle.mpy_tree.specs.Values.{same_bytes}
-use Rattle.mpy_tree.specs.Syntax.{Term, Terms, MaybeTerm, Number, Truth, Quoted, Var, Items, Minus, Negation, Binary, Compare, Both, Either, Choose, At, Cut, Apply, no_terms, term_and, no_term, a_term, Statement, at, Action, SetTo, SetBy, SetAt, SetAtBy, AppendTo, Give, Nothing, Leave, Again, Test, Loop, Each, Block, end, step, MaybeBlock, no_block, a_block, Branch, arm, Branches, no_arms, arm_and, Routine}
+use Rattle.mpy_tree.specs.Syntax.{Term, Terms, MaybeTerm, no_terms, term_and, no_term, a_term, Statement, at, Action, Block, end, step, MaybeBlock, no_block, a_block, Branch, arm, Branches, no_arms, arm_and, Routine}
+use Rattle.mpy_tree.specs.Syntax as ast
 
 abbrev pub same_arith : ArithOp → ArithOp → Bool
 same_arith Add Add = true
@@ -31,21 +32,21 @@ same_cmp _ _ = false
 
 abbrev mutual
   pub same_term : Term → Term → Bool
-  same_term (Number m) (Number n) = nat_eq m n
-  same_term (Truth m) (Truth n) = same_truth m n
-  same_term (Quoted m) (Quoted n) = same_bytes m n
-  same_term (Var m) (Var n) = same_bytes m n
-  same_term (Items m) (Items n) = same_terms m n
-  same_term (Minus m) (Minus n) = same_term m n
-  same_term (Negation m) (Negation n) = same_term m n
-  same_term (Binary o m p) (Binary r n q) = same_arith o r && same_term m n && same_term p q
-  same_term (Compare o m p) (Compare r n q) = same_cmp o r && same_term m n && same_term p q
-  same_term (Both m p) (Both n q) = same_term m n && same_term p q
-  same_term (Either m p) (Either n q) = same_term m n && same_term p q
-  same_term (Choose m p s) (Choose n q t) = same_term m n && same_term p q && same_term s t
-  same_term (At m p) (At n q) = same_term m n && same_term p q
-  same_term (Cut m p s) (Cut n q t) = same_term m n && same_maybe p q && same_maybe s t
-  same_term (Apply f m) (Apply g n) = same_bytes f g && same_terms m n
+  same_term (ast.Int m) (ast.Int n) = nat_eq m n
+  same_term (ast.Bool m) (ast.Bool n) = same_truth m n
+  same_term (ast.Text m) (ast.Text n) = same_bytes m n
+  same_term (ast.Name m) (ast.Name n) = same_bytes m n
+  same_term (ast.List m) (ast.List n) = same_terms m n
+  same_term (ast.Neg m) (ast.Neg n) = same_term m n
+  same_term (ast.Not m) (ast.Not n) = same_term m n
+  same_term (ast.Arith o m p) (ast.Arith r n q) = same_arith o r && same_term m n && same_term p q
+  same_term (ast.Cmp o m p) (ast.Cmp r n q) = same_cmp o r && same_term m n && same_term p q
+  same_term (ast.And m p) (ast.And n q) = same_term m n && same_term p q
+  same_term (ast.Or m p) (ast.Or n q) = same_term m n && same_term p q
+  same_term (ast.Cond m p s) (ast.Cond n q t) = same_term m n && same_term p q && same_term s t
+  same_term (ast.Index m p) (ast.Index n q) = same_term m n && same_term p q
+  same_term (ast.Slice m p s) (ast.Slice n q t) = same_term m n && same_maybe p q && same_maybe s t
+  same_term (ast.Call f m) (ast.Call g n) = same_bytes f g && same_terms m n
   same_term _ _ = false
 
   pub same_terms : Terms → Terms → Bool
@@ -68,18 +69,18 @@ abbrev mutual
   same_statement (at k s) (at l t) = same_action s t
 
   pub same_action : Action → Action → Bool
-  same_action (SetTo x e) (SetTo y f) = same_bytes x y && same_term e f
-  same_action (SetBy x o e) (SetBy y r f) = same_bytes x y && same_arith o r && same_term e f
-  same_action (SetAt x i e) (SetAt y j f) = same_bytes x y && same_term i j && same_term e f
-  same_action (SetAtBy x i o e) (SetAtBy y j r f) = same_bytes x y && same_term i j && same_arith o r && same_term e f
-  same_action (AppendTo x e) (AppendTo y f) = same_bytes x y && same_term e f
-  same_action (Give e) (Give f) = same_maybe e f
-  same_action Nothing Nothing = true
-  same_action Leave Leave = true
-  same_action Again Again = true
-  same_action (Test m p) (Test n q) = same_branches m n && same_last p q
-  same_action (Loop e p) (Loop f q) = same_term e f && same_block p q
-  same_action (Each x e p) (Each y f q) = same_bytes x y && same_term e f && same_block p q
+  same_action (ast.Assign x e) (ast.Assign y f) = same_bytes x y && same_term e f
+  same_action (ast.Augment x o e) (ast.Augment y r f) = same_bytes x y && same_arith o r && same_term e f
+  same_action (ast.Put x i e) (ast.Put y j f) = same_bytes x y && same_term i j && same_term e f
+  same_action (ast.AugmentAt x i o e) (ast.AugmentAt y j r f) = same_bytes x y && same_term i j && same_arith o r && same_term e f
+  same_action (ast.Append x e) (ast.Append y f) = same_bytes x y && same_term e f
+  same_action (ast.Return e) (ast.Return f) = same_maybe e f
+  same_action ast.Pass ast.Pass = true
+  same_action ast.Break ast.Break = true
+  same_action ast.Continue ast.Continue = true
+  same_action (ast.If m p) (ast.If n q) = same_branches m n && same_last p q
+  same_action (ast.While e p) (ast.While f q) = same_term e f && same_block p q
+  same_action (ast.For x e p) (ast.For y f q) = same_bytes x y && same_term e f && same_block p q
   same_action _ _ = false
 
   pub same_branch : Branch → Branch → Bool

@@ -1,5 +1,6 @@
 -- Programs that differ in their lines alone are the same program.
-use Rattle.mpy_tree.specs.Syntax.{Statement, Action, Test, Loop, Each, Block, end, step, at, MaybeBlock, no_block, a_block, Branches, no_arms, arm_and, Branch, arm, Routine}
+use Rattle.mpy_tree.specs.Syntax.{Statement, Action, Block, end, step, at, MaybeBlock, no_block, a_block, Branches, no_arms, arm_and, Branch, arm, Routine}
+use Rattle.mpy_tree.specs.Syntax as ast
 
 -- a body with the line 0 everywhere
 abbrev mutual
@@ -11,9 +12,9 @@ abbrev mutual
   statement_without_lines (at line act) = at 0 (action_without_lines act)
 
   pub action_without_lines : Action → Action
-  action_without_lines (Test arms last) = Test (arms_without_lines arms) (else_without_lines last)
-  action_without_lines (Loop e body) = Loop e (block_without_lines body)
-  action_without_lines (Each x e body) = Each x e (block_without_lines body)
+  action_without_lines (ast.If arms last) = ast.If (arms_without_lines arms) (else_without_lines last)
+  action_without_lines (ast.While e body) = ast.While e (block_without_lines body)
+  action_without_lines (ast.For x e body) = ast.For x e (block_without_lines body)
   action_without_lines act = act
 
   pub arms_without_lines : Branches → Branches

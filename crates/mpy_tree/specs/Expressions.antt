@@ -5,7 +5,8 @@ use Rattle.std.specs.declared.result.Result.TheVariants.{Ok, Err}
 use Rattle.mpy_tree.specs.declared.limits.Limits.{Limits}
 use Rattle.mpy_tree.specs.declared.value.Value.{Value}
 use Rattle.mpy_tree.specs.declared.value.Value.TheVariants.{Bool as BoolV}
-use Rattle.mpy_tree.specs.Syntax.{Term, Terms, MaybeTerm, Number, Truth, Quoted, Var, Items, Minus, Negation, Binary, Compare, Both, Either, Choose, At, Cut, Apply, no_terms, term_and, no_term, a_term}
+use Rattle.mpy_tree.specs.Syntax.{Term, Terms, MaybeTerm, no_terms, term_and, no_term, a_term}
+use Rattle.mpy_tree.specs.Syntax as ast
 use Rattle.mpy_tree.specs.declared.outcome.FaultKind.{FaultKind}
 use Rattle.mpy_tree.specs.declared.outcome.Fault.{Fault}
 use Rattle.mpy_tree.specs.Values.{◌>>=◌, wrong_type, fault, on_line, same_bytes, State, set_or_fault}
@@ -85,46 +86,46 @@ either _ r line = Err (fault wrong_type line)
 module _ (l : Limits) (calls : Calls) (s : State) (line : ℕ) where
   abbrev mutual
     pub value_of : Term → Result Value Fault
-    value_of (Number n) = on_line line (number l (pos n))
-    value_of (Truth b) = Ok (BoolV b)
-    value_of (Quoted cs) = on_line line (text_within l cs)
-    value_of (Var x) = on_line line (set_or_fault (s x))
-    value_of (Items es) = do
+    value_of (ast.Int n) = on_line line (number l (pos n))
+    value_of (ast.Bool b) = Ok (BoolV b)
+    value_of (ast.Text cs) = on_line line (text_within l cs)
+    value_of (ast.Name x) = on_line line (set_or_fault (s x))
+    value_of (ast.List es) = do
       vs ← values_of es
       on_line line (list_of l vs)
-    value_of (Minus e) = do
+    value_of (ast.Neg e) = do
       v ← value_of e
       on_line line (negative l v)
-    value_of (Negation e) = do
+    value_of (ast.Not e) = do
       v ← value_of e
       Ok (BoolV (not (holds v)))
-    value_of (Binary op a b) = do
+    value_of (ast.Arith op a b) = do
       v ← value_of a
       w ← value_of b
       on_line line (arith l op v w)
-    value_of (Compare op a b) = do
+    value_of (ast.Cmp op a b) = do
       v ← value_of a
       w ← value_of b
       on_line line (truth (compare op v w))
-    value_of (Both a b) = do
+    value_of (ast.And a b) = do
       v ← value_of a
       both v (value_of b) line
-    value_of (Either a b) = do
+    value_of (ast.Or a b) = do
       v ← value_of a
       either v (value_of b) line
-    value_of (Choose t a b) = do
+    value_of (ast.Cond t a b) = do
       v ← value_of t
       if holds v then value_of a else value_of b
-    value_of (At a i) = do
+    value_of (ast.Index a i) = do
       v ← value_of a
       w ← value_of i
       on_line line (index v w)
-    value_of (Cut a from to) = do
+    value_of (ast.Slice a from to) = do
       v ← value_of a
       x ← maybe_value_of from
       y ← maybe_value_of to
       on_line line (slice_of v x y)
-    value_of (Apply f es) = do
+    value_of (ast.Call f es) = do
       vs ← values_of es
       apply l calls f vs line
 

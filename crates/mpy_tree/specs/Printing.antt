@@ -8,7 +8,8 @@ use Rattle.mpy_tree.specs.declared.operators.CmpOp.{CmpOp}
 use Rattle.mpy_tree.specs.declared.operators.CmpOp.TheVariants.{Eq, Ne, Lt, Le, Gt, Ge, Member, NotMember}
 use Rattle.mpy_tree.specs.declared.value.Value.{Value}
 use Rattle.mpy_tree.specs.declared.value.Value.TheVariants as value
-use Rattle.mpy_tree.specs.Syntax.{Term, Terms, MaybeTerm, Number, Truth, Quoted, Var, Items, Minus, Negation, Binary, Compare, Both, Either, Choose, At, Cut, Apply, no_terms, term_and, no_term, a_term, at, Action, SetTo, SetBy, SetAt, SetAtBy, AppendTo, Give, Nothing, Leave, Again, Test, Loop, Each, Block, end, step, MaybeBlock, no_block, a_block, arm, Branches, no_arms, arm_and, Routine}
+use Rattle.mpy_tree.specs.Syntax.{Term, Terms, MaybeTerm, no_terms, term_and, no_term, a_term, at, Action, Block, end, step, MaybeBlock, no_block, a_block, arm, Branches, no_arms, arm_and, Routine}
+use Rattle.mpy_tree.specs.Syntax as ast
 
 -- texts with a comma and a space between each two
 abbrev pub commas : List (List ℕ) → List ℕ
@@ -72,15 +73,15 @@ right_level Power = 7
 
 -- the highest level that spells the expression without parentheses round it
 abbrev pub level_of : Term → ℕ
-level_of (Choose t a b) = 0
-level_of (Either a b) = 1
-level_of (Both a b) = 2
-level_of (Negation e) = 3
-level_of (Compare op a b) = 4
-level_of (Binary op a b) = arith_level op
-level_of (Minus e) = 7
-level_of (At v i) = 9
-level_of (Cut v from to) = 9
+level_of (ast.Cond t a b) = 0
+level_of (ast.Or a b) = 1
+level_of (ast.And a b) = 2
+level_of (ast.Not e) = 3
+level_of (ast.Cmp op a b) = 4
+level_of (ast.Arith op a b) = arith_level op
+level_of (ast.Neg e) = 7
+level_of (ast.Index v i) = 9
+level_of (ast.Slice v from to) = 9
 level_of _ = 10
 
 -- the text of a part, in parentheses where its own level is below the one asked for
@@ -93,21 +94,21 @@ spaced text = codes " " ++ text ++ codes " "
 
 abbrev mutual
   pub text_of : Term → List ℕ
-  text_of (Number n) = decimal n
-  text_of (Truth b) = truth_text b
-  text_of (Quoted cs) = quoted_text cs
-  text_of (Var x) = x
-  text_of (Items es) = codes "[" ++ commas (texts_of es) ++ codes "]"
-  text_of (Minus e) = codes "-" ++ at_level 7 e (text_of e)
-  text_of (Negation e) = codes "not " ++ at_level 3 e (text_of e)
-  text_of (Binary op a b) = at_level (left_level op) a (text_of a) ++ spaced (arith_text op) ++ at_level (right_level op) b (text_of b)
-  text_of (Compare op a b) = at_level 5 a (text_of a) ++ spaced (compare_text op) ++ at_level 5 b (text_of b)
-  text_of (Both a b) = at_level 2 a (text_of a) ++ codes " and " ++ at_level 3 b (text_of b)
-  text_of (Either a b) = at_level 1 a (text_of a) ++ codes " or " ++ at_level 2 b (text_of b)
-  text_of (Choose t a b) = at_level 1 a (text_of a) ++ codes " if " ++ at_level 1 t (text_of t) ++ codes " else " ++ text_of b
-  text_of (At v i) = at_level 9 v (text_of v) ++ codes "[" ++ text_of i ++ codes "]"
-  text_of (Cut v from to) = at_level 9 v (text_of v) ++ codes "[" ++ end_text from ++ codes ":" ++ end_text to ++ codes "]"
-  text_of (Apply f es) = f ++ codes "(" ++ commas (texts_of es) ++ codes ")"
+  text_of (ast.Int n) = decimal n
+  text_of (ast.Bool b) = truth_text b
+  text_of (ast.Text cs) = quoted_text cs
+  text_of (ast.Name x) = x
+  text_of (ast.List es) = codes "[" ++ commas (texts_of es) ++ codes "]"
+  text_of (ast.Neg e) = codes "-" ++ at_level 7 e (text_of e)
+  text_of (ast.Not e) = codes "not " ++ at_level 3 e (text_of e)
+  text_of (ast.Arith op a b) = at_level (left_level op) a (text_of a) ++ spaced (arith_text op) ++ at_level (right_level op) b (text_of b)
+  text_of (ast.Cmp op a b) = at_level 5 a (text_of a) ++ spaced (compare_text op) ++ at_level 5 b (text_of b)
+  text_of (ast.And a b) = at_level 2 a (text_of a) ++ codes " and " ++ at_level 3 b (text_of b)
+  text_of (ast.Or a b) = at_level 1 a (text_of a) ++ codes " or " ++ at_level 2 b (text_of b)
+  text_of (ast.Cond t a b) = at_level 1 a (text_of a) ++ codes " if " ++ at_level 1 t (text_of t) ++ codes " else " ++ text_of b
+  text_of (ast.Index v i) = at_level 9 v (text_of v) ++ codes "[" ++ text_of i ++ codes "]"
+  text_of (ast.Slice v from to) = at_level 9 v (text_of v) ++ codes "[" ++ end_text from ++ codes ":" ++ end_text to ++ codes "]"
+  text_of (ast.Call f es) = f ++ codes "(" ++ commas (texts_of es) ++ codes ")"
 
   pub texts_of : Terms → List (List ℕ)
   texts_of no_terms = []
@@ -132,18 +133,18 @@ abbrev mutual
   block_text d (step (at line act) rest) = action_text d act ++ block_text d rest
 
   pub action_text : ℕ → Action → List ℕ
-  action_text d (SetTo x e) = indented d (x ++ codes " = " ++ text_of e)
-  action_text d (SetBy x op e) = indented d (x ++ codes " " ++ arith_text op ++ codes "= " ++ text_of e)
-  action_text d (SetAt x i e) = indented d (x ++ codes "[" ++ text_of i ++ codes "] = " ++ text_of e)
-  action_text d (SetAtBy x i op e) = indented d (x ++ codes "[" ++ text_of i ++ codes "] " ++ arith_text op ++ codes "= " ++ text_of e)
-  action_text d (AppendTo x e) = indented d (x ++ codes ".append(" ++ text_of e ++ codes ")")
-  action_text d (Give e) = indented d (return_text e)
-  action_text d Nothing = indented d (codes "pass")
-  action_text d Leave = indented d (codes "break")
-  action_text d Again = indented d (codes "continue")
-  action_text d (Test arms last) = arms_text d (codes "if ") arms ++ else_text d last
-  action_text d (Loop e body) = indented d (codes "while " ++ text_of e ++ codes ":") ++ block_text (suc d) body
-  action_text d (Each x e body) = indented d (codes "for " ++ x ++ codes " in " ++ text_of e ++ codes ":") ++ block_text (suc d) body
+  action_text d (ast.Assign x e) = indented d (x ++ codes " = " ++ text_of e)
+  action_text d (ast.Augment x op e) = indented d (x ++ codes " " ++ arith_text op ++ codes "= " ++ text_of e)
+  action_text d (ast.Put x i e) = indented d (x ++ codes "[" ++ text_of i ++ codes "] = " ++ text_of e)
+  action_text d (ast.AugmentAt x i op e) = indented d (x ++ codes "[" ++ text_of i ++ codes "] " ++ arith_text op ++ codes "= " ++ text_of e)
+  action_text d (ast.Append x e) = indented d (x ++ codes ".append(" ++ text_of e ++ codes ")")
+  action_text d (ast.Return e) = indented d (return_text e)
+  action_text d ast.Pass = indented d (codes "pass")
+  action_text d ast.Break = indented d (codes "break")
+  action_text d ast.Continue = indented d (codes "continue")
+  action_text d (ast.If arms last) = arms_text d (codes "if ") arms ++ else_text d last
+  action_text d (ast.While e body) = indented d (codes "while " ++ text_of e ++ codes ":") ++ block_text (suc d) body
+  action_text d (ast.For x e body) = indented d (codes "for " ++ x ++ codes " in " ++ text_of e ++ codes ":") ++ block_text (suc d) body
 
   -- the first arm has one word before its test, the others another
   pub arms_text : ℕ → List ℕ → Branches → List ℕ

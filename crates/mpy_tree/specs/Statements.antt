@@ -4,7 +4,8 @@ use Rattle.std.specs.declared.result.Result.{Result}
 use Rattle.std.specs.declared.result.Result.TheVariants.{Ok, Err}
 use Rattle.mpy_tree.specs.declared.limits.Limits.{Limits}
 use Rattle.mpy_tree.specs.declared.value.Value.{Value}
-use Rattle.mpy_tree.specs.Syntax.{Term, MaybeTerm, no_term, a_term, at, Action, SetTo, SetBy, SetAt, SetAtBy, AppendTo, Give, Nothing, Leave, Again, Test, Loop, Each, Block, end, step, MaybeBlock, no_block, a_block, arm, Branches, no_arms, arm_and}
+use Rattle.mpy_tree.specs.Syntax.{Term, MaybeTerm, no_term, a_term, at, Action, Block, end, step, MaybeBlock, no_block, a_block, arm, Branches, no_arms, arm_and}
+use Rattle.mpy_tree.specs.Syntax as ast
 use Rattle.mpy_tree.specs.declared.outcome.FaultKind.{FaultKind}
 use Rattle.mpy_tree.specs.declared.outcome.FaultKind.TheVariants.{Turns, NoValue}
 use Rattle.mpy_tree.specs.declared.outcome.Fault.{Fault}
@@ -113,18 +114,18 @@ module _ (l : Limits) (calls : Calls) where
     run_block (step (at line act) rest) s = then_on (run_action act line s) (run_block rest)
 
     pub run_action : Action → ℕ → State → Ran
-    run_action (SetTo x e) line s = store s x (value_at s line e)
-    run_action (SetBy x op e) line s = store s x (set_by s line x (arith l op) e)
-    run_action (SetAt x i e) line s = store s x (set_at s line x i e)
-    run_action (SetAtBy x i op e) line s = store s x (set_at_by s line x i (arith l op) e)
-    run_action (AppendTo x e) line s = store s x (set_by s line x (append l) e)
-    run_action (Give e) line s = give s line e
-    run_action Nothing line s = Next s
-    run_action Leave line s = Broke s
-    run_action Again line s = Continued s
-    run_action (Test arms last) line s = or_else (run_arms arms s) (run_else last s)
-    run_action (Loop e body) line s = while_turns l.turns (λ s. value_at s line e) (run_block body) line s
-    run_action (Each x e body) line s =
+    run_action (ast.Assign x e) line s = store s x (value_at s line e)
+    run_action (ast.Augment x op e) line s = store s x (set_by s line x (arith l op) e)
+    run_action (ast.Put x i e) line s = store s x (set_at s line x i e)
+    run_action (ast.AugmentAt x i op e) line s = store s x (set_at_by s line x i (arith l op) e)
+    run_action (ast.Append x e) line s = store s x (set_by s line x (append l) e)
+    run_action (ast.Return e) line s = give s line e
+    run_action ast.Pass line s = Next s
+    run_action ast.Break line s = Broke s
+    run_action ast.Continue line s = Continued s
+    run_action (ast.If arms last) line s = or_else (run_arms arms s) (run_else last s)
+    run_action (ast.While e body) line s = while_turns l.turns (λ s. value_at s line e) (run_block body) line s
+    run_action (ast.For x e body) line s =
         given (value_at s line e >>= λ v. on_line line (members v)) (λ vs. for_turns vs l.turns x (run_block body) line s)
 
     -- the first arm whose test holds, if there is one

@@ -1,27 +1,43 @@
--- The syntax of programs as mathematics: what a program's tree is, without memory.
--- A name and a text are lists of bytes.
-use Rattle.std.specs.Prelude.{ℕ, Bool, List}
+-- The abstract syntax of programs as mathematics: what a program's tree is, without memory. A constructor has the name of
+-- the code's variant, and other modules write it behind the name `ast`, as `ast.List`. A name and a text are lists of bytes.
+use Rattle.std.specs.Prelude.{ℕ}
+use Rattle.std.specs.Prelude as logic
 use Rattle.mpy_tree.specs.declared.operators.ArithOp.{ArithOp}
 use Rattle.mpy_tree.specs.declared.operators.CmpOp.{CmpOp}
 
 -- an expression, and a list of expressions
 mutual
   pub data Term : Type 0 where
-    Number : (n : ℕ) → Term
-    Truth : (b : Bool) → Term
-    Quoted : (cs : List ℕ) → Term
-    Var : (x : List ℕ) → Term
-    Items : (es : Terms) → Term
-    Minus : (e : Term) → Term
-    Negation : (e : Term) → Term
-    Binary : (op : ArithOp) (a b : Term) → Term
-    Compare : (op : CmpOp) (a b : Term) → Term
-    Both : (a b : Term) → Term
-    Either : (a b : Term) → Term
-    Choose : (test yes no : Term) → Term
-    At : (v i : Term) → Term
-    Cut : (v : Term) (from to : MaybeTerm) → Term
-    Apply : (f : List ℕ) (es : Terms) → Term
+    -- 7
+    Int : (n : ℕ) → Term
+    -- True
+    Bool : (b : logic.Bool) → Term
+    -- 'abc'
+    Text : (cs : logic.List ℕ) → Term
+    -- x
+    Name : (x : logic.List ℕ) → Term
+    -- [e, .., e]
+    List : (es : Terms) → Term
+    -- -e
+    Neg : (e : Term) → Term
+    -- not e
+    Not : (e : Term) → Term
+    -- a + b
+    Arith : (op : ArithOp) (a b : Term) → Term
+    -- a < b
+    Cmp : (op : CmpOp) (a b : Term) → Term
+    -- a and b
+    And : (a b : Term) → Term
+    -- a or b
+    Or : (a b : Term) → Term
+    -- yes if test else no
+    Cond : (test yes no : Term) → Term
+    -- v[i]
+    Index : (v i : Term) → Term
+    -- v[from:to], without either end too
+    Slice : (v : Term) (from to : MaybeTerm) → Term
+    -- f(e, .., e)
+    Call : (f : logic.List ℕ) (es : Terms) → Term
 
   pub data Terms : Type 0 where
     no_terms : Terms
@@ -37,18 +53,30 @@ mutual
     at : (line : ℕ) (act : Action) → Statement
 
   pub data Action : Type 0 where
-    SetTo : (x : List ℕ) (e : Term) → Action
-    SetBy : (x : List ℕ) (op : ArithOp) (e : Term) → Action
-    SetAt : (x : List ℕ) (i e : Term) → Action
-    SetAtBy : (x : List ℕ) (i : Term) (op : ArithOp) (e : Term) → Action
-    AppendTo : (x : List ℕ) (e : Term) → Action
-    Give : (e : MaybeTerm) → Action
-    Nothing : Action
-    Leave : Action
-    Again : Action
-    Test : (arms : Branches) (last : MaybeBlock) → Action
-    Loop : (test : Term) (body : Block) → Action
-    Each : (x : List ℕ) (e : Term) (body : Block) → Action
+    -- x = e
+    Assign : (x : logic.List ℕ) (e : Term) → Action
+    -- x += e
+    Augment : (x : logic.List ℕ) (op : ArithOp) (e : Term) → Action
+    -- x[i] = e
+    Put : (x : logic.List ℕ) (i e : Term) → Action
+    -- x[i] += e
+    AugmentAt : (x : logic.List ℕ) (i : Term) (op : ArithOp) (e : Term) → Action
+    -- x.append(e)
+    Append : (x : logic.List ℕ) (e : Term) → Action
+    -- return e, and return alone
+    Return : (e : MaybeTerm) → Action
+    -- pass
+    Pass : Action
+    -- break
+    Break : Action
+    -- continue
+    Continue : Action
+    -- if test: body, then each elif, and else: last
+    If : (arms : Branches) (last : MaybeBlock) → Action
+    -- while test: body
+    While : (test : Term) (body : Block) → Action
+    -- for x in e: body
+    For : (x : logic.List ℕ) (e : Term) (body : Block) → Action
 
   pub data Block : Type 0 where
     end : Block
@@ -65,8 +93,9 @@ mutual
     no_arms : Branches
     arm_and : (b : Branch) (rest : Branches) → Branches
 
+-- def name(params): body
 pub record Routine : Type 0 where
   pub line : ℕ
-  pub name : List ℕ
-  pub params : List (List ℕ)
+  pub name : logic.List ℕ
+  pub params : logic.List (logic.List ℕ)
   pub body : Block

@@ -5,7 +5,8 @@ use Rattle.mpy_tree.specs.declared.operators.ArithOp.{ArithOp}
 use Rattle.mpy_tree.specs.declared.operators.ArithOp.TheVariants.{Add, Sub, Mul, Floor, Rem, Power}
 use Rattle.mpy_tree.specs.declared.operators.CmpOp.{CmpOp}
 use Rattle.mpy_tree.specs.declared.operators.CmpOp.TheVariants.{Eq, Ne, Lt, Le, Gt, Ge, Member, NotMember}
-use Rattle.mpy_tree.specs.Syntax.{Term, Terms, MaybeTerm, Number, Truth, Quoted, Var, Items, Minus, Negation, Binary, Compare, Both, Either, Choose, At, Cut, Apply, no_terms, term_and, no_term, a_term}
+use Rattle.mpy_tree.specs.Syntax.{Term, Terms, MaybeTerm, no_terms, term_and, no_term, a_term}
+use Rattle.mpy_tree.specs.Syntax as ast
 use Rattle.mpy_tree.specs.Printing.{quoted_text, truth_text, arith_text, level_of, left_level, right_level}
 use Rattle.mpy_lexer.specs.declared.forms.Kind.{Kind}
 use Rattle.mpy_lexer.specs.declared.forms.Kind.TheVariants as kind
@@ -111,21 +112,21 @@ compare_balanced NotMember = and_then (a_word (codes "not")) (and_then (token ki
 
 mutual
   pub term_balanced : (e : Term) → IsBalanced (term_scraps e)
-  term_balanced (Number n) = token kind.Number (decimal n) (refl, refl)
-  term_balanced (Truth b) = token kind.Reserved (truth_text b) (refl, refl)
-  term_balanced (Quoted cs) = token kind.Text (quoted_text cs) (refl, refl)
-  term_balanced (Var x) = token kind.Name x (refl, refl)
-  term_balanced (Items es) = in_square (list_balanced es)
-  term_balanced (Minus e) = and_then (token kind.Mark (codes "-") (refl, refl)) (part_balanced 7 e (term_scraps e) (term_balanced e))
-  term_balanced (Negation e) = and_then (token kind.Reserved (codes "not") (refl, refl)) (and_then space (part_balanced 3 e (term_scraps e) (term_balanced e)))
-  term_balanced (Binary op a b) = and_then (part_balanced (left_level op) a (term_scraps a) (term_balanced a)) (and_then (operator op) (part_balanced (right_level op) b (term_scraps b) (term_balanced b)))
-  term_balanced (Compare op a b) = and_then (part_balanced 5 a (term_scraps a) (term_balanced a)) (and_then (compare_balanced op) (part_balanced 5 b (term_scraps b) (term_balanced b)))
-  term_balanced (Both a b) = and_then (part_balanced 2 a (term_scraps a) (term_balanced a)) (and_then (a_word (codes "and")) (part_balanced 3 b (term_scraps b) (term_balanced b)))
-  term_balanced (Either a b) = and_then (part_balanced 1 a (term_scraps a) (term_balanced a)) (and_then (a_word (codes "or")) (part_balanced 2 b (term_scraps b) (term_balanced b)))
-  term_balanced (Choose t a b) = and_then (part_balanced 1 a (term_scraps a) (term_balanced a)) (and_then (a_word (codes "if")) (and_then (part_balanced 1 t (term_scraps t) (term_balanced t)) (and_then (a_word (codes "else")) (term_balanced b))))
-  term_balanced (At v i) = and_then (part_balanced 9 v (term_scraps v) (term_balanced v)) (in_square (term_balanced i))
-  term_balanced (Cut v from to) = and_then (part_balanced 9 v (term_scraps v) (term_balanced v)) (in_square (and_then (end_balanced from) (and_then (token kind.Mark (codes ":") (refl, refl)) (end_balanced to))))
-  term_balanced (Apply f es) = and_then (token kind.Name f (refl, refl)) (in_round (list_balanced es))
+  term_balanced (ast.Int n) = token kind.Number (decimal n) (refl, refl)
+  term_balanced (ast.Bool b) = token kind.Reserved (truth_text b) (refl, refl)
+  term_balanced (ast.Text cs) = token kind.Text (quoted_text cs) (refl, refl)
+  term_balanced (ast.Name x) = token kind.Name x (refl, refl)
+  term_balanced (ast.List es) = in_square (list_balanced es)
+  term_balanced (ast.Neg e) = and_then (token kind.Mark (codes "-") (refl, refl)) (part_balanced 7 e (term_scraps e) (term_balanced e))
+  term_balanced (ast.Not e) = and_then (token kind.Reserved (codes "not") (refl, refl)) (and_then space (part_balanced 3 e (term_scraps e) (term_balanced e)))
+  term_balanced (ast.Arith op a b) = and_then (part_balanced (left_level op) a (term_scraps a) (term_balanced a)) (and_then (operator op) (part_balanced (right_level op) b (term_scraps b) (term_balanced b)))
+  term_balanced (ast.Cmp op a b) = and_then (part_balanced 5 a (term_scraps a) (term_balanced a)) (and_then (compare_balanced op) (part_balanced 5 b (term_scraps b) (term_balanced b)))
+  term_balanced (ast.And a b) = and_then (part_balanced 2 a (term_scraps a) (term_balanced a)) (and_then (a_word (codes "and")) (part_balanced 3 b (term_scraps b) (term_balanced b)))
+  term_balanced (ast.Or a b) = and_then (part_balanced 1 a (term_scraps a) (term_balanced a)) (and_then (a_word (codes "or")) (part_balanced 2 b (term_scraps b) (term_balanced b)))
+  term_balanced (ast.Cond t a b) = and_then (part_balanced 1 a (term_scraps a) (term_balanced a)) (and_then (a_word (codes "if")) (and_then (part_balanced 1 t (term_scraps t) (term_balanced t)) (and_then (a_word (codes "else")) (term_balanced b))))
+  term_balanced (ast.Index v i) = and_then (part_balanced 9 v (term_scraps v) (term_balanced v)) (in_square (term_balanced i))
+  term_balanced (ast.Slice v from to) = and_then (part_balanced 9 v (term_scraps v) (term_balanced v)) (in_square (and_then (end_balanced from) (and_then (token kind.Mark (codes ":") (refl, refl)) (end_balanced to))))
+  term_balanced (ast.Call f es) = and_then (token kind.Name f (refl, refl)) (in_round (list_balanced es))
 
   list_balanced : (es : Terms) → IsBalanced (list_scraps es)
   list_balanced no_terms = nothing

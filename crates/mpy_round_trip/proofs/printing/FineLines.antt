@@ -1,7 +1,8 @@
 -- The printed lines of a proper program are fine.
 use Rattle.std.proofs.Common.{◌≡◌, ℕ, suc, Bool, true, false, List, [], ◌∷◌, ◌++◌, All, codes, refl}
 use Rattle.std.proofs.lemmas.List.Elements.{All-nil, All-cons, All-head, All-tail}
-use Rattle.mpy_tree.specs.Syntax.{Term, no_term, a_term, at, Action, SetTo, SetBy, SetAt, SetAtBy, AppendTo, Give, Nothing, Leave, Again, Test, Loop, Each, Block, end, step, MaybeBlock, no_block, a_block, arm, Branches, no_arms, arm_and, Routine}
+use Rattle.mpy_tree.specs.Syntax.{Term, no_term, a_term, at, Action, Block, end, step, MaybeBlock, no_block, a_block, arm, Branches, no_arms, arm_and, Routine}
+use Rattle.mpy_tree.specs.Syntax as ast
 use Rattle.mpy_tree.specs.declared.operators.ArithOp.{ArithOp}
 use Rattle.mpy_tree.specs.Printing.{arith_text}
 use Rattle.mpy_lexer.specs.Bytes.{is_name_byte}
@@ -125,19 +126,19 @@ mutual
   block_fine loop d (step (at line act) rest) ps p h = action_fine loop d act (block_lines d rest ps) p.0 (block_fine loop d rest ps p.1 h)
 
   action_fine : (loop : Bool) (d : ℕ) (act : Action) (ps : List Printed) → IsProperAction loop act → All IsFine ps → All IsFine (action_lines d act ps)
-  action_fine loop d (SetTo x e) ps p h = line_and ps (assignment_fine d x e p.0 p.1) h
-  action_fine loop d (SetBy x op e) ps p h = line_and ps (augmentation_fine d x op e p.0 p.1 p.2) h
-  action_fine loop d (SetAt x i e) ps p h = line_and ps (assignment_at_fine d x i e p.0 p.1 p.2) h
-  action_fine loop d (SetAtBy x i op e) ps p h = line_and ps (augmentation_at_fine d x i op e p.0 p.1 p.2 p.3) h
-  action_fine loop d (AppendTo x e) ps p h = line_and ps (appending_fine d x e p.0 p.1) h
-  action_fine loop d (Give no_term) ps p h = line_and ps (word_fine d (codes "return") refl refl) h
-  action_fine loop d (Give (a_term e)) ps p h = line_and ps (returning_fine d e p) h
-  action_fine loop d Nothing ps p h = line_and ps (word_fine d (codes "pass") refl refl) h
-  action_fine loop d Leave ps p h = line_and ps (word_fine d (codes "break") refl refl) h
-  action_fine loop d Again ps p h = line_and ps (word_fine d (codes "continue") refl refl) h
-  action_fine loop d (Test arms last) ps p h = arms_fine loop d (codes "if") arms (else_lines d last ps) refl refl p.1 (last_fine loop d last ps p.2 h)
-  action_fine loop d (Loop e body) ps p h = line_and (block_lines (suc d) body ps) (header_fine d (codes "while") e refl refl p.0) (block_fine true (suc d) body ps p.1.1 h)
-  action_fine loop d (Each x e body) ps p h = line_and (block_lines (suc d) body ps) (each_fine d x e p.0 p.1) (block_fine true (suc d) body ps p.2.1 h)
+  action_fine loop d (ast.Assign x e) ps p h = line_and ps (assignment_fine d x e p.0 p.1) h
+  action_fine loop d (ast.Augment x op e) ps p h = line_and ps (augmentation_fine d x op e p.0 p.1 p.2) h
+  action_fine loop d (ast.Put x i e) ps p h = line_and ps (assignment_at_fine d x i e p.0 p.1 p.2) h
+  action_fine loop d (ast.AugmentAt x i op e) ps p h = line_and ps (augmentation_at_fine d x i op e p.0 p.1 p.2 p.3) h
+  action_fine loop d (ast.Append x e) ps p h = line_and ps (appending_fine d x e p.0 p.1) h
+  action_fine loop d (ast.Return no_term) ps p h = line_and ps (word_fine d (codes "return") refl refl) h
+  action_fine loop d (ast.Return (a_term e)) ps p h = line_and ps (returning_fine d e p) h
+  action_fine loop d ast.Pass ps p h = line_and ps (word_fine d (codes "pass") refl refl) h
+  action_fine loop d ast.Break ps p h = line_and ps (word_fine d (codes "break") refl refl) h
+  action_fine loop d ast.Continue ps p h = line_and ps (word_fine d (codes "continue") refl refl) h
+  action_fine loop d (ast.If arms last) ps p h = arms_fine loop d (codes "if") arms (else_lines d last ps) refl refl p.1 (last_fine loop d last ps p.2 h)
+  action_fine loop d (ast.While e body) ps p h = line_and (block_lines (suc d) body ps) (header_fine d (codes "while") e refl refl p.0) (block_fine true (suc d) body ps p.1.1 h)
+  action_fine loop d (ast.For x e body) ps p h = line_and (block_lines (suc d) body ps) (each_fine d x e p.0 p.1) (block_fine true (suc d) body ps p.2.1 h)
 
   arms_fine : (loop : Bool) (d : ℕ) (bytes : List ℕ) (arms : Branches) (ps : List Printed) → is_reserved bytes ≡ true → list_all is_printable bytes ≡ true → AreProperArms loop arms → All IsFine ps → All IsFine (arms_lines d bytes arms ps)
   arms_fine loop d bytes no_arms ps r w p h = h

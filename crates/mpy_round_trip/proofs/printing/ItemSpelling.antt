@@ -2,7 +2,8 @@
 use Rattle.std.proofs.Common.{◌≡◌, ℕ, List, [], ◌∷◌, ◌++◌, codes, Some, None, refl, ap, sym, ◌∙◌, subst, append_assoc, append-nil}
 use Rattle.mpy_tree.specs.declared.operators.ArithOp.{ArithOp}
 use Rattle.mpy_tree.specs.declared.operators.ArithOp.TheVariants.{Add, Sub, Mul, Floor, Rem, Power}
-use Rattle.mpy_tree.specs.Syntax.{Term, SetTo, SetBy, SetAt, SetAtBy, AppendTo, Give, a_term}
+use Rattle.mpy_tree.specs.Syntax.{Term, a_term}
+use Rattle.mpy_tree.specs.Syntax as ast
 use Rattle.mpy_tree.specs.Printing.{arith_text}
 use Rattle.mpy_lexer.specs.declared.forms.Kind.TheVariants as kind
 use Rattle.mpy_parser.specs.declared.levels.Level.TheVariants as level
@@ -22,7 +23,7 @@ use Rattle.mpy_round_trip.proofs.printing.TermSpelling.{terminals_in, HasTermina
 last : (e : Term) → IsProperTerm e → Spells level.Conditional (terminals_in (term_scraps e [])) e
 last e p = let s = whole e p in subst (λ ts. Spells level.Conditional ts e) (sym (s.onto [] ∙ append-nil s.own)) s.spells
 
-pub assignment : (x : List ℕ) (e : Term) → IsProperTerm e → SpellsItem (terminals_in (name x ∷ gap ∷ mark (codes "=") ∷ gap ∷ term_scraps e [])) (simple (SetTo x e))
+pub assignment : (x : List ℕ) (e : Term) → IsProperTerm e → SpellsItem (terminals_in (name x ∷ gap ∷ mark (codes "=") ∷ gap ∷ term_scraps e [])) (simple (ast.Assign x e))
 unfolding word_of
 assignment x e p = a_statement (assign x (last e p))
 
@@ -40,33 +41,33 @@ augments Floor h = record { sign = word.DoubleSlashAssign; seen = refl; meant = 
 augments Rem h = record { sign = word.PercentAssign; seen = refl; meant = refl }
 augments Power h = absurd h
 
-pub augmentation : (x : List ℕ) (op : ArithOp) (e : Term) → MayAugment op → IsProperTerm e → SpellsItem (terminals_in (name x ∷ gap ∷ mark (arith_text op ++ codes "=") ∷ gap ∷ term_scraps e [])) (simple (SetBy x op e))
-augmentation x op e m p = let a = augments op m in subst (λ t. SpellsItem (terminal.Name x ∷ t ∷ terminals_in (term_scraps e [])) (simple (SetBy x op e))) (sym a.seen) (a_statement (augment x a.sign a.meant (last e p)))
+pub augmentation : (x : List ℕ) (op : ArithOp) (e : Term) → MayAugment op → IsProperTerm e → SpellsItem (terminals_in (name x ∷ gap ∷ mark (arith_text op ++ codes "=") ∷ gap ∷ term_scraps e [])) (simple (ast.Augment x op e))
+augmentation x op e m p = let a = augments op m in subst (λ t. SpellsItem (terminal.Name x ∷ t ∷ terminals_in (term_scraps e [])) (simple (ast.Augment x op e))) (sym a.seen) (a_statement (augment x a.sign a.meant (last e p)))
 
-pub assignment_at : (x : List ℕ) (i e : Term) → IsProperTerm i → IsProperTerm e → SpellsItem (terminals_in (name x ∷ mark (codes "[") ∷ term_scraps i (mark (codes "]") ∷ gap ∷ mark (codes "=") ∷ gap ∷ term_scraps e []))) (simple (SetAt x i e))
+pub assignment_at : (x : List ℕ) (i e : Term) → IsProperTerm i → IsProperTerm e → SpellsItem (terminals_in (name x ∷ mark (codes "[") ∷ term_scraps i (mark (codes "]") ∷ gap ∷ mark (codes "=") ∷ gap ∷ term_scraps e []))) (simple (ast.Put x i e))
 unfolding word_of
 assignment_at x i e p q =
     let s = whole i p in
     let behind = mark (codes "]") ∷ gap ∷ mark (codes "=") ∷ gap ∷ term_scraps e [] in
     let ts = terminals_in (term_scraps e []) in
-    subst (λ l. SpellsItem (terminal.Name x ∷ terminal.Word word.LeftBracket ∷ l) (simple (SetAt x i e))) (sym (s.onto behind)) (a_statement (put x {is = s.own} {es = ts} s.spells (last e q)))
+    subst (λ l. SpellsItem (terminal.Name x ∷ terminal.Word word.LeftBracket ∷ l) (simple (ast.Put x i e))) (sym (s.onto behind)) (a_statement (put x {is = s.own} {es = ts} s.spells (last e q)))
 
-pub augmentation_at : (x : List ℕ) (i : Term) (op : ArithOp) (e : Term) → IsProperTerm i → MayAugment op → IsProperTerm e → SpellsItem (terminals_in (name x ∷ mark (codes "[") ∷ term_scraps i (mark (codes "]") ∷ gap ∷ mark (arith_text op ++ codes "=") ∷ gap ∷ term_scraps e []))) (simple (SetAtBy x i op e))
+pub augmentation_at : (x : List ℕ) (i : Term) (op : ArithOp) (e : Term) → IsProperTerm i → MayAugment op → IsProperTerm e → SpellsItem (terminals_in (name x ∷ mark (codes "[") ∷ term_scraps i (mark (codes "]") ∷ gap ∷ mark (arith_text op ++ codes "=") ∷ gap ∷ term_scraps e []))) (simple (ast.AugmentAt x i op e))
 unfolding word_of
 augmentation_at x i op e p m q =
     let s = whole i p in
     let a = augments op m in
     let behind = mark (codes "]") ∷ gap ∷ mark (arith_text op ++ codes "=") ∷ gap ∷ term_scraps e [] in
     let ts = terminals_in (term_scraps e []) in
-    subst (λ l. SpellsItem (terminal.Name x ∷ terminal.Word word.LeftBracket ∷ l) (simple (SetAtBy x i op e))) (sym (s.onto behind ∙ ap (λ t. s.own ++ terminal.Word word.RightBracket ∷ t ∷ ts) a.seen)) (a_statement (augment_at x a.sign {is = s.own} {es = ts} a.meant s.spells (last e q)))
+    subst (λ l. SpellsItem (terminal.Name x ∷ terminal.Word word.LeftBracket ∷ l) (simple (ast.AugmentAt x i op e))) (sym (s.onto behind ∙ ap (λ t. s.own ++ terminal.Word word.RightBracket ∷ t ∷ ts) a.seen)) (a_statement (augment_at x a.sign {is = s.own} {es = ts} a.meant s.spells (last e q)))
 
-pub appending : (x : List ℕ) (e : Term) → IsProperTerm e → SpellsItem (terminals_in (name x ∷ mark (codes ".") ∷ name (codes "append") ∷ mark (codes "(") ∷ term_scraps e (mark (codes ")") ∷ []))) (simple (AppendTo x e))
+pub appending : (x : List ℕ) (e : Term) → IsProperTerm e → SpellsItem (terminals_in (name x ∷ mark (codes ".") ∷ name (codes "append") ∷ mark (codes "(") ∷ term_scraps e (mark (codes ")") ∷ []))) (simple (ast.Append x e))
 unfolding word_of
 appending x e p =
     let s = whole e p in
-    subst (λ l. SpellsItem (terminal.Name x ∷ terminal.Word word.Dot ∷ terminal.Name (codes "append") ∷ terminal.Word word.LeftParen ∷ l) (simple (AppendTo x e))) (sym (s.onto (mark (codes ")") ∷ []))) (a_statement (append x s.spells))
+    subst (λ l. SpellsItem (terminal.Name x ∷ terminal.Word word.Dot ∷ terminal.Name (codes "append") ∷ terminal.Word word.LeftParen ∷ l) (simple (ast.Append x e))) (sym (s.onto (mark (codes ")") ∷ []))) (a_statement (append x s.spells))
 
-pub returning : (e : Term) → IsProperTerm e → SpellsItem (terminals_in (reserved (codes "return") ∷ gap ∷ term_scraps e [])) (simple (Give (a_term e)))
+pub returning : (e : Term) → IsProperTerm e → SpellsItem (terminals_in (reserved (codes "return") ∷ gap ∷ term_scraps e [])) (simple (ast.Return (a_term e)))
 unfolding word_of
 returning e p = a_statement (give (last e p))
 

@@ -1,7 +1,8 @@
 -- Programs that differ in their lines alone pass the limits alike.
 use Rattle.std.proofs.Common.{◌≡◌, ℕ, suc, ◌+◌, ◌-◌, min, Bool, true, false, List, [], ◌∷◌, ◌++◌, length, map, take, drop, flat_map, refl, ap, sym, ◌∙◌, arith, length-append}
 use Rattle.std.proofs.lemmas.List.{length-map, length-take, length-drop}
-use Rattle.mpy_tree.specs.Syntax.{at, Action, SetTo, SetBy, SetAt, SetAtBy, AppendTo, Give, Nothing, Leave, Again, Test, Loop, Each, Block, end, step, MaybeBlock, no_block, a_block, arm, Branches, no_arms, arm_and, Routine}
+use Rattle.mpy_tree.specs.Syntax.{at, Action, Block, end, step, MaybeBlock, no_block, a_block, arm, Branches, no_arms, arm_and, Routine}
+use Rattle.mpy_tree.specs.Syntax as ast
 use Rattle.mpy_tree.specs.Equality.{block_without_lines, action_without_lines, arms_without_lines, else_without_lines, without_lines}
 use Rattle.mpy_parser.specs.Limits.{line_if, too_deep, deeper, block_lines, action_lines, arms_lines, last_lines, statements, statements_in, statements_of, statements_last, is_large_header, routine_lines, limit_lines}
 
@@ -22,18 +23,18 @@ mutual
   block_length d (step (at line act) rest) = joined _ _ _ _ (action_length d line act) (block_length d rest)
 
   action_length : (d line : ℕ) (act : Action) → length (action_lines d 0 (action_without_lines act)) ≡ length (action_lines d line act)
-  action_length d line (SetTo x e) = line_if_length _ 0 line
-  action_length d line (SetBy x op e) = line_if_length _ 0 line
-  action_length d line (SetAt x i e) = line_if_length _ 0 line
-  action_length d line (SetAtBy x i op e) = line_if_length _ 0 line
-  action_length d line (AppendTo x e) = line_if_length _ 0 line
-  action_length d line (Give e) = line_if_length _ 0 line
-  action_length d line Nothing = refl
-  action_length d line Leave = refl
-  action_length d line Again = refl
-  action_length d line (Test arms last) = joined _ _ _ _ (arms_length d arms) (last_length d last)
-  action_length d line (Loop e body) = joined _ _ _ _ (joined _ _ _ _ (line_if_length _ 0 line) (too_deep_length (deeper d) body)) (block_length (deeper d) body)
-  action_length d line (Each x e body) = joined _ _ _ _ (joined _ _ _ _ (line_if_length _ 0 line) (too_deep_length (deeper d) body)) (block_length (deeper d) body)
+  action_length d line (ast.Assign x e) = line_if_length _ 0 line
+  action_length d line (ast.Augment x op e) = line_if_length _ 0 line
+  action_length d line (ast.Put x i e) = line_if_length _ 0 line
+  action_length d line (ast.AugmentAt x i op e) = line_if_length _ 0 line
+  action_length d line (ast.Append x e) = line_if_length _ 0 line
+  action_length d line (ast.Return e) = line_if_length _ 0 line
+  action_length d line ast.Pass = refl
+  action_length d line ast.Break = refl
+  action_length d line ast.Continue = refl
+  action_length d line (ast.If arms last) = joined _ _ _ _ (arms_length d arms) (last_length d last)
+  action_length d line (ast.While e body) = joined _ _ _ _ (joined _ _ _ _ (line_if_length _ 0 line) (too_deep_length (deeper d) body)) (block_length (deeper d) body)
+  action_length d line (ast.For x e body) = joined _ _ _ _ (joined _ _ _ _ (line_if_length _ 0 line) (too_deep_length (deeper d) body)) (block_length (deeper d) body)
 
   arms_length : (d : ℕ) (arms : Branches) → length (arms_lines d (arms_without_lines arms)) ≡ length (arms_lines d arms)
   arms_length d no_arms = refl
@@ -49,9 +50,9 @@ mutual
   statements_length (step (at line act) rest) = ap suc (joined _ _ _ _ (within_length act) (statements_length rest))
 
   within_length : (act : Action) → length (statements_in (action_without_lines act)) ≡ length (statements_in act)
-  within_length (Test arms last) = joined _ _ _ _ (arms_statements_length arms) (last_statements_length last)
-  within_length (Loop e body) = statements_length body
-  within_length (Each x e body) = statements_length body
+  within_length (ast.If arms last) = joined _ _ _ _ (arms_statements_length arms) (last_statements_length last)
+  within_length (ast.While e body) = statements_length body
+  within_length (ast.For x e body) = statements_length body
   within_length _ = refl
 
   arms_statements_length : (arms : Branches) → length (statements_of (arms_without_lines arms)) ≡ length (statements_of arms)

@@ -1,7 +1,8 @@
 -- The logical lines of a printed program nest as its functions.
 use Rattle.std.proofs.Common.{◌≡◌, ℕ, suc, ◌+◌, ◌*◌, Bool, true, false, List, [], ◌∷◌, ◌++◌, map, codes, None, refl, ap, sym, ◌∙◌, subst, append_assoc, arith}
 use Rattle.std.proofs.lemmas.List.Elements.{All-head, All-tail}
-use Rattle.mpy_tree.specs.Syntax.{no_term, a_term, at, Action, SetTo, SetBy, SetAt, SetAtBy, AppendTo, Give, Nothing, Leave, Again, Test, Loop, Each, Block, end, step, MaybeBlock, no_block, a_block, arm, Branches, no_arms, arm_and, Routine}
+use Rattle.mpy_tree.specs.Syntax.{no_term, a_term, at, Action, Block, end, step, MaybeBlock, no_block, a_block, arm, Branches, no_arms, arm_and, Routine}
+use Rattle.mpy_tree.specs.Syntax as ast
 use Rattle.mpy_tree.specs.Equality.{block_without_lines, action_without_lines, arms_without_lines, else_without_lines, without_lines}
 use Rattle.mpy_lexer.specs.declared.line.Line.{Line}
 use Rattle.mpy_parser.specs.declared.words.Word.TheVariants as word
@@ -113,18 +114,18 @@ mutual
       }
 
   action_read : (loop : Bool) (d : ℕ) (act : Action) (ps : List Printed) (n : ℕ) (ls : List Line) → IsProperAction loop act → AreLinesOf n (action_lines d act ps) ls → IsActionRead loop d act ps ls
-  action_read loop d (SetTo x e) ps n ls p h = simple_read loop n d (SetTo x e) _ _ ps ls (anywhere loop (SetTo x e) tt) (assignment x e p.1) h
-  action_read loop d (SetBy x op e) ps n ls p h = simple_read loop n d (SetBy x op e) _ _ ps ls (anywhere loop (SetBy x op e) tt) (augmentation x op e p.1 p.2) h
-  action_read loop d (SetAt x i e) ps n ls p h = simple_read loop n d (SetAt x i e) _ _ ps ls (anywhere loop (SetAt x i e) tt) (assignment_at x i e p.1 p.2) h
-  action_read loop d (SetAtBy x i op e) ps n ls p h = simple_read loop n d (SetAtBy x i op e) _ _ ps ls (anywhere loop (SetAtBy x i op e) tt) (augmentation_at x i op e p.1 p.2 p.3) h
-  action_read loop d (AppendTo x e) ps n ls p h = simple_read loop n d (AppendTo x e) _ _ ps ls (anywhere loop (AppendTo x e) tt) (appending x e p.1) h
-  action_read loop d (Give no_term) ps n ls p h = simple_read loop n d (Give no_term) _ _ ps ls (anywhere loop (Give no_term) tt) (a_statement give_nothing) h
-  action_read loop d (Give (a_term e)) ps n ls p h = simple_read loop n d (Give (a_term e)) _ _ ps ls (anywhere loop (Give (a_term e)) tt) (returning e p) h
-  action_read loop d Nothing ps n ls p h = simple_read loop n d Nothing _ _ ps ls (anywhere loop Nothing tt) (a_statement pass) h
-  action_read loop d Leave ps n ls p h = simple_read loop n d Leave _ _ ps ls p (a_statement leave) h
-  action_read loop d Again ps n ls p h = simple_read loop n d Again _ _ ps ls p (a_statement again) h
-  action_read loop d (Test no_arms last) ps n ls p h = absurd p.0
-  action_read loop d (Test (arm_and (arm line e body) rest) last) ps n ls p h =
+  action_read loop d (ast.Assign x e) ps n ls p h = simple_read loop n d (ast.Assign x e) _ _ ps ls (anywhere loop (ast.Assign x e) tt) (assignment x e p.1) h
+  action_read loop d (ast.Augment x op e) ps n ls p h = simple_read loop n d (ast.Augment x op e) _ _ ps ls (anywhere loop (ast.Augment x op e) tt) (augmentation x op e p.1 p.2) h
+  action_read loop d (ast.Put x i e) ps n ls p h = simple_read loop n d (ast.Put x i e) _ _ ps ls (anywhere loop (ast.Put x i e) tt) (assignment_at x i e p.1 p.2) h
+  action_read loop d (ast.AugmentAt x i op e) ps n ls p h = simple_read loop n d (ast.AugmentAt x i op e) _ _ ps ls (anywhere loop (ast.AugmentAt x i op e) tt) (augmentation_at x i op e p.1 p.2 p.3) h
+  action_read loop d (ast.Append x e) ps n ls p h = simple_read loop n d (ast.Append x e) _ _ ps ls (anywhere loop (ast.Append x e) tt) (appending x e p.1) h
+  action_read loop d (ast.Return no_term) ps n ls p h = simple_read loop n d (ast.Return no_term) _ _ ps ls (anywhere loop (ast.Return no_term) tt) (a_statement give_nothing) h
+  action_read loop d (ast.Return (a_term e)) ps n ls p h = simple_read loop n d (ast.Return (a_term e)) _ _ ps ls (anywhere loop (ast.Return (a_term e)) tt) (returning e p) h
+  action_read loop d ast.Pass ps n ls p h = simple_read loop n d ast.Pass _ _ ps ls (anywhere loop ast.Pass tt) (a_statement pass) h
+  action_read loop d ast.Break ps n ls p h = simple_read loop n d ast.Break _ _ ps ls p (a_statement leave) h
+  action_read loop d ast.Continue ps n ls p h = simple_read loop n d ast.Continue _ _ ps ls p (a_statement again) h
+  action_read loop d (ast.If no_arms last) ps n ls p h = absurd p.0
+  action_read loop d (ast.If (arm_and (arm line e body) rest) last) ps n ls p h =
       let qs = arms_lines d (codes "elif") rest (else_lines d last ps) in
       let t = one_taken n d _ _ (block_lines (suc d) body qs) ls (headed (when e) None) (header (terminal.Word word.If ∷ []) e (when e) (λ ts s. an_if s) p.1.0) h in
       let b = block_read loop (suc d) body qs t.number t.rest p.1.1.1 t.lines in
@@ -134,34 +135,34 @@ mutual
         first = item_line n (4 * d) (headed (when e) None);
         more = b.own ++ o.own;
         line = n;
-        action = Test (arm_and (arm n e b.block) o.arms_read) o.last_read;
+        action = ast.If (arm_and (arm n e b.block) o.arms_read) o.last_read;
         taken = taken_then qs ps ls (item_line n (4 * d) (headed (when e) None) ∷ b.own) o.own inner o.taken;
         nested = λ more k blk. a_test (body_below loop d n body qs t.rest b p.1.1.0) o.nested blk;
-        same = ap (λ x. Test (arm_and (arm 0 e x) (arms_without_lines o.arms_read)) (else_without_lines o.last_read)) b.same ∙ ap (λ x. Test (arm_and (arm 0 e (block_without_lines body)) x) (else_without_lines o.last_read)) o.same_arms ∙ ap (λ x. Test (arm_and (arm 0 e (block_without_lines body)) (arms_without_lines rest)) x) o.same_last;
+        same = ap (λ x. ast.If (arm_and (arm 0 e x) (arms_without_lines o.arms_read)) (else_without_lines o.last_read)) b.same ∙ ap (λ x. ast.If (arm_and (arm 0 e (block_without_lines body)) x) (else_without_lines o.last_read)) o.same_arms ∙ ap (λ x. ast.If (arm_and (arm 0 e (block_without_lines body)) (arms_without_lines rest)) x) o.same_last;
       }
-  action_read loop d (Loop e body) ps n ls p h =
+  action_read loop d (ast.While e body) ps n ls p h =
       let t = one_taken n d _ _ (block_lines (suc d) body ps) ls (headed (while e) None) (header (terminal.Word word.While ∷ []) e (while e) (λ ts s. a_while s) p.0) h in
       let b = block_read true (suc d) body ps t.number t.rest p.1.1 t.lines in
       record {
         first = item_line n (4 * d) (headed (while e) None);
         more = b.own;
         line = n;
-        action = Loop e b.block;
+        action = ast.While e b.block;
         taken = taken_then (block_lines (suc d) body ps) ps ls (item_line n (4 * d) (headed (while e) None) ∷ []) b.own t b.taken;
         nested = λ rest k blk. a_loop (body_below true d n body ps t.rest b p.1.0) blk;
-        same = ap (Loop e) b.same;
+        same = ap (ast.While e) b.same;
       }
-  action_read loop d (Each x e body) ps n ls p h =
+  action_read loop d (ast.For x e body) ps n ls p h =
       let t = one_taken n d _ _ (block_lines (suc d) body ps) ls (headed (for_each x e) None) (header (terminal.Word word.For ∷ terminal.Name x ∷ terminal.Word word.In ∷ []) e (for_each x e) (λ ts s. a_for x s) p.1) h in
       let b = block_read true (suc d) body ps t.number t.rest p.2.1 t.lines in
       record {
         first = item_line n (4 * d) (headed (for_each x e) None);
         more = b.own;
         line = n;
-        action = Each x e b.block;
+        action = ast.For x e b.block;
         taken = taken_then (block_lines (suc d) body ps) ps ls (item_line n (4 * d) (headed (for_each x e) None) ∷ []) b.own t b.taken;
         nested = λ rest k blk. an_each (body_below true d n body ps t.rest b p.2.0) blk;
-        same = ap (Each x e) b.same;
+        same = ap (ast.For x e) b.same;
       }
 
   arms_read : (loop : Bool) (d : ℕ) (arms : Branches) (last : MaybeBlock) (ps : List Printed) → ((n : ℕ) (ls : List Line) → AreLinesOf n (else_lines d last ps) ls → IsElseRead loop d last ps ls) → (n : ℕ) (ls : List Line) → AreProperArms loop arms → AreLinesOf n (arms_lines d (codes "elif") arms (else_lines d last ps)) ls → AreArmsRead loop d arms last ps ls

@@ -3,7 +3,8 @@ use Rattle.std.specs.Prelude.{ℕ, suc, List, [], ◌∷◌, ◌++◌, nat_lt, i
 use Rattle.std.specs.Fmt.{decimal}
 use Rattle.mpy_tree.specs.declared.operators.CmpOp.{CmpOp}
 use Rattle.mpy_tree.specs.declared.operators.CmpOp.TheVariants.{Eq, Ne, Lt, Le, Gt, Ge, Member, NotMember}
-use Rattle.mpy_tree.specs.Syntax.{Term, Terms, MaybeTerm, Number, Truth, Quoted, Var, Items, Minus, Negation, Binary, Compare, Both, Either, Choose, At, Cut, Apply, no_terms, term_and, no_term, a_term, at, Action, SetTo, SetBy, SetAt, SetAtBy, AppendTo, Give, Nothing, Leave, Again, Test, Loop, Each, Block, end, step, MaybeBlock, no_block, a_block, arm, Branches, no_arms, arm_and, Routine}
+use Rattle.mpy_tree.specs.Syntax.{Term, Terms, MaybeTerm, no_terms, term_and, no_term, a_term, at, Action, Block, end, step, MaybeBlock, no_block, a_block, arm, Branches, no_arms, arm_and, Routine}
+use Rattle.mpy_tree.specs.Syntax as ast
 use Rattle.mpy_tree.specs.Printing.{quoted_text, truth_text, arith_text, level_of, left_level, right_level}
 use Rattle.mpy_lexer.specs.declared.forms.Kind.TheVariants as kind
 use Rattle.mpy_round_trip.proofs.Scraps.{Scrap, gap, word, Printed}
@@ -33,21 +34,21 @@ compare_scraps NotMember ss = reserved (codes "not") ∷ gap ∷ reserved (codes
 
 abbrev mutual
   pub term_scraps : Term → List Scrap → List Scrap
-  term_scraps (Number n) ss = word kind.Number (decimal n) ∷ ss
-  term_scraps (Truth b) ss = reserved (truth_text b) ∷ ss
-  term_scraps (Quoted cs) ss = word kind.Text (quoted_text cs) ∷ ss
-  term_scraps (Var x) ss = name x ∷ ss
-  term_scraps (Items es) ss = mark (codes "[") ∷ list_scraps es (mark (codes "]") ∷ ss)
-  term_scraps (Minus e) ss = mark (codes "-") ∷ part_scraps 7 e (term_scraps e) ss
-  term_scraps (Negation e) ss = reserved (codes "not") ∷ gap ∷ part_scraps 3 e (term_scraps e) ss
-  term_scraps (Binary op a b) ss = part_scraps (left_level op) a (term_scraps a) (gap ∷ mark (arith_text op) ∷ gap ∷ part_scraps (right_level op) b (term_scraps b) ss)
-  term_scraps (Compare op a b) ss = part_scraps 5 a (term_scraps a) (gap ∷ compare_scraps op (gap ∷ part_scraps 5 b (term_scraps b) ss))
-  term_scraps (Both a b) ss = part_scraps 2 a (term_scraps a) (gap ∷ reserved (codes "and") ∷ gap ∷ part_scraps 3 b (term_scraps b) ss)
-  term_scraps (Either a b) ss = part_scraps 1 a (term_scraps a) (gap ∷ reserved (codes "or") ∷ gap ∷ part_scraps 2 b (term_scraps b) ss)
-  term_scraps (Choose t a b) ss = part_scraps 1 a (term_scraps a) (gap ∷ reserved (codes "if") ∷ gap ∷ part_scraps 1 t (term_scraps t) (gap ∷ reserved (codes "else") ∷ gap ∷ term_scraps b ss))
-  term_scraps (At v i) ss = part_scraps 9 v (term_scraps v) (mark (codes "[") ∷ term_scraps i (mark (codes "]") ∷ ss))
-  term_scraps (Cut v from to) ss = part_scraps 9 v (term_scraps v) (mark (codes "[") ∷ end_scraps from (mark (codes ":") ∷ end_scraps to (mark (codes "]") ∷ ss)))
-  term_scraps (Apply f es) ss = name f ∷ mark (codes "(") ∷ list_scraps es (mark (codes ")") ∷ ss)
+  term_scraps (ast.Int n) ss = word kind.Number (decimal n) ∷ ss
+  term_scraps (ast.Bool b) ss = reserved (truth_text b) ∷ ss
+  term_scraps (ast.Text cs) ss = word kind.Text (quoted_text cs) ∷ ss
+  term_scraps (ast.Name x) ss = name x ∷ ss
+  term_scraps (ast.List es) ss = mark (codes "[") ∷ list_scraps es (mark (codes "]") ∷ ss)
+  term_scraps (ast.Neg e) ss = mark (codes "-") ∷ part_scraps 7 e (term_scraps e) ss
+  term_scraps (ast.Not e) ss = reserved (codes "not") ∷ gap ∷ part_scraps 3 e (term_scraps e) ss
+  term_scraps (ast.Arith op a b) ss = part_scraps (left_level op) a (term_scraps a) (gap ∷ mark (arith_text op) ∷ gap ∷ part_scraps (right_level op) b (term_scraps b) ss)
+  term_scraps (ast.Cmp op a b) ss = part_scraps 5 a (term_scraps a) (gap ∷ compare_scraps op (gap ∷ part_scraps 5 b (term_scraps b) ss))
+  term_scraps (ast.And a b) ss = part_scraps 2 a (term_scraps a) (gap ∷ reserved (codes "and") ∷ gap ∷ part_scraps 3 b (term_scraps b) ss)
+  term_scraps (ast.Or a b) ss = part_scraps 1 a (term_scraps a) (gap ∷ reserved (codes "or") ∷ gap ∷ part_scraps 2 b (term_scraps b) ss)
+  term_scraps (ast.Cond t a b) ss = part_scraps 1 a (term_scraps a) (gap ∷ reserved (codes "if") ∷ gap ∷ part_scraps 1 t (term_scraps t) (gap ∷ reserved (codes "else") ∷ gap ∷ term_scraps b ss))
+  term_scraps (ast.Index v i) ss = part_scraps 9 v (term_scraps v) (mark (codes "[") ∷ term_scraps i (mark (codes "]") ∷ ss))
+  term_scraps (ast.Slice v from to) ss = part_scraps 9 v (term_scraps v) (mark (codes "[") ∷ end_scraps from (mark (codes ":") ∷ end_scraps to (mark (codes "]") ∷ ss)))
+  term_scraps (ast.Call f es) ss = name f ∷ mark (codes "(") ∷ list_scraps es (mark (codes ")") ∷ ss)
 
   pub list_scraps : Terms → List Scrap → List Scrap
   list_scraps no_terms ss = ss
@@ -84,18 +85,18 @@ abbrev mutual
   block_lines d (step (at line act) rest) ps = action_lines d act (block_lines d rest ps)
 
   pub action_lines : ℕ → Action → List Printed → List Printed
-  action_lines d (SetTo x e) ps = printed d (name x ∷ gap ∷ mark (codes "=") ∷ gap ∷ term_scraps e []) ∷ ps
-  action_lines d (SetBy x op e) ps = printed d (name x ∷ gap ∷ mark (arith_text op ++ codes "=") ∷ gap ∷ term_scraps e []) ∷ ps
-  action_lines d (SetAt x i e) ps = printed d (name x ∷ mark (codes "[") ∷ term_scraps i (mark (codes "]") ∷ gap ∷ mark (codes "=") ∷ gap ∷ term_scraps e [])) ∷ ps
-  action_lines d (SetAtBy x i op e) ps = printed d (name x ∷ mark (codes "[") ∷ term_scraps i (mark (codes "]") ∷ gap ∷ mark (arith_text op ++ codes "=") ∷ gap ∷ term_scraps e [])) ∷ ps
-  action_lines d (AppendTo x e) ps = printed d (name x ∷ mark (codes ".") ∷ name (codes "append") ∷ mark (codes "(") ∷ term_scraps e (mark (codes ")") ∷ [])) ∷ ps
-  action_lines d (Give e) ps = printed d (return_scraps e) ∷ ps
-  action_lines d Nothing ps = printed d (reserved (codes "pass") ∷ []) ∷ ps
-  action_lines d Leave ps = printed d (reserved (codes "break") ∷ []) ∷ ps
-  action_lines d Again ps = printed d (reserved (codes "continue") ∷ []) ∷ ps
-  action_lines d (Test arms last) ps = arms_lines d (codes "if") arms (else_lines d last ps)
-  action_lines d (Loop e body) ps = printed d (header_scraps (codes "while") e) ∷ block_lines (suc d) body ps
-  action_lines d (Each x e body) ps = printed d (reserved (codes "for") ∷ gap ∷ name x ∷ gap ∷ header_scraps (codes "in") e) ∷ block_lines (suc d) body ps
+  action_lines d (ast.Assign x e) ps = printed d (name x ∷ gap ∷ mark (codes "=") ∷ gap ∷ term_scraps e []) ∷ ps
+  action_lines d (ast.Augment x op e) ps = printed d (name x ∷ gap ∷ mark (arith_text op ++ codes "=") ∷ gap ∷ term_scraps e []) ∷ ps
+  action_lines d (ast.Put x i e) ps = printed d (name x ∷ mark (codes "[") ∷ term_scraps i (mark (codes "]") ∷ gap ∷ mark (codes "=") ∷ gap ∷ term_scraps e [])) ∷ ps
+  action_lines d (ast.AugmentAt x i op e) ps = printed d (name x ∷ mark (codes "[") ∷ term_scraps i (mark (codes "]") ∷ gap ∷ mark (arith_text op ++ codes "=") ∷ gap ∷ term_scraps e [])) ∷ ps
+  action_lines d (ast.Append x e) ps = printed d (name x ∷ mark (codes ".") ∷ name (codes "append") ∷ mark (codes "(") ∷ term_scraps e (mark (codes ")") ∷ [])) ∷ ps
+  action_lines d (ast.Return e) ps = printed d (return_scraps e) ∷ ps
+  action_lines d ast.Pass ps = printed d (reserved (codes "pass") ∷ []) ∷ ps
+  action_lines d ast.Break ps = printed d (reserved (codes "break") ∷ []) ∷ ps
+  action_lines d ast.Continue ps = printed d (reserved (codes "continue") ∷ []) ∷ ps
+  action_lines d (ast.If arms last) ps = arms_lines d (codes "if") arms (else_lines d last ps)
+  action_lines d (ast.While e body) ps = printed d (header_scraps (codes "while") e) ∷ block_lines (suc d) body ps
+  action_lines d (ast.For x e body) ps = printed d (reserved (codes "for") ∷ gap ∷ name x ∷ gap ∷ header_scraps (codes "in") e) ∷ block_lines (suc d) body ps
 
   -- the first arm has one word before its test, the others another
   pub arms_lines : ℕ → List ℕ → Branches → List Printed → List Printed

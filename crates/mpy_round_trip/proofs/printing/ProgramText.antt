@@ -2,7 +2,8 @@
 use Rattle.std.proofs.Common.{◌≡◌, ℕ, suc, Bool, true, false, cond, List, [], ◌∷◌, ◌++◌, nat_lt, codes, refl, sym, ap, ◌∙◌, append_assoc, append-nil}
 use Rattle.mpy_tree.specs.declared.operators.CmpOp.{CmpOp}
 use Rattle.mpy_tree.specs.declared.operators.CmpOp.TheVariants.{Eq, Ne, Lt, Le, Gt, Ge, Member, NotMember}
-use Rattle.mpy_tree.specs.Syntax.{Term, Terms, MaybeTerm, Number, Truth, Quoted, Var, Items, Minus, Negation, Binary, Compare, Both, Either, Choose, At, Cut, Apply, no_terms, term_and, no_term, a_term, at, Action, SetTo, SetBy, SetAt, SetAtBy, AppendTo, Give, Nothing, Leave, Again, Test, Loop, Each, Block, end, step, MaybeBlock, no_block, a_block, arm, Branches, no_arms, arm_and, Routine}
+use Rattle.mpy_tree.specs.Syntax.{Term, Terms, MaybeTerm, no_terms, term_and, no_term, a_term, at, Action, Block, end, step, MaybeBlock, no_block, a_block, arm, Branches, no_arms, arm_and, Routine}
+use Rattle.mpy_tree.specs.Syntax as ast
 use Rattle.mpy_tree.specs.Printing.{commas, arith_text, compare_text, level_of, left_level, right_level, at_level, text_of, texts_of, end_text, indented, return_text, block_text, action_text, arms_text, else_text, routine_text, program_text}
 use Rattle.mpy_round_trip.proofs.Scraps.{Scrap, gap, Printed, bytes_of, text_of_lines}
 use Rattle.mpy_round_trip.proofs.printing.ProgramLines.{name, reserved, mark, part_scraps, compare_scraps, term_scraps, list_scraps, rest_scraps, end_scraps, name_scraps, return_scraps, header_scraps, printed, block_lines, action_lines, arms_lines, else_lines, routine_lines, printed_lines}
@@ -39,21 +40,21 @@ commas_is x (y ∷ ys) = append_assoc x (codes ", ") (commas (y ∷ ys)) ∙ ap 
 
 mutual
   term_text : (e : Term) → HasText (term_scraps e) (text_of e)
-  term_text (Number n) ss = refl
-  term_text (Truth b) ss = refl
-  term_text (Quoted cs) ss = refl
-  term_text (Var x) ss = refl
-  term_text (Items es) ss = simp (append_assoc, list_text es)
-  term_text (Minus e) ss = simp (append_assoc, part_text 7 e (term_scraps e) (text_of e) (term_text e))
-  term_text (Negation e) ss = simp (append_assoc, part_text 3 e (term_scraps e) (text_of e) (term_text e))
-  term_text (Binary op a b) ss = simp (append_assoc, part_text (left_level op) a (term_scraps a) (text_of a) (term_text a), part_text (right_level op) b (term_scraps b) (text_of b) (term_text b))
-  term_text (Compare op a b) ss = simp (append_assoc, compare_has_text op, part_text 5 a (term_scraps a) (text_of a) (term_text a), part_text 5 b (term_scraps b) (text_of b) (term_text b))
-  term_text (Both a b) ss = simp (append_assoc, part_text 2 a (term_scraps a) (text_of a) (term_text a), part_text 3 b (term_scraps b) (text_of b) (term_text b))
-  term_text (Either a b) ss = simp (append_assoc, part_text 1 a (term_scraps a) (text_of a) (term_text a), part_text 2 b (term_scraps b) (text_of b) (term_text b))
-  term_text (Choose t a b) ss = simp (append_assoc, part_text 1 a (term_scraps a) (text_of a) (term_text a), part_text 1 t (term_scraps t) (text_of t) (term_text t), term_text b)
-  term_text (At v i) ss = simp (append_assoc, part_text 9 v (term_scraps v) (text_of v) (term_text v), term_text i)
-  term_text (Cut v from to) ss = simp (append_assoc, part_text 9 v (term_scraps v) (text_of v) (term_text v), ends_text from, ends_text to)
-  term_text (Apply f es) ss = simp (append_assoc, list_text es)
+  term_text (ast.Int n) ss = refl
+  term_text (ast.Bool b) ss = refl
+  term_text (ast.Text cs) ss = refl
+  term_text (ast.Name x) ss = refl
+  term_text (ast.List es) ss = simp (append_assoc, list_text es)
+  term_text (ast.Neg e) ss = simp (append_assoc, part_text 7 e (term_scraps e) (text_of e) (term_text e))
+  term_text (ast.Not e) ss = simp (append_assoc, part_text 3 e (term_scraps e) (text_of e) (term_text e))
+  term_text (ast.Arith op a b) ss = simp (append_assoc, part_text (left_level op) a (term_scraps a) (text_of a) (term_text a), part_text (right_level op) b (term_scraps b) (text_of b) (term_text b))
+  term_text (ast.Cmp op a b) ss = simp (append_assoc, compare_has_text op, part_text 5 a (term_scraps a) (text_of a) (term_text a), part_text 5 b (term_scraps b) (text_of b) (term_text b))
+  term_text (ast.And a b) ss = simp (append_assoc, part_text 2 a (term_scraps a) (text_of a) (term_text a), part_text 3 b (term_scraps b) (text_of b) (term_text b))
+  term_text (ast.Or a b) ss = simp (append_assoc, part_text 1 a (term_scraps a) (text_of a) (term_text a), part_text 2 b (term_scraps b) (text_of b) (term_text b))
+  term_text (ast.Cond t a b) ss = simp (append_assoc, part_text 1 a (term_scraps a) (text_of a) (term_text a), part_text 1 t (term_scraps t) (text_of t) (term_text t), term_text b)
+  term_text (ast.Index v i) ss = simp (append_assoc, part_text 9 v (term_scraps v) (text_of v) (term_text v), term_text i)
+  term_text (ast.Slice v from to) ss = simp (append_assoc, part_text 9 v (term_scraps v) (text_of v) (term_text v), ends_text from, ends_text to)
+  term_text (ast.Call f es) ss = simp (append_assoc, list_text es)
 
   list_text : (es : Terms) → HasText (list_scraps es) (commas (texts_of es))
   list_text no_terms ss = refl
@@ -105,18 +106,18 @@ mutual
   blocks_text d (step (at line act) rest) ps = both (action_lines d act) (block_lines d rest) (action_text d act) (block_text d rest) (actions_text d act) (blocks_text d rest) ps
 
   actions_text : (d : ℕ) (act : Action) → HasLines (action_lines d act) (action_text d act)
-  actions_text d (SetTo x e) ps = one_line d (name x ∷ gap ∷ mark (codes "=") ∷ gap ∷ term_scraps e []) (x ++ codes " = " ++ text_of e) (simp (append_assoc, last_text)) ps
-  actions_text d (SetBy x op e) ps = one_line d (name x ∷ gap ∷ mark (arith_text op ++ codes "=") ∷ gap ∷ term_scraps e []) (x ++ codes " " ++ arith_text op ++ codes "= " ++ text_of e) (simp (append_assoc, last_text)) ps
-  actions_text d (SetAt x i e) ps = one_line d (name x ∷ mark (codes "[") ∷ term_scraps i (mark (codes "]") ∷ gap ∷ mark (codes "=") ∷ gap ∷ term_scraps e [])) (x ++ codes "[" ++ text_of i ++ codes "] = " ++ text_of e) (simp (append_assoc, last_text, term_text i)) ps
-  actions_text d (SetAtBy x i op e) ps = one_line d (name x ∷ mark (codes "[") ∷ term_scraps i (mark (codes "]") ∷ gap ∷ mark (arith_text op ++ codes "=") ∷ gap ∷ term_scraps e [])) (x ++ codes "[" ++ text_of i ++ codes "] " ++ arith_text op ++ codes "= " ++ text_of e) (simp (append_assoc, last_text, term_text i)) ps
-  actions_text d (AppendTo x e) ps = one_line d (name x ∷ mark (codes ".") ∷ name (codes "append") ∷ mark (codes "(") ∷ term_scraps e (mark (codes ")") ∷ [])) (x ++ codes ".append(" ++ text_of e ++ codes ")") (simp (append_assoc, term_text e)) ps
-  actions_text d (Give e) ps = one_line d (return_scraps e) (return_text e) (returned_text e) ps
-  actions_text d Nothing ps = one_line d (reserved (codes "pass") ∷ []) (codes "pass") refl ps
-  actions_text d Leave ps = one_line d (reserved (codes "break") ∷ []) (codes "break") refl ps
-  actions_text d Again ps = one_line d (reserved (codes "continue") ∷ []) (codes "continue") refl ps
-  actions_text d (Test arms last) ps = both (arms_lines d (codes "if") arms) (else_lines d last) (arms_text d (codes "if ") arms) (else_text d last) (all_arms_text d (codes "if") arms) (last_arm_text d last) ps
-  actions_text d (Loop e body) ps = line_and d (header_scraps (codes "while") e) (codes "while " ++ text_of e ++ codes ":") (block_text (suc d) body) (block_lines (suc d) body) (header_text (codes "while") e) (blocks_text (suc d) body) ps
-  actions_text d (Each x e body) ps = line_and d (reserved (codes "for") ∷ gap ∷ name x ∷ gap ∷ header_scraps (codes "in") e) (codes "for " ++ x ++ codes " in " ++ text_of e ++ codes ":") (block_text (suc d) body) (block_lines (suc d) body) (simp (append_assoc, term_text e)) (blocks_text (suc d) body) ps
+  actions_text d (ast.Assign x e) ps = one_line d (name x ∷ gap ∷ mark (codes "=") ∷ gap ∷ term_scraps e []) (x ++ codes " = " ++ text_of e) (simp (append_assoc, last_text)) ps
+  actions_text d (ast.Augment x op e) ps = one_line d (name x ∷ gap ∷ mark (arith_text op ++ codes "=") ∷ gap ∷ term_scraps e []) (x ++ codes " " ++ arith_text op ++ codes "= " ++ text_of e) (simp (append_assoc, last_text)) ps
+  actions_text d (ast.Put x i e) ps = one_line d (name x ∷ mark (codes "[") ∷ term_scraps i (mark (codes "]") ∷ gap ∷ mark (codes "=") ∷ gap ∷ term_scraps e [])) (x ++ codes "[" ++ text_of i ++ codes "] = " ++ text_of e) (simp (append_assoc, last_text, term_text i)) ps
+  actions_text d (ast.AugmentAt x i op e) ps = one_line d (name x ∷ mark (codes "[") ∷ term_scraps i (mark (codes "]") ∷ gap ∷ mark (arith_text op ++ codes "=") ∷ gap ∷ term_scraps e [])) (x ++ codes "[" ++ text_of i ++ codes "] " ++ arith_text op ++ codes "= " ++ text_of e) (simp (append_assoc, last_text, term_text i)) ps
+  actions_text d (ast.Append x e) ps = one_line d (name x ∷ mark (codes ".") ∷ name (codes "append") ∷ mark (codes "(") ∷ term_scraps e (mark (codes ")") ∷ [])) (x ++ codes ".append(" ++ text_of e ++ codes ")") (simp (append_assoc, term_text e)) ps
+  actions_text d (ast.Return e) ps = one_line d (return_scraps e) (return_text e) (returned_text e) ps
+  actions_text d ast.Pass ps = one_line d (reserved (codes "pass") ∷ []) (codes "pass") refl ps
+  actions_text d ast.Break ps = one_line d (reserved (codes "break") ∷ []) (codes "break") refl ps
+  actions_text d ast.Continue ps = one_line d (reserved (codes "continue") ∷ []) (codes "continue") refl ps
+  actions_text d (ast.If arms last) ps = both (arms_lines d (codes "if") arms) (else_lines d last) (arms_text d (codes "if ") arms) (else_text d last) (all_arms_text d (codes "if") arms) (last_arm_text d last) ps
+  actions_text d (ast.While e body) ps = line_and d (header_scraps (codes "while") e) (codes "while " ++ text_of e ++ codes ":") (block_text (suc d) body) (block_lines (suc d) body) (header_text (codes "while") e) (blocks_text (suc d) body) ps
+  actions_text d (ast.For x e body) ps = line_and d (reserved (codes "for") ∷ gap ∷ name x ∷ gap ∷ header_scraps (codes "in") e) (codes "for " ++ x ++ codes " in " ++ text_of e ++ codes ":") (block_text (suc d) body) (block_lines (suc d) body) (simp (append_assoc, term_text e)) (blocks_text (suc d) body) ps
 
   all_arms_text : (d : ℕ) (bytes : List ℕ) (arms : Branches) → HasLines (arms_lines d bytes arms) (arms_text d (bytes ++ codes " ") arms)
   all_arms_text d bytes no_arms ps = refl

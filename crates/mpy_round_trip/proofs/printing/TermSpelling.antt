@@ -5,7 +5,8 @@ use Rattle.mpy_tree.specs.declared.operators.ArithOp.{ArithOp}
 use Rattle.mpy_tree.specs.declared.operators.ArithOp.TheVariants.{Add, Sub, Mul, Floor, Rem, Power}
 use Rattle.mpy_tree.specs.declared.operators.CmpOp.{CmpOp}
 use Rattle.mpy_tree.specs.declared.operators.CmpOp.TheVariants.{Eq, Ne, Lt, Le, Gt, Ge, Member, NotMember}
-use Rattle.mpy_tree.specs.Syntax.{Term, Terms, MaybeTerm, Number, Truth, Quoted, Var, Items, Minus, Negation, Binary, Compare, Both, Either, Choose, At, Cut, Apply, no_terms, term_and, no_term, a_term}
+use Rattle.mpy_tree.specs.Syntax.{Term, Terms, MaybeTerm, no_terms, term_and, no_term, a_term}
+use Rattle.mpy_tree.specs.Syntax as ast
 use Rattle.mpy_tree.specs.Printing.{arith_text, arith_level, level_of, truth_text, left_level as left_number, right_level as right_number}
 use Rattle.mpy_lexer.specs.declared.token.Token.{Token}
 use Rattle.mpy_lexer.specs.declared.forms.Kind.TheVariants as kind
@@ -167,32 +168,32 @@ mutual
   unfolding word_of
 
   term_spelled : (e : Term) → IsProperTerm e → IsSpelled (level_of e) (term_scraps e) e
-  term_spelled (Number n) p = record { own = terminal.Number n ∷ []; onto = λ ss. ap (λ t. t ∷ terminals_in ss) (numeral_terminal n p); spells = number n }
-  term_spelled (Truth b) p = record { own = terminal.Word (truth_word b) ∷ []; onto = λ ss. ap (λ t. t ∷ terminals_in ss) (truth_terminal b); spells = truth b }
-  term_spelled (Quoted cs) p = record { own = terminal.Text cs ∷ []; onto = λ ss. ap (λ t. t ∷ terminals_in ss) (literal_terminal cs p); spells = quoted cs }
-  term_spelled (Var x) p = record { own = terminal.Name x ∷ []; onto = λ ss. refl; spells = a_name x }
-  term_spelled (Items es) p =
+  term_spelled (ast.Int n) p = record { own = terminal.Number n ∷ []; onto = λ ss. ap (λ t. t ∷ terminals_in ss) (numeral_terminal n p); spells = number n }
+  term_spelled (ast.Bool b) p = record { own = terminal.Word (truth_word b) ∷ []; onto = λ ss. ap (λ t. t ∷ terminals_in ss) (truth_terminal b); spells = truth b }
+  term_spelled (ast.Text cs) p = record { own = terminal.Text cs ∷ []; onto = λ ss. ap (λ t. t ∷ terminals_in ss) (literal_terminal cs p); spells = quoted cs }
+  term_spelled (ast.Name x) p = record { own = terminal.Name x ∷ []; onto = λ ss. refl; spells = a_name x }
+  term_spelled (ast.List es) p =
       let s = list_spelled es p in
       record {
         own = terminal.Word word.LeftBracket ∷ s.own ++ terminal.Word word.RightBracket ∷ [];
         onto = λ ss. simp (append_assoc, s.onto);
         spells = items s.spells;
       }
-  term_spelled (Minus e) p =
+  term_spelled (ast.Neg e) p =
       let s = part_spelled 7 e (term_scraps e) (omega arith) (term_spelled e p) in
       record { own = terminal.Word word.Minus ∷ s.own; onto = λ ss. ap (λ l. terminal.Word word.Minus ∷ l) (s.onto ss); spells = minus s.spells }
-  term_spelled (Negation e) p =
+  term_spelled (ast.Not e) p =
       let s = part_spelled 3 e (term_scraps e) (omega arith) (term_spelled e p) in
       record { own = terminal.Word word.Not ∷ s.own; onto = λ ss. ap (λ l. terminal.Word word.Not ∷ l) (s.onto ss); spells = negation s.spells }
-  term_spelled (Binary op a b) p =
+  term_spelled (ast.Arith op a b) p =
       let s = part_spelled (left_number op) a (term_scraps a) (left_bound op) (term_spelled a p.0) in
       let t = part_spelled (right_number op) b (term_scraps b) (right_bound op) (term_spelled b p.1) in
       record {
         own = s.own ++ terminal.Word (arith_word op) ∷ t.own;
         onto = λ ss. simp (append_assoc, s.onto, t.onto, arith_terminal op);
-        spells = subst (λ k. Spells k (s.own ++ terminal.Word (arith_word op) ∷ t.own) (Binary op a b)) (sym (operator_named op)) (arithmetic op (subst (λ k. Spells k s.own a) (left_named op) s.spells) (subst (λ k. Spells k t.own b) (right_named op) t.spells));
+        spells = subst (λ k. Spells k (s.own ++ terminal.Word (arith_word op) ∷ t.own) (ast.Arith op a b)) (sym (operator_named op)) (arithmetic op (subst (λ k. Spells k s.own a) (left_named op) s.spells) (subst (λ k. Spells k t.own b) (right_named op) t.spells));
       }
-  term_spelled (Compare op a b) p =
+  term_spelled (ast.Cmp op a b) p =
       let s = part_spelled 5 a (term_scraps a) (omega arith) (term_spelled a p.0) in
       let t = part_spelled 5 b (term_scraps b) (omega arith) (term_spelled b p.1) in
       record {
@@ -200,7 +201,7 @@ mutual
         onto = λ ss. simp (append_assoc, s.onto, t.onto, compare_terminals op);
         spells = compared op s.spells t.spells;
       }
-  term_spelled (Both a b) p =
+  term_spelled (ast.And a b) p =
       let s = part_spelled 2 a (term_scraps a) (omega arith) (term_spelled a p.0) in
       let t = part_spelled 3 b (term_scraps b) (omega arith) (term_spelled b p.1) in
       record {
@@ -208,7 +209,7 @@ mutual
         onto = λ ss. simp (append_assoc, s.onto, t.onto);
         spells = conjunction s.spells t.spells;
       }
-  term_spelled (Either a b) p =
+  term_spelled (ast.Or a b) p =
       let s = part_spelled 1 a (term_scraps a) (omega arith) (term_spelled a p.0) in
       let t = part_spelled 2 b (term_scraps b) (omega arith) (term_spelled b p.1) in
       record {
@@ -216,7 +217,7 @@ mutual
         onto = λ ss. simp (append_assoc, s.onto, t.onto);
         spells = disjunction s.spells t.spells;
       }
-  term_spelled (Choose t a b) p =
+  term_spelled (ast.Cond t a b) p =
       let s = part_spelled 1 a (term_scraps a) (omega arith) (term_spelled a p.1) in
       let u = part_spelled 1 t (term_scraps t) (omega arith) (term_spelled t p.0) in
       let v = lowered (level_of b) 0 (term_scraps b) b (omega arith) (term_spelled b p.2) in
@@ -225,7 +226,7 @@ mutual
         onto = λ ss. simp (append_assoc, s.onto, u.onto, v.onto);
         spells = conditional s.spells u.spells v.spells;
       }
-  term_spelled (At v i) p =
+  term_spelled (ast.Index v i) p =
       let s = part_spelled 9 v (term_scraps v) (omega arith) (term_spelled v p.0) in
       let t = lowered (level_of i) 0 (term_scraps i) i (omega arith) (term_spelled i p.1) in
       record {
@@ -233,7 +234,7 @@ mutual
         onto = λ ss. simp (append_assoc, s.onto, t.onto);
         spells = index s.spells t.spells;
       }
-  term_spelled (Cut v from to) p =
+  term_spelled (ast.Slice v from to) p =
       let s = part_spelled 9 v (term_scraps v) (omega arith) (term_spelled v p.0) in
       let t = end_spelled from p.1 in
       let u = end_spelled to p.2 in
@@ -242,7 +243,7 @@ mutual
         onto = λ ss. simp (append_assoc, s.onto, t.onto, u.onto);
         spells = slice s.spells t.spells u.spells;
       }
-  term_spelled (Apply f es) p =
+  term_spelled (ast.Call f es) p =
       let s = list_spelled es p.1 in
       record {
         own = terminal.Name f ∷ terminal.Word word.LeftParen ∷ s.own ++ terminal.Word word.RightParen ∷ [];

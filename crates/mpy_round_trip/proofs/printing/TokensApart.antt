@@ -7,7 +7,8 @@ use Rattle.mpy_tree.specs.declared.operators.ArithOp.{ArithOp}
 use Rattle.mpy_tree.specs.declared.operators.ArithOp.TheVariants.{Add, Sub, Mul, Floor, Rem, Power}
 use Rattle.mpy_tree.specs.declared.operators.CmpOp.{CmpOp}
 use Rattle.mpy_tree.specs.declared.operators.CmpOp.TheVariants.{Eq, Ne, Lt, Le, Gt, Ge, Member, NotMember}
-use Rattle.mpy_tree.specs.Syntax.{Term, Terms, MaybeTerm, Number, Truth, Quoted, Var, Items, Minus, Negation, Binary, Compare, Both, Either, Choose, At, Cut, Apply, no_terms, term_and, no_term, a_term}
+use Rattle.mpy_tree.specs.Syntax.{Term, Terms, MaybeTerm, no_terms, term_and, no_term, a_term}
+use Rattle.mpy_tree.specs.Syntax as ast
 use Rattle.mpy_tree.specs.Printing.{truth_text, arith_text, level_of, left_level, right_level}
 use Rattle.mpy_lexer.specs.declared.forms.Kind.TheVariants as kind
 use Rattle.mpy_lexer.specs.Bytes.{is_name_start, is_name_byte}
@@ -125,52 +126,52 @@ mutual
   unfolding mark_len is_reserved
 
   pub term_apart : (e : Term) → IsProperTerm e → IsApart (term_scraps e)
-  term_apart (Number n) p = record {
+  term_apart (ast.Int n) p = record {
     leads = λ ss. numeral_leads n ss p;
     apart = λ ss f h. (numeral_form n p, subst (λ bs. list_all is_printable bs ≡ true) (sym (numeral n p).cut) (printable_digits ((numeral n p).first ∷ (numeral n p).rest) (numeral n p).digits), ap not f, h);
   }
-  term_apart (Truth b) p = record { leads = truth_leads b; apart = λ ss f h. truth_apart b ss (follows_name (is_name_byte (next_byte ss)) (next_byte ss == 46) f) h }
-  term_apart (Quoted cs) p = record { leads = λ ss. refl; apart = λ ss f h. (literal_form cs p, printable_literal cs p, refl, h) }
-  term_apart (Var x) p = record {
+  term_apart (ast.Bool b) p = record { leads = truth_leads b; apart = λ ss f h. truth_apart b ss (follows_name (is_name_byte (next_byte ss)) (next_byte ss == 46) f) h }
+  term_apart (ast.Text cs) p = record { leads = λ ss. refl; apart = λ ss f h. (literal_form cs p, printable_literal cs p, refl, h) }
+  term_apart (ast.Name x) p = record {
     leads = λ ss. name_leads x ss (and_parts (is_name x) (not (is_reserved x)) p).0;
     apart = λ ss f h. name_apart x ss p (follows_name (is_name_byte (next_byte ss)) (next_byte ss == 46) f) h;
   }
-  term_apart (Items es) p = record { leads = λ ss. refl; apart = λ ss f h. (refl, refl, refl, list_apart es p (mark (codes "]") ∷ ss) refl (refl, refl, refl, h)) }
-  term_apart (Minus e) p =
+  term_apart (ast.List es) p = record { leads = λ ss. refl; apart = λ ss f h. (refl, refl, refl, list_apart es p (mark (codes "]") ∷ ss) refl (refl, refl, refl, h)) }
+  term_apart (ast.Neg e) p =
       let q = part_apart 7 e (term_scraps e) (term_apart e p) in
       record { leads = λ ss. refl; apart = λ ss f h. (refl, refl, minus_ends (next_byte (part_scraps 7 e (term_scraps e) ss)) (q.leads ss), q.apart ss f h) }
-  term_apart (Negation e) p =
+  term_apart (ast.Not e) p =
       let q = part_apart 3 e (term_scraps e) (term_apart e p) in
       record { leads = λ ss. refl; apart = λ ss f h. (refl, refl, refl, q.apart ss f h) }
-  term_apart (Binary op a b) p =
+  term_apart (ast.Arith op a b) p =
       let q = part_apart (left_level op) a (term_scraps a) (term_apart a p.0) in
       let r = part_apart (right_level op) b (term_scraps b) (term_apart b p.1) in
       record {
         leads = λ ss. q.leads (gap ∷ mark (arith_text op) ∷ gap ∷ part_scraps (right_level op) b (term_scraps b) ss);
         apart = λ ss f h. q.apart _ refl (operator_apart op (part_scraps (right_level op) b (term_scraps b) ss) (r.apart ss f h));
       }
-  term_apart (Compare op a b) p =
+  term_apart (ast.Cmp op a b) p =
       let q = part_apart 5 a (term_scraps a) (term_apart a p.0) in
       let r = part_apart 5 b (term_scraps b) (term_apart b p.1) in
       record {
         leads = λ ss. q.leads (gap ∷ compare_scraps op (gap ∷ part_scraps 5 b (term_scraps b) ss));
         apart = λ ss f h. q.apart _ refl (compare_apart op (part_scraps 5 b (term_scraps b) ss) (r.apart ss f h));
       }
-  term_apart (Both a b) p =
+  term_apart (ast.And a b) p =
       let q = part_apart 2 a (term_scraps a) (term_apart a p.0) in
       let r = part_apart 3 b (term_scraps b) (term_apart b p.1) in
       record {
         leads = λ ss. q.leads (gap ∷ reserved (codes "and") ∷ gap ∷ part_scraps 3 b (term_scraps b) ss);
         apart = λ ss f h. q.apart (gap ∷ reserved (codes "and") ∷ gap ∷ part_scraps 3 b (term_scraps b) ss) refl (refl, refl, refl, r.apart ss f h);
       }
-  term_apart (Either a b) p =
+  term_apart (ast.Or a b) p =
       let q = part_apart 1 a (term_scraps a) (term_apart a p.0) in
       let r = part_apart 2 b (term_scraps b) (term_apart b p.1) in
       record {
         leads = λ ss. q.leads (gap ∷ reserved (codes "or") ∷ gap ∷ part_scraps 2 b (term_scraps b) ss);
         apart = λ ss f h. q.apart (gap ∷ reserved (codes "or") ∷ gap ∷ part_scraps 2 b (term_scraps b) ss) refl (refl, refl, refl, r.apart ss f h);
       }
-  term_apart (Choose t a b) p =
+  term_apart (ast.Cond t a b) p =
       let q = part_apart 1 a (term_scraps a) (term_apart a p.1) in
       let r = part_apart 1 t (term_scraps t) (term_apart t p.0) in
       let s = term_apart b p.2 in
@@ -178,20 +179,20 @@ mutual
         leads = λ ss. q.leads (gap ∷ reserved (codes "if") ∷ gap ∷ part_scraps 1 t (term_scraps t) (gap ∷ reserved (codes "else") ∷ gap ∷ term_scraps b ss));
         apart = λ ss f h. q.apart (gap ∷ reserved (codes "if") ∷ gap ∷ part_scraps 1 t (term_scraps t) (gap ∷ reserved (codes "else") ∷ gap ∷ term_scraps b ss)) refl (refl, refl, refl, r.apart (gap ∷ reserved (codes "else") ∷ gap ∷ term_scraps b ss) refl (refl, refl, refl, s.apart ss f h));
       }
-  term_apart (At v i) p =
+  term_apart (ast.Index v i) p =
       let q = part_apart 9 v (term_scraps v) (term_apart v p.0) in
       let r = term_apart i p.1 in
       record {
         leads = λ ss. q.leads (mark (codes "[") ∷ term_scraps i (mark (codes "]") ∷ ss));
         apart = λ ss f h. q.apart (mark (codes "[") ∷ term_scraps i (mark (codes "]") ∷ ss)) refl (refl, refl, refl, r.apart (mark (codes "]") ∷ ss) refl (refl, refl, refl, h));
       }
-  term_apart (Cut v from to) p =
+  term_apart (ast.Slice v from to) p =
       let q = part_apart 9 v (term_scraps v) (term_apart v p.0) in
       record {
         leads = λ ss. q.leads (mark (codes "[") ∷ end_scraps from (mark (codes ":") ∷ end_scraps to (mark (codes "]") ∷ ss)));
         apart = λ ss f h. q.apart (mark (codes "[") ∷ end_scraps from (mark (codes ":") ∷ end_scraps to (mark (codes "]") ∷ ss))) refl (refl, refl, refl, end_apart from p.1 (mark (codes ":") ∷ end_scraps to (mark (codes "]") ∷ ss)) refl (refl, refl, refl, end_apart to p.2 (mark (codes "]") ∷ ss) refl (refl, refl, refl, h)));
       }
-  term_apart (Apply f es) p = record {
+  term_apart (ast.Call f es) p = record {
     leads = λ ss. name_leads f (mark (codes "(") ∷ list_scraps es (mark (codes ")") ∷ ss)) (and_parts (is_name f) (not (is_reserved f)) p.0).0;
     apart = λ ss g h. name_apart f (mark (codes "(") ∷ list_scraps es (mark (codes ")") ∷ ss)) p.0 refl (refl, refl, refl, list_apart es p.1 (mark (codes ")") ∷ ss) refl (refl, refl, refl, h));
   }
