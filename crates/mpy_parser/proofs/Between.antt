@@ -4,7 +4,7 @@ use Rattle.std.proofs.lemmas.List.{take-map, take-append-drop, length-map, lengt
 use Rattle.std.proofs.Math.Seq.{take-append_seam, take-length}
 use Rattle.mpy_tree.specs.Syntax.{Term}
 use Rattle.mpy_lexer.specs.declared.token.Token.{Token}
-use Rattle.mpy_parser.specs.declared.levels.Level.TheVariants as level
+use Rattle.mpy_tree.specs.declared.levels.Level.TheVariants as level
 use Rattle.mpy_parser.specs.declared.terminals.Terminal.{Terminal}
 use Rattle.mpy_parser.specs.Terminals.{terminal_of, terminals}
 use Rattle.mpy_parser.specs.Grammar.{Spells}

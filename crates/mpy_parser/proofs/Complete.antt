@@ -6,17 +6,18 @@ use Rattle.mpy_tree.specs.declared.operators.CmpOp.{CmpOp}
 use Rattle.mpy_tree.specs.declared.operators.CmpOp.TheVariants.{Eq, Ne, Lt, Le, Gt, Ge, Member, NotMember}
 use Rattle.mpy_tree.specs.Syntax.{Term, Terms, MaybeTerm, no_terms, term_and, no_term, a_term}
 use Rattle.mpy_tree.specs.Syntax as ast
-use Rattle.mpy_parser.specs.declared.levels.Level.{Level}
-use Rattle.mpy_parser.specs.declared.levels.Level.TheVariants as level
-use Rattle.mpy_parser.specs.declared.levels.Joint.{Joint}
-use Rattle.mpy_parser.specs.declared.levels.Joint.TheVariants as joint
+use Rattle.mpy_tree.specs.declared.levels.Level.{Level}
+use Rattle.mpy_tree.specs.declared.levels.Level.TheVariants as level
+use Rattle.mpy_parser.specs.declared.joints.Joint.{Joint}
+use Rattle.mpy_parser.specs.declared.joints.Joint.TheVariants as joint
 use Rattle.mpy_parser.specs.declared.words.Word.{Word}
 use Rattle.mpy_parser.specs.declared.words.Word.TheVariants as word
 use Rattle.mpy_parser.specs.declared.terminals.Terminal.{Terminal}
 use Rattle.mpy_parser.specs.declared.terminals.Terminal.TheVariants as terminal
 use Rattle.mpy_parser.specs.declared.terms.Bracket.{Bracket}
 use Rattle.mpy_parser.specs.declared.terms.Bracket.TheVariants as bracket
-use Rattle.mpy_parser.specs.Levels.{above, joint_at, IsChain, operator_level, left_level, right_level, arith_word}
+use Rattle.mpy_tree.specs.Levels.{above, operator_level, left_level, right_level}
+use Rattle.mpy_parser.specs.Joints.{joint_at, IsChain, arith_word}
 use Rattle.mpy_parser.specs.Grammar.{Spells, SpellsEnd, SpellsAll, conditional, disjunction, conjunction, negation, compared, arithmetic, minus, index, slice, number, quoted, truth, name, call, items, parenthesized, higher, missing, given, none, one, more, comparison, truth_word}
 use Rattle.mpy_parser.specs.Reading.{◌>>=◌, behind_not, behind_minus, behind_closing_bracket, behind_colon, comparison_at, joined, conditional_tail, with_conditional_tail, joint_tail, with_joints, comparison_tail, with_comparison, power_tail, with_power, Suffix, by_index, by_ends, suffixed, second_end, last_end, behind_index, in_brackets, with_suffixes, closed, some_elements, elements, name_or_call, prefixed, reading}
 use Rattle.mpy_parser.proofs.Shorter.{with_conditional_tail_short, with_joints_short, with_comparison_short, with_power_short, with_suffixes_short, name_or_call_short}

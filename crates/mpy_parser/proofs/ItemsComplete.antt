@@ -3,7 +3,7 @@ use Rattle.std.proofs.Common.{◌≡◌, ℕ, List, [], ◌∷◌, ◌++◌, Opt
 use Rattle.mpy_tree.specs.declared.operators.ArithOp.{ArithOp}
 use Rattle.mpy_tree.specs.Syntax.{Term, a_term, Action}
 use Rattle.mpy_tree.specs.Syntax as ast
-use Rattle.mpy_parser.specs.declared.levels.Level.TheVariants as level
+use Rattle.mpy_tree.specs.declared.levels.Level.TheVariants as level
 use Rattle.mpy_parser.specs.declared.words.Word.{Word}
 use Rattle.mpy_parser.specs.declared.words.Word.TheVariants as word
 use Rattle.mpy_parser.specs.declared.terminals.Terminal.{Terminal}

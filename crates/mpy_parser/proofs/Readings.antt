@@ -3,15 +3,15 @@ use Rattle.std.proofs.Common.{◌≡◌, ℕ, zero, suc, ◌+◌, ◌*◌, ◌<�
 use Rattle.mpy_tree.specs.declared.operators.ArithOp.TheVariants.{Power}
 use Rattle.mpy_tree.specs.Syntax.{Term, Terms, MaybeTerm, no_term, a_term, no_terms, term_and}
 use Rattle.mpy_tree.specs.Syntax as ast
-use Rattle.mpy_parser.specs.declared.levels.Level.{Level}
-use Rattle.mpy_parser.specs.declared.levels.Level.TheVariants as level
-use Rattle.mpy_parser.specs.declared.levels.Joint.{Joint}
+use Rattle.mpy_tree.specs.declared.levels.Level.{Level}
+use Rattle.mpy_tree.specs.declared.levels.Level.TheVariants as level
+use Rattle.mpy_parser.specs.declared.joints.Joint.{Joint}
 use Rattle.mpy_parser.specs.declared.words.Word.TheVariants as word
 use Rattle.mpy_parser.specs.declared.terminals.Terminal.{Terminal}
 use Rattle.mpy_parser.specs.declared.terminals.Terminal.TheVariants as terminal
 use Rattle.mpy_parser.specs.declared.terms.Bracket.{Bracket}
 use Rattle.mpy_parser.specs.declared.terms.Bracket.TheVariants as bracket
-use Rattle.mpy_parser.specs.Levels.{above}
+use Rattle.mpy_tree.specs.Levels.{above}
 use Rattle.mpy_parser.specs.Reading.{◌>>=◌, Reader, or_else, behind_if, behind_else, behind_not, behind_minus, behind_power, behind_bracket, behind_closing_bracket, behind_paren, behind_closing_paren, behind_colon, behind_comma, comparison_at, joint_before, joined, conditional_tail, joint_tail, with_joints, comparison_tail, power_tail, Suffix, by_ends, suffixed, second_end, last_end, behind_index, in_brackets, suffix_at, with_suffixes, closed, some_elements, elements, arguments, name_or_call, atom, prefixed, at_level, read_within, reading, steps, levels_above}
 use Rattle.mpy_parser.proofs.Shorter.{Shortens, Passes, pass_if, pass_else, pass_not, pass_minus, pass_power, pass_bracket, pass_closing_bracket, pass_paren, pass_colon, pass_comma, pass_comparison, pass_joint, pass_closed, joint_tail_short, suffix_at_short, read_within_short}
 

@@ -2,14 +2,15 @@
 use Rattle.std.proofs.Common.{ℕ, zero, suc, ◌<◌, ◌≤◌, List, ◌∷◌, length, Option, Some, None, IfSome, arith}
 use Rattle.mpy_tree.specs.Syntax.{Term, MaybeTerm, no_term, a_term}
 use Rattle.mpy_tree.specs.Syntax as ast
-use Rattle.mpy_parser.specs.declared.levels.Level.{Level}
-use Rattle.mpy_parser.specs.declared.levels.Level.TheVariants as level
+use Rattle.mpy_tree.specs.declared.levels.Level.{Level}
+use Rattle.mpy_tree.specs.declared.levels.Level.TheVariants as level
 use Rattle.mpy_parser.specs.declared.words.Word.TheVariants as word
 use Rattle.mpy_parser.specs.declared.terminals.Terminal.{Terminal}
 use Rattle.mpy_parser.specs.declared.terminals.Terminal.TheVariants as terminal
 use Rattle.mpy_parser.specs.declared.terms.Bracket.{Bracket}
 use Rattle.mpy_parser.specs.declared.terms.Bracket.TheVariants as bracket
-use Rattle.mpy_parser.specs.Levels.{above, joint_at}
+use Rattle.mpy_tree.specs.Levels.{above}
+use Rattle.mpy_parser.specs.Joints.{joint_at}
 use Rattle.mpy_parser.specs.Reading.{◌>>=◌, Reader, or_else, behind_if, behind_else, behind_not, behind_minus, behind_power, behind_bracket, behind_closing_bracket, behind_paren, behind_closing_paren, behind_colon, behind_comma, comparison_at, joint_before, joined, conditional_tail, with_conditional_tail, joint_tail, with_joints, comparison_tail, with_comparison, power_tail, with_power, suffixed, second_end, last_end, behind_index, in_brackets, suffix_at, with_suffixes, closed, some_elements, elements, arguments, name_or_call, parenthesized, atom, prefixed, at_level, read_within}
 
 -- what holds of all that is found holds of what is found from it

@@ -4,16 +4,17 @@ use Rattle.mpy_tree.specs.declared.operators.ArithOp.TheVariants.{Add, Sub, Mul,
 use Rattle.mpy_tree.specs.declared.operators.CmpOp.{CmpOp}
 use Rattle.mpy_tree.specs.Syntax.{Term, Terms, MaybeTerm, no_terms, term_and, no_term, a_term}
 use Rattle.mpy_tree.specs.Syntax as ast
-use Rattle.mpy_parser.specs.declared.levels.Level.{Level}
-use Rattle.mpy_parser.specs.declared.levels.Level.TheVariants as level
-use Rattle.mpy_parser.specs.declared.levels.Joint.{Joint}
+use Rattle.mpy_tree.specs.declared.levels.Level.{Level}
+use Rattle.mpy_tree.specs.declared.levels.Level.TheVariants as level
+use Rattle.mpy_parser.specs.declared.joints.Joint.{Joint}
 use Rattle.mpy_parser.specs.declared.words.Word.{Word}
 use Rattle.mpy_parser.specs.declared.words.Word.TheVariants as word
 use Rattle.mpy_parser.specs.declared.terminals.Terminal.{Terminal}
 use Rattle.mpy_parser.specs.declared.terminals.Terminal.TheVariants as terminal
 use Rattle.mpy_parser.specs.declared.terms.Bracket.{Bracket}
 use Rattle.mpy_parser.specs.declared.terms.Bracket.TheVariants as bracket
-use Rattle.mpy_parser.specs.Levels.{above, joint_at}
+use Rattle.mpy_tree.specs.Levels.{above}
+use Rattle.mpy_parser.specs.Joints.{joint_at}
 use Rattle.mpy_parser.specs.Grammar.{Spells, SpellsEnd, SpellsAll, conditional, disjunction, conjunction, negation, compared, arithmetic, minus, index, slice, number, quoted, truth, name, call, items, parenthesized, higher, missing, given, none, one, more, comparison}
 use Rattle.mpy_parser.specs.Reading.{◌>>=◌, Reader, behind_if, behind_else, behind_not, behind_minus, behind_power, behind_bracket, behind_closing_bracket, behind_paren, behind_closing_paren, behind_colon, behind_comma, comparison_at, joint_before, joined, conditional_tail, with_conditional_tail, joint_tail, with_joints, comparison_tail, with_comparison, power_tail, with_power, Suffix, by_index, by_ends, suffixed, second_end, last_end, in_brackets, suffix_at, with_suffixes, closed, some_elements, elements, arguments, name_or_call, atom, prefixed, at_level, read_within, reading, steps}
 use Rattle.mpy_parser.specs.Reading.{parenthesized as in_parens}

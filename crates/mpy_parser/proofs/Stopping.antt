@@ -2,15 +2,16 @@
 use Rattle.std.proofs.Common.{◌≡◌, ℕ, zero, suc, ◌<◌, ◌≤◌, List, [], ◌∷◌, length, Option, Some, None, IfSome, refl, ap, sym, ◌∙◌, arith}
 use Rattle.mpy_tree.specs.Syntax.{Term}
 use Rattle.mpy_tree.specs.Syntax as ast
-use Rattle.mpy_parser.specs.declared.levels.Level.{Level}
-use Rattle.mpy_parser.specs.declared.levels.Level.TheVariants as level
+use Rattle.mpy_tree.specs.declared.levels.Level.{Level}
+use Rattle.mpy_tree.specs.declared.levels.Level.TheVariants as level
 use Rattle.mpy_parser.specs.declared.words.Word.{Word}
 use Rattle.mpy_parser.specs.declared.words.Word.TheVariants as word
 use Rattle.mpy_parser.specs.declared.terminals.Terminal.{Terminal}
 use Rattle.mpy_parser.specs.declared.terminals.Terminal.TheVariants as terminal
 use Rattle.mpy_parser.specs.declared.terms.Bracket.{Bracket}
 use Rattle.mpy_parser.specs.declared.terms.Bracket.TheVariants as bracket
-use Rattle.mpy_parser.specs.Levels.{above, joint_at}
+use Rattle.mpy_tree.specs.Levels.{above}
+use Rattle.mpy_parser.specs.Joints.{joint_at}
 use Rattle.mpy_parser.specs.Reading.{◌>>=◌, or_else, behind_if, behind_not, behind_minus, behind_power, behind_closing_bracket, behind_closing_paren, behind_colon, comparison_at, joint_before, joined, with_conditional_tail, joint_tail, with_joints, with_comparison, with_power, suffixed, suffix_at, with_suffixes, closed, arguments, atom, reading, levels_above}
 use Rattle.mpy_parser.proofs.Readings.{reading_step}
 

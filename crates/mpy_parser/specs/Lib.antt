@@ -1,4 +1,3 @@
-pub mod Levels
 pub mod Grammar
 pub mod Reading
 pub mod Views
@@ -6,6 +5,7 @@ pub mod Items
 pub mod Nesting
 pub mod Faults
 pub mod Terminals
+pub mod Joints
 pub mod Limits
 pub mod Programs
 pub mod Longest

@@ -5,16 +5,17 @@ use Rattle.mpy_tree.specs.declared.operators.CmpOp.{CmpOp}
 use Rattle.mpy_tree.specs.declared.operators.CmpOp.TheVariants.{Eq, Ne, Lt, Le, Gt, Ge, Member, NotMember}
 use Rattle.mpy_tree.specs.Syntax.{Term, Terms, MaybeTerm, no_terms, term_and, no_term, a_term}
 use Rattle.mpy_tree.specs.Syntax as ast
-use Rattle.mpy_parser.specs.declared.levels.Level.{Level}
-use Rattle.mpy_parser.specs.declared.levels.Level.TheVariants as level
-use Rattle.mpy_parser.specs.declared.levels.Joint.{Joint}
-use Rattle.mpy_parser.specs.declared.levels.Joint.TheVariants as joint
+use Rattle.mpy_tree.specs.declared.levels.Level.{Level}
+use Rattle.mpy_tree.specs.declared.levels.Level.TheVariants as level
+use Rattle.mpy_parser.specs.declared.joints.Joint.{Joint}
+use Rattle.mpy_parser.specs.declared.joints.Joint.TheVariants as joint
 use Rattle.mpy_parser.specs.declared.words.Word.TheVariants as word
 use Rattle.mpy_parser.specs.declared.terminals.Terminal.{Terminal}
 use Rattle.mpy_parser.specs.declared.terminals.Terminal.TheVariants as terminal
 use Rattle.mpy_parser.specs.declared.terms.Bracket.{Bracket}
 use Rattle.mpy_parser.specs.declared.terms.Bracket.TheVariants as bracket
-use Rattle.mpy_parser.specs.Levels.{above, joint_at}
+use Rattle.mpy_tree.specs.Levels.{above}
+use Rattle.mpy_parser.specs.Joints.{joint_at}
 
 -- goes on with what was read, or ends with nothing
 infixl 10 ◌>>=◌

@@ -4,11 +4,12 @@ ghost use Rattle.mpy_tree.specs.Syntax.{Term, Terms};
 ghost use Rattle.mpy_tree.specs.View.{term_of, terms_of, maybe_term};
 ghost use Rattle.mpy_parser.specs.Reading.{reading, at_level, conditional_tail, joint_tail, comparison_at, joint_before, suffix_at, second_end, elements, name_or_call, parenthesized, closed, behind_if, behind_else, behind_power, behind_bracket, behind_colon, behind_comma, atom};
 ghost use Rattle.mpy_parser.specs.Views.{suffix_of};
-ghost use Rattle.mpy_parser.specs.Levels.{IsChain, IsPrefix};
-ghost use Rattle.mpy_parser.specs.declared.levels.Level.TheVariants as level;
+ghost use Rattle.mpy_parser.specs.Joints.{IsChain, IsPrefix};
+ghost use Rattle.mpy_tree.specs.declared.levels.Level.TheVariants as level;
 
 use crate::NoMemory;
-use crate::levels::{Joint, Level, joint_at};
+use crate::joints::{Joint, joint_at};
+use mpy_tree::Level;
 use crate::terminals::Terminal;
 use crate::terms::{Bracket, Suffix, arith, choose, compare, join, negate, not, with_suffix};
 use crate::words::Word;

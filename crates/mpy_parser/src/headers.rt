@@ -6,7 +6,7 @@ ghost use Rattle.mpy_parser.specs.Views.{opening_of};
 use crate::NoMemory;
 use crate::expressions::expression;
 use crate::items::Header;
-use crate::levels::Level;
+use mpy_tree::Level;
 use crate::terminals::Terminal;
 use crate::words::Word;
 use mpy_tree::{Name, Names};

@@ -9,7 +9,7 @@ mod expressions;
 mod headers;
 mod items;
 mod kinds;
-mod levels;
+mod joints;
 mod limits;
 mod longest;
 mod nesting_laws;
@@ -24,7 +24,7 @@ mod terminals;
 mod terms;
 mod words;
 
-pub use levels::Level;
+
 pub use longest::{ExprError, one_expression, read_expr};
 pub use nesting_laws::{
     nested_in_one_way, nested_without_block_fault, nested_without_fault,

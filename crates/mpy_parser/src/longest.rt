@@ -5,7 +5,7 @@ ghost use Rattle.mpy_parser.specs.Longest.{EndsAt, IsLongest, NoneBegins, OneExp
 ghost use Rattle.mpy_parser.specs.declared.longest.ExprError.TheVariants as expr_error;
 
 use crate::expressions::expression;
-use crate::levels::Level;
+use mpy_tree::Level;
 use crate::terminals::terminals;
 use mpy_lexer::Tokens;
 use mpy_tree::Expr;

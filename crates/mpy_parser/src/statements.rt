@@ -7,7 +7,7 @@ ghost use Rattle.mpy_parser.specs.ItemReading.{ended, whole, augmenting, augment
 
 use crate::NoMemory;
 use crate::expressions::{behind_closing, expression};
-use crate::levels::Level;
+use mpy_tree::Level;
 use crate::terminals::Terminal;
 use crate::terms::Bracket;
 use crate::words::Word;

@@ -7,7 +7,7 @@ ghost use Rattle.mpy_parser.specs.Reading.{joined, suffixed};
 ghost use Rattle.mpy_parser.specs.Views.{suffix_of};
 
 use crate::NoMemory;
-use crate::levels::Joint;
+use crate::joints::Joint;
 use mpy_tree::{ArithOp, CmpOp, Expr};
 use std::alloc::Global;
 

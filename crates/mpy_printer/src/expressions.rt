@@ -3,10 +3,10 @@ ghost use Rattle.std.specs.Prelude.{◌≡◌, ◌++◌, OnOk, codes};
 ghost use Rattle.mpy_tree.specs.Printing.{at_level, commas, end_text, text_of, texts_of};
 ghost use Rattle.mpy_tree.specs.View.{end_by, term_of, terms_of};
 
-use crate::levels::{AND, CONDITIONAL, MINUS, NOT, OR, PLACE, SUM, level_of_expr, levels_of};
+use crate::levels::level_of_expr;
 use crate::literals::{write_number, write_quoted, write_truth};
 use crate::operators::{arith_word, cmp_word, write_spaced};
-use mpy_tree::{Expr, Exprs, NoMemory};
+use mpy_tree::{Expr, Exprs, Level, NoMemory};
 
 /// Adds an expression.
 #[cycle(expressions)]
@@ -25,48 +25,47 @@ pub(crate) fn write_expr(e: &Expr, out: &mut Vec<u8>) -> Result<(), NoMemory>
         }
         Expr::Neg(a) => {
             out.extend_from_slice(b"-")?;
-            write_part(a, MINUS, out)?;
+            write_part(a, Level::Unary, out)?;
         }
         Expr::Not(a) => {
             out.extend_from_slice(b"not ")?;
-            write_part(a, NOT, out)?;
+            write_part(a, Level::Negation, out)?;
         }
         Expr::Arith(op, a, b) => {
-            let levels = levels_of(*op);
-            write_part(a, levels.left, out)?;
+            write_part(a, Level::left_of(*op), out)?;
             write_spaced(arith_word(*op), out)?;
-            write_part(b, levels.right, out)?;
+            write_part(b, Level::right_of(*op), out)?;
         }
         Expr::Cmp(op, a, b) => {
-            write_part(a, SUM, out)?;
+            write_part(a, Level::Sum, out)?;
             write_spaced(cmp_word(*op), out)?;
-            write_part(b, SUM, out)?;
+            write_part(b, Level::Sum, out)?;
         }
         Expr::And(a, b) => {
-            write_part(a, AND, out)?;
+            write_part(a, Level::Conjunction, out)?;
             out.extend_from_slice(b" and ")?;
-            write_part(b, NOT, out)?;
+            write_part(b, Level::Negation, out)?;
         }
         Expr::Or(a, b) => {
-            write_part(a, OR, out)?;
+            write_part(a, Level::Disjunction, out)?;
             out.extend_from_slice(b" or ")?;
-            write_part(b, AND, out)?;
+            write_part(b, Level::Conjunction, out)?;
         }
         Expr::Cond { test, yes, no } => {
-            write_part(yes, OR, out)?;
+            write_part(yes, Level::Disjunction, out)?;
             out.extend_from_slice(b" if ")?;
-            write_part(test, OR, out)?;
+            write_part(test, Level::Disjunction, out)?;
             out.extend_from_slice(b" else ")?;
             write_expr(no, out)?;
         }
         Expr::Index(v, i) => {
-            write_part(v, PLACE, out)?;
+            write_part(v, Level::Postfix, out)?;
             out.extend_from_slice(b"[")?;
             write_expr(i, out)?;
             out.extend_from_slice(b"]")?;
         }
         Expr::Slice(v, from, to) => {
-            write_part(v, PLACE, out)?;
+            write_part(v, Level::Postfix, out)?;
             write_from(from, out)?;
             write_to(to, out)?;
         }
@@ -80,10 +79,10 @@ pub(crate) fn write_expr(e: &Expr, out: &mut Vec<u8>) -> Result<(), NoMemory>
 
 /// Adds a part, in parentheses where its own level is below the one asked for.
 #[cycle(expressions)]
-fn write_part(e: &Expr, asked: u32, out: &mut Vec<u8>) -> Result<(), NoMemory>
+fn write_part(e: &Expr, asked: Level, out: &mut Vec<u8>) -> Result<(), NoMemory>
     ensures { OnOk result (out.new.items ≡ out.old.items ++ at_level asked (term_of e.now) (text_of (term_of e.now))) }
 {
-    if level_of_expr(e) < asked {
+    if level_of_expr(e).rank() < asked.rank() {
         out.extend_from_slice(b"(")?;
         write_expr(e, out)?;
         out.extend_from_slice(b")")?;

@@ -1,6 +1,7 @@
 pub mod Comparing
 pub mod Equality
 pub mod Expressions
+pub mod Levels
 pub mod Operations
 pub mod Outcomes
 pub mod Printable

@@ -6,6 +6,9 @@ use Rattle.mpy_tree.specs.declared.operators.ArithOp.{ArithOp}
 use Rattle.mpy_tree.specs.declared.operators.ArithOp.TheVariants.{Add, Sub, Mul, Floor, Rem, Power}
 use Rattle.mpy_tree.specs.declared.operators.CmpOp.{CmpOp}
 use Rattle.mpy_tree.specs.declared.operators.CmpOp.TheVariants.{Eq, Ne, Lt, Le, Gt, Ge, Member, NotMember}
+use Rattle.mpy_tree.specs.declared.levels.Level.{Level}
+use Rattle.mpy_tree.specs.declared.levels.Level.TheVariants as level
+use Rattle.mpy_tree.specs.Levels.{rank, operator_level, left_level, right_level}
 use Rattle.mpy_tree.specs.declared.value.Value.{Value}
 use Rattle.mpy_tree.specs.declared.value.Value.TheVariants as value
 use Rattle.mpy_tree.specs.Syntax.{Term, Terms, MaybeTerm, no_terms, term_and, no_term, a_term, at, Action, Block, end, step, MaybeBlock, no_block, a_block, arm, Branches, no_arms, arm_and, Routine}
@@ -46,47 +49,22 @@ compare_text Ge = codes ">="
 compare_text Member = codes "in"
 compare_text NotMember = codes "not in"
 
--- The levels of the grammar, from 0, the conditional, to 10, the atoms: an operator's, and those that it asks of its parts.
-abbrev pub arith_level : ArithOp → ℕ
-arith_level Add = 5
-arith_level Sub = 5
-arith_level Mul = 6
-arith_level Floor = 6
-arith_level Rem = 6
-arith_level Power = 8
-
-abbrev pub left_level : ArithOp → ℕ
-left_level Add = 5
-left_level Sub = 5
-left_level Mul = 6
-left_level Floor = 6
-left_level Rem = 6
-left_level Power = 9
-
-abbrev pub right_level : ArithOp → ℕ
-right_level Add = 6
-right_level Sub = 6
-right_level Mul = 7
-right_level Floor = 7
-right_level Rem = 7
-right_level Power = 7
-
 -- the highest level that spells the expression without parentheses round it
-abbrev pub level_of : Term → ℕ
-level_of (ast.Cond t a b) = 0
-level_of (ast.Or a b) = 1
-level_of (ast.And a b) = 2
-level_of (ast.Not e) = 3
-level_of (ast.Cmp op a b) = 4
-level_of (ast.Arith op a b) = arith_level op
-level_of (ast.Neg e) = 7
-level_of (ast.Index v i) = 9
-level_of (ast.Slice v from to) = 9
-level_of _ = 10
+abbrev pub level_of : Term → Level
+level_of (ast.Cond t a b) = level.Conditional
+level_of (ast.Or a b) = level.Disjunction
+level_of (ast.And a b) = level.Conjunction
+level_of (ast.Not e) = level.Negation
+level_of (ast.Cmp op a b) = level.Comparison
+level_of (ast.Arith op a b) = operator_level op
+level_of (ast.Neg e) = level.Unary
+level_of (ast.Index v i) = level.Postfix
+level_of (ast.Slice v from to) = level.Postfix
+level_of _ = level.Atom
 
 -- the text of a part, in parentheses where its own level is below the one asked for
-abbrev pub at_level : ℕ → Term → List ℕ → List ℕ
-at_level k e text = if nat_lt (level_of e) k then codes "(" ++ text ++ codes ")" else text
+abbrev pub at_level : Level → Term → List ℕ → List ℕ
+at_level k e text = if nat_lt (rank (level_of e)) (rank k) then codes "(" ++ text ++ codes ")" else text
 
 -- an operator with one space on each side
 abbrev pub spaced : List ℕ → List ℕ
@@ -99,15 +77,17 @@ abbrev mutual
   text_of (ast.Text cs) = quoted_text cs
   text_of (ast.Name x) = x
   text_of (ast.List es) = codes "[" ++ commas (texts_of es) ++ codes "]"
-  text_of (ast.Neg e) = codes "-" ++ at_level 7 e (text_of e)
-  text_of (ast.Not e) = codes "not " ++ at_level 3 e (text_of e)
-  text_of (ast.Arith op a b) = at_level (left_level op) a (text_of a) ++ spaced (arith_text op) ++ at_level (right_level op) b (text_of b)
-  text_of (ast.Cmp op a b) = at_level 5 a (text_of a) ++ spaced (compare_text op) ++ at_level 5 b (text_of b)
-  text_of (ast.And a b) = at_level 2 a (text_of a) ++ codes " and " ++ at_level 3 b (text_of b)
-  text_of (ast.Or a b) = at_level 1 a (text_of a) ++ codes " or " ++ at_level 2 b (text_of b)
-  text_of (ast.Cond t a b) = at_level 1 a (text_of a) ++ codes " if " ++ at_level 1 t (text_of t) ++ codes " else " ++ text_of b
-  text_of (ast.Index v i) = at_level 9 v (text_of v) ++ codes "[" ++ text_of i ++ codes "]"
-  text_of (ast.Slice v from to) = at_level 9 v (text_of v) ++ codes "[" ++ end_text from ++ codes ":" ++ end_text to ++ codes "]"
+  text_of (ast.Neg e) = codes "-" ++ at_level level.Unary e (text_of e)
+  text_of (ast.Not e) = codes "not " ++ at_level level.Negation e (text_of e)
+  text_of (ast.Arith op a b) =
+      at_level (left_level op) a (text_of a) ++ spaced (arith_text op)
+      ++ at_level (right_level op) b (text_of b)
+  text_of (ast.Cmp op a b) = at_level level.Sum a (text_of a) ++ spaced (compare_text op) ++ at_level level.Sum b (text_of b)
+  text_of (ast.And a b) = at_level level.Conjunction a (text_of a) ++ codes " and " ++ at_level level.Negation b (text_of b)
+  text_of (ast.Or a b) = at_level level.Disjunction a (text_of a) ++ codes " or " ++ at_level level.Conjunction b (text_of b)
+  text_of (ast.Cond t a b) = at_level level.Disjunction a (text_of a) ++ codes " if " ++ at_level level.Disjunction t (text_of t) ++ codes " else " ++ text_of b
+  text_of (ast.Index v i) = at_level level.Postfix v (text_of v) ++ codes "[" ++ text_of i ++ codes "]"
+  text_of (ast.Slice v from to) = at_level level.Postfix v (text_of v) ++ codes "[" ++ end_text from ++ codes ":" ++ end_text to ++ codes "]"
   text_of (ast.Call f es) = f ++ codes "(" ++ commas (texts_of es) ++ codes ")"
 
   pub texts_of : Terms → List (List ℕ)

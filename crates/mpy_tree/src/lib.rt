@@ -3,6 +3,7 @@
 
 mod copying;
 mod equality;
+mod levels;
 mod limits;
 mod lists;
 mod names;
@@ -16,6 +17,7 @@ mod value;
 
 pub use copying::{copy_expr, copy_prog, copy_stmts};
 pub use equality::{same, same_expr};
+pub use levels::Level;
 pub use limits::Limits;
 pub use lists::{Chars, Ints};
 pub use names::{Name, Names};

@@ -1,6 +1,6 @@
 use Rattle.std.proofs.Common.{◌≡◌, ◌+◌, ◌*◌, ◌<◌, ◌≤◌, length, map, Some}
 use Rattle.mpy_tree.specs.View.{term_of}
-use Rattle.mpy_parser.specs.declared.levels.Level.TheVariants as level
+use Rattle.mpy_tree.specs.declared.levels.Level.TheVariants as level
 use Rattle.mpy_parser.specs.Reading.{◌>>=◌, at_level, reading, with_joints, with_suffixes, some_elements, elements, levels_above}
 use Rattle.mpy_parser.proofs.Elements.{ahead}
 use Rattle.mpy_parser.proofs.expressions.+expression.Given as goal

@@ -1,6 +1,6 @@
 use Rattle.std.proofs.Common.{◌-◌, length, drop, option_map, sym, ◌∙◌, ap, subst}
 use Rattle.mpy_tree.specs.View.{term_of}
-use Rattle.mpy_parser.specs.declared.levels.Level.TheVariants as level
+use Rattle.mpy_tree.specs.declared.levels.Level.TheVariants as level
 use Rattle.mpy_parser.specs.Terminals.{terminals}
 use Rattle.mpy_parser.specs.Reading.{reading}
 use Rattle.mpy_parser.specs.Longest.{EndsAt, IsLongest}
