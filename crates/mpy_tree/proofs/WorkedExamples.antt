@@ -1,5 +1,5 @@
 -- Worked runs and texts, each closed by computing it.
-use Rattle.std.proofs.Common.{◌≡◌, ℕ, List, [], ◌∷◌, refl, pos, negsuc, false, codes, lit≤}
+use Rattle.std.proofs.Common.{◌≡◌, ℕ, suc, List, [], ◌∷◌, refl, pos, negsuc, false, codes, lit≤}
 use Rattle.std.specs.declared.result.Result.{Result}
 use Rattle.std.specs.declared.result.Result.TheVariants.{Ok, Err}
 use Rattle.mpy_tree.specs.declared.limits.Limits.{Limits}
@@ -7,11 +7,11 @@ use Rattle.mpy_tree.specs.declared.value.Value.{Value}
 use Rattle.mpy_tree.specs.declared.value.Value.TheVariants.{Int, Bool as Truth, List as Items, Text}
 use Rattle.mpy_tree.specs.declared.operators.ArithOp.TheVariants.{Add, Sub, Mul, Floor, Rem, Power}
 use Rattle.mpy_tree.specs.declared.operators.CmpOp.TheVariants.{Eq, Lt}
-use Rattle.mpy_tree.specs.Syntax.{Term, no_terms, term_and, a_term, at, end, step, Routine}
+use Rattle.mpy_tree.specs.Syntax.{Term, no_terms, term_and, no_term, a_term, at, Action, Block, end, step, no_block, a_block, arm, no_arms, arm_and, Routine}
 use Rattle.mpy_tree.specs.Syntax as ast
-use Rattle.mpy_tree.specs.declared.outcome.FaultKind.TheVariants.{Overflow, Divisor, Index, Turns}
-use Rattle.mpy_tree.specs.declared.outcome.Fault.{Fault}
-use Rattle.mpy_tree.specs.Values.{fault}
+use Rattle.mpy_tree.specs.declared.outcome.FaultKind.TheVariants.{Overflow, Divisor, Index, Unset, Turns, Depth, Length, NoValue}
+use Rattle.mpy_tree.specs.declared.outcome.Halted.{Halted}
+use Rattle.mpy_tree.specs.Values.{fault, stuck}
 use Rattle.std.specs.Fmt.{digits}
 use Rattle.mpy_tree.specs.Running.{evaluated}
 use Rattle.mpy_tree.specs.Printing.{text_of, program_text, values_text}
@@ -40,7 +40,7 @@ v = codes "v"
 abbrev i : List ℕ
 i = codes "i"
 
-abbrev on : Limits → List (List ℕ) → Term → List Value → Result Value Fault
+abbrev on : Limits → List (List ℕ) → Term → List Value → Result Value Halted
 on l xs e vs = evaluated l (returns xs e) (codes "f") vs
 
 -- quotients and remainders round towards minus infinity
@@ -129,6 +129,101 @@ zero_to_zero = refl
 
 range_down : on wide [] (ast.Call (codes "range") (term_and (ast.Int 5) (term_and (ast.Int 0) (term_and (ast.Neg (ast.Int 2)) no_terms)))) [] ≡ Ok (Items (pos 5 ∷ pos 3 ∷ pos 1 ∷ []))
 range_down = refl
+
+range_of_the_cap : on wide [] (ast.Call (codes "range") (term_and (ast.Int 4) no_terms)) [] ≡ Ok (Items (pos 0 ∷ pos 1 ∷ pos 2 ∷ pos 3 ∷ []))
+range_of_the_cap = refl
+
+range_past_the_cap : on wide [] (ast.Call (codes "range") (term_and (ast.Int 5) no_terms)) [] ≡ Err (fault Length 2)
+range_past_the_cap = refl
+
+-- operands of another type, and arguments that no function takes, stop a run otherwise than a fault does
+sum_of_two_types : on wide (v ∷ []) (ast.Arith Add (ast.Name v) (ast.Int 1)) two ≡ Err (stuck 2)
+sum_of_two_types = refl
+
+call_without_its_argument : evaluated wide counts (codes "f") [] ≡ Err (stuck 1)
+call_without_its_argument = refl
+
+-- one action on each line from the second on, of a function of the list v and the number x
+abbrev lines : ℕ → List Action → Block
+lines k [] = end
+lines k (act ∷ rest) = step (at k act) (lines (suc k) rest)
+
+abbrev runs : List Action → List Value → Result Value Halted
+runs acts vs = evaluated wide (record { line = 1; name = codes "f"; params = v ∷ x ∷ []; body = lines 2 acts } ∷ []) (codes "f") vs
+
+abbrev gives : Term → Action
+gives e = ast.Return (a_term e)
+
+abbrev some : List Value
+some = Items (pos 1 ∷ pos 2 ∷ pos 3 ∷ []) ∷ Int (pos 2) ∷ []
+
+appended : runs (ast.Append v (ast.Name x) ∷ gives (ast.Name v) ∷ []) some ≡ Ok (Items (pos 1 ∷ pos 2 ∷ pos 3 ∷ pos 2 ∷ []))
+appended = refl
+
+appended_past_the_cap : runs (ast.Append v (ast.Name x) ∷ ast.Append v (ast.Name x) ∷ gives (ast.Name v) ∷ []) some ≡ Err (fault Length 3)
+appended_past_the_cap = refl
+
+augmented : runs (ast.Augment x Mul (ast.Int 3) ∷ gives (ast.Name x) ∷ []) some ≡ Ok (Int (pos 6))
+augmented = refl
+
+put : runs (ast.Put v (ast.Neg (ast.Int 1)) (ast.Int 7) ∷ gives (ast.Name v) ∷ []) some ≡ Ok (Items (pos 1 ∷ pos 2 ∷ pos 7 ∷ []))
+put = refl
+
+augmented_at : runs (ast.AugmentAt v (ast.Int 0) Sub (ast.Name x) ∷ gives (ast.Name v) ∷ []) some ≡ Ok (Items (negsuc 0 ∷ pos 2 ∷ pos 3 ∷ []))
+augmented_at = refl
+
+-- the sum of the members, and the last member, which the loop leaves in its local
+abbrev sums : List Action
+sums =
+    ast.Assign i (ast.Int 0)
+    ∷ ast.For a (ast.Name v) (step (at 4 (ast.Augment i Add (ast.Name a))) end)
+    ∷ gives (ast.List (term_and (ast.Name i) (term_and (ast.Name a) no_terms)))
+    ∷ []
+
+summed : runs sums some ≡ Ok (Items (pos 6 ∷ pos 3 ∷ []))
+summed = refl
+
+no_member : runs sums (Items [] ∷ Int (pos 2) ∷ []) ≡ Err (fault Unset 4)
+no_member = refl
+
+-- the first test that holds decides
+abbrev tests : List Action
+tests =
+    ast.If
+    (arm_and (arm 2 (ast.Cmp Lt (ast.Name x) (ast.Int 2)) (step (at 3 (gives (ast.Int 1))) end))
+    (arm_and (arm 4 (ast.Cmp Lt (ast.Name x) (ast.Int 4)) (step (at 5 (gives (ast.Int 2))) end)) no_arms))
+    (a_block (step (at 7 (ast.Return no_term)) end))
+    ∷ []
+
+first_test : runs tests (Items [] ∷ Int (pos 1) ∷ []) ≡ Ok (Int (pos 1))
+first_test = refl
+
+second_test : runs tests (Items [] ∷ Int (pos 3) ∷ []) ≡ Ok (Int (pos 2))
+second_test = refl
+
+no_test : runs tests (Items [] ∷ Int (pos 4) ∷ []) ≡ Err (fault NoValue 7)
+no_test = refl
+
+no_return : runs (ast.Pass ∷ []) some ≡ Err (fault NoValue 1)
+no_return = refl
+
+-- calls go two deep here: the entry, and one call from it
+abbrev falls : List Routine
+falls =
+    record {
+      line = 1;
+      name = codes "f";
+      params = x ∷ [];
+      body =
+          step (at 2 (gives (ast.Cond (ast.Cmp Lt (ast.Name x) (ast.Int 1)) (ast.Int 9) (ast.Call (codes "f") (term_and (ast.Arith Sub (ast.Name x) (ast.Int 1)) no_terms))))) end;
+    }
+    ∷ []
+
+called_once : evaluated wide falls (codes "f") (Int (pos 1) ∷ []) ≡ Ok (Int (pos 9))
+called_once = refl
+
+called_too_deep : evaluated wide falls (codes "f") (Int (pos 2) ∷ []) ≡ Err (fault Depth 2)
+called_too_deep = refl
 
 -- parentheses stand where a part's level is below the one asked for
 power_of_negative : text_of (ast.Arith Power (ast.Neg (ast.Int 2)) (ast.Int 2)) ≡ codes "(-2) ** 2"

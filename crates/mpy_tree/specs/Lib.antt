@@ -1,3 +1,4 @@
+pub mod Builtins
 pub mod Comparing
 pub mod Equality
 pub mod Expressions

@@ -6,15 +6,22 @@ use Rattle.mpy_tree.specs.declared.limits.Limits.{Limits}
 use Rattle.mpy_tree.specs.declared.value.Value.{Value}
 use Rattle.mpy_tree.specs.declared.outcome.FaultKind.{FaultKind}
 use Rattle.mpy_tree.specs.declared.outcome.FaultKind.TheVariants.{Overflow, Divisor, Index, Unset, Turns, Depth, Length, Power, Step, NoValue}
-use Rattle.mpy_tree.specs.declared.outcome.Fault.{Fault}
+use Rattle.mpy_tree.specs.declared.outcome.Halt.{Halt}
+use Rattle.mpy_tree.specs.declared.outcome.Halt.TheVariants.{Fault, Stuck}
+use Rattle.mpy_tree.specs.declared.outcome.Halted.{Halted}
 use Rattle.mpy_tree.specs.declared.outcome.Outcome.{Outcome}
 use Rattle.mpy_tree.specs.declared.outcome.Outcome.TheVariants as outcome
 use Rattle.mpy_tree.specs.Syntax.{Routine}
 use Rattle.mpy_tree.specs.Running.{evaluated}
 
-abbrev pub outcome_of : Result Value Fault → Outcome
+-- the kind of fault that is told: a run that is stuck is told as one that reads what isn't set
+abbrev pub told : Halt → FaultKind
+told (Fault kind) = kind
+told Stuck = Unset
+
+abbrev pub outcome_of : Result Value Halted → Outcome
 outcome_of (Ok v) = outcome.Value v
-outcome_of (Err f) = outcome.Fault f.kind f.line
+outcome_of (Err h) = outcome.Fault (told h.halt) h.line
 
 -- how a run of the program ends on these arguments
 abbrev pub run_outcome : Limits → List Routine → List ℕ → List Value → Outcome

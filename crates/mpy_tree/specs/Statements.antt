@@ -1,14 +1,14 @@
 -- What a statement does to a state.
-use Rattle.std.specs.Prelude.{ℕ, zero, suc, List, [], ◌∷◌, Option, Some, None, if◌then◌else◌}
+use Rattle.std.specs.Prelude.{ℕ, zero, suc, List, [], ◌∷◌, if◌then◌else◌}
 use Rattle.std.specs.declared.result.Result.{Result}
 use Rattle.std.specs.declared.result.Result.TheVariants.{Ok, Err}
 use Rattle.mpy_tree.specs.declared.limits.Limits.{Limits}
 use Rattle.mpy_tree.specs.declared.value.Value.{Value}
 use Rattle.mpy_tree.specs.Syntax.{Term, MaybeTerm, no_term, a_term, at, Action, Block, end, step, MaybeBlock, no_block, a_block, arm, Branches, no_arms, arm_and}
 use Rattle.mpy_tree.specs.Syntax as ast
-use Rattle.mpy_tree.specs.declared.outcome.FaultKind.{FaultKind}
 use Rattle.mpy_tree.specs.declared.outcome.FaultKind.TheVariants.{Turns, NoValue}
-use Rattle.mpy_tree.specs.declared.outcome.Fault.{Fault}
+use Rattle.mpy_tree.specs.declared.outcome.Halt.{Halt}
+use Rattle.mpy_tree.specs.declared.outcome.Halted.{Halted}
 use Rattle.mpy_tree.specs.Values.{◌>>=◌, fault, on_line, State, assign, set_or_fault}
 use Rattle.mpy_tree.specs.Operations.{arith, holds, index, put, append, members}
 use Rattle.mpy_tree.specs.Expressions.{Calls, value_of}
@@ -19,12 +19,12 @@ pub data Ran : Type 0 where
   Broke : (s : State) → Ran
   Continued : (s : State) → Ran
   Returned : (v : Value) → Ran
-  Failed : (f : Fault) → Ran
+  Failed : (h : Halted) → Ran
 
--- goes on with a value, or ends with the fault
-abbrev pub given : {A : Type 0} → Result A Fault → (A → Ran) → Ran
+-- goes on with a value, or ends without one
+abbrev pub given : {A : Type 0} → Result A Halted → (A → Ran) → Ran
 given (Ok a) k = k a
-given (Err f) k = Failed f
+given (Err h) k = Failed h
 
 -- the next statement, where one ran to its end
 abbrev pub then_on : Ran → (State → Ran) → Ran
@@ -32,7 +32,7 @@ then_on (Next s) k = k s
 then_on (Broke s) k = Broke s
 then_on (Continued s) k = Continued s
 then_on (Returned v) k = Returned v
-then_on (Failed f) k = Failed f
+then_on (Failed h) k = Failed h
 
 -- the next turn of a loop
 abbrev pub then_turn : Ran → (State → Ran) → Ran
@@ -40,30 +40,22 @@ then_turn (Next s) k = k s
 then_turn (Broke s) k = Next s
 then_turn (Continued s) k = k s
 then_turn (Returned v) k = Returned v
-then_turn (Failed f) k = Failed f
+then_turn (Failed h) k = Failed h
 
 -- a local is set to what was computed
-abbrev pub store : State → List ℕ → Result Value Fault → Ran
+abbrev pub store : State → List ℕ → Result Value Halted → Ran
 store s x r = given r (λ v. Next (assign s x v))
 
--- the arm of a test, or the arms after it
-abbrev pub tested : Result Value Fault → Option Ran → Option Ran → Option Ran
-tested (Ok v) here rest = if holds v then here else rest
-tested (Err f) here rest = Some (Failed f)
+-- goes on by the value of a test
+abbrev pub tested : Result Value Halted → Ran → Ran → Ran
+tested (Ok v) here other = if holds v then here else other
+tested (Err h) here other = Failed h
 
-abbrev pub or_else : Option Ran → Ran → Ran
-or_else None other = other
-or_else (Some r) other = r
-
--- a turn of a `while` on a line, and those after it, with so many turns left
-abbrev pub turn : ℕ → (State → Result Value Fault) → (State → Ran) → ℕ → State → Ran
-turn zero test body line s = Failed (fault Turns line)
-turn (suc n) test body line s =
-    then_turn (body s) (λ s. given (test s) (λ v. if holds v then turn n test body line s else Next s))
-
--- a `while`, whose test is evaluated before each turn
-abbrev pub while_turns : ℕ → (State → Result Value Fault) → (State → Ran) → ℕ → State → Ran
-while_turns n test body line s = given (test s) (λ v. if holds v then turn n test body line s else Next s)
+-- a `while` on a line, with so many turns left; its test is evaluated before each turn
+abbrev pub while_turns : ℕ → (State → Result Value Halted) → (State → Ran) → ℕ → State → Ran
+while_turns zero test body line s = tested (test s) (Failed (fault Turns line)) (Next s)
+while_turns (suc n) test body line s =
+    tested (test s) (then_turn (body s) (while_turns n test body line)) (Next s)
 
 -- a `for` on a line, with so many turns left
 abbrev pub for_turns : List Value → ℕ → List ℕ → (State → Ran) → ℕ → State → Ran
@@ -73,21 +65,21 @@ for_turns (v ∷ vs) (suc n) x body line s = then_turn (body (assign s x v)) (fo
 
 module _ (l : Limits) (calls : Calls) where
   -- an expression, and a local, in a statement on a line
-  abbrev pub value_at : State → ℕ → Term → Result Value Fault
+  abbrev pub value_at : State → ℕ → Term → Result Value Halted
   value_at s line e = value_of l calls s line e
 
-  abbrev pub local_at : State → ℕ → List ℕ → Result Value Fault
+  abbrev pub local_at : State → ℕ → List ℕ → Result Value Halted
   local_at s line x = on_line line (set_or_fault (s x))
 
   -- x op= e
-  abbrev pub set_by : State → ℕ → List ℕ → (Value → Value → Result Value FaultKind) → Term → Result Value Fault
+  abbrev pub set_by : State → ℕ → List ℕ → (Value → Value → Result Value Halt) → Term → Result Value Halted
   set_by s line x op e = do
     v ← local_at s line x
     w ← value_at s line e
     on_line line (op v w)
 
   -- x[i] = e
-  abbrev pub set_at : State → ℕ → List ℕ → Term → Term → Result Value Fault
+  abbrev pub set_at : State → ℕ → List ℕ → Term → Term → Result Value Halted
   set_at s line x i e = do
     w ← value_at s line e
     v ← local_at s line x
@@ -95,7 +87,7 @@ module _ (l : Limits) (calls : Calls) where
     on_line line (put v k w)
 
   -- x[i] op= e
-  abbrev pub set_at_by : State → ℕ → List ℕ → Term → (Value → Value → Result Value FaultKind) → Term → Result Value Fault
+  abbrev pub set_at_by : State → ℕ → List ℕ → Term → (Value → Value → Result Value Halt) → Term → Result Value Halted
   set_at_by s line x i op e = do
     v ← local_at s line x
     k ← value_at s line i
@@ -123,16 +115,16 @@ module _ (l : Limits) (calls : Calls) where
     run_action ast.Pass line s = Next s
     run_action ast.Break line s = Broke s
     run_action ast.Continue line s = Continued s
-    run_action (ast.If arms last) line s = or_else (run_arms arms s) (run_else last s)
+    run_action (ast.If arms last) line s = run_arms arms (run_else last s) s
     run_action (ast.While e body) line s = while_turns l.turns (λ s. value_at s line e) (run_block body) line s
     run_action (ast.For x e body) line s =
         given (value_at s line e >>= λ v. on_line line (members v)) (λ vs. for_turns vs l.turns x (run_block body) line s)
 
-    -- the first arm whose test holds, if there is one
-    pub run_arms : Branches → State → Option Ran
-    run_arms no_arms s = None
-    run_arms (arm_and (arm line e body) rest) s =
-        tested (value_at s line e) (Some (run_block body s)) (run_arms rest s)
+    -- the first arm whose test holds, or else what the last body gives
+    pub run_arms : Branches → Ran → State → Ran
+    run_arms no_arms other s = other
+    run_arms (arm_and (arm line e body) rest) other s =
+        tested (value_at s line e) (run_block body s) (run_arms rest other s)
 
     pub run_else : MaybeBlock → State → Ran
     run_else no_block s = Next s

@@ -6,25 +6,31 @@ use Rattle.std.specs.declared.result.Result.TheVariants.{Ok, Err}
 use Rattle.mpy_tree.specs.declared.value.Value.{Value}
 use Rattle.mpy_tree.specs.declared.outcome.FaultKind.{FaultKind}
 use Rattle.mpy_tree.specs.declared.outcome.FaultKind.TheVariants.{Unset}
-use Rattle.mpy_tree.specs.declared.outcome.Fault.{Fault}
+use Rattle.mpy_tree.specs.declared.outcome.Halt.{Halt}
+use Rattle.mpy_tree.specs.declared.outcome.Halt.TheVariants.{Fault, Stuck}
+use Rattle.mpy_tree.specs.declared.outcome.Halted.{Halted}
 
--- goes on with a value, or ends with the fault
+-- goes on with a value, or ends without one
 infixl 10 ◌>>=◌
 abbrev pub ◌>>=◌ : {A B E : Type 0} → Result A E → (A → Result B E) → Result B E
 Ok a >>= f = f a
 Err e >>= f = Err e
 
--- The fault where operands have no type that the operator takes. Programs that keep the typing rules never come here.
-abbrev pub wrong_type : FaultKind
-wrong_type = Unset
+abbrev pub halted : Halt → ℕ → Halted
+halted why line = record { halt = why; line = line }
 
-abbrev pub fault : FaultKind → ℕ → Fault
-fault kind line = record { kind = kind; line = line }
+-- a fault on a line
+abbrev pub fault : FaultKind → ℕ → Halted
+fault kind line = halted (Fault kind) line
 
--- a fault gets the line of the statement
-abbrev pub on_line : {A : Type 0} → ℕ → Result A FaultKind → Result A Fault
+-- Where operands have no type that the operator takes, or no function takes the call. Typed programs never come here.
+abbrev pub stuck : ℕ → Halted
+stuck line = halted Stuck line
+
+-- what an operation gives in a statement on a line
+abbrev pub on_line : {A : Type 0} → ℕ → Result A Halt → Result A Halted
 on_line line (Ok a) = Ok a
-on_line line (Err kind) = Err (fault kind line)
+on_line line (Err why) = Err (halted why line)
 
 abbrev pub same_bytes : List ℕ → List ℕ → Bool
 same_bytes = pointwise nat_eq
@@ -40,6 +46,6 @@ abbrev pub assign : State → List ℕ → Value → State
 assign s x v = λ y. if same_bytes y x then Some v else s y
 
 -- the value of a local
-abbrev pub set_or_fault : Option Value → Result Value FaultKind
-set_or_fault None = Err Unset
+abbrev pub set_or_fault : Option Value → Result Value Halt
+set_or_fault None = Err (Fault Unset)
 set_or_fault (Some v) = Ok v

@@ -1,6 +1,7 @@
 //! The syntax of mPy programs, their values, types and refusals, and, in `specs/`, what programs mean.
 #![tactic(auto)]
 
+mod builtins;
 mod copying;
 mod equality;
 mod levels;
@@ -15,6 +16,7 @@ mod tree;
 mod typing;
 mod value;
 
+pub use builtins::Builtin;
 pub use copying::{copy_expr, copy_prog, copy_stmts};
 pub use equality::{same, same_expr};
 pub use levels::Level;
@@ -22,7 +24,7 @@ pub use limits::Limits;
 pub use lists::{Chars, Ints};
 pub use names::{Name, Names};
 pub use operators::{ArithOp, CmpOp};
-pub use outcome::{Fault, FaultKind, Outcome};
+pub use outcome::{FaultKind, Halt, Halted, Outcome};
 pub use refusal::{Cause, Refusal, Source};
 use std::alloc::AllocError;
 pub use tree::{Act, Arm, Arms, Expr, Exprs, Func, Funcs, Prog, Stmt, Stmts};

@@ -1,4 +1,6 @@
 //! How a run ends.
+ghost use Rattle.std.specs.Prelude.{◌≡◌};
+ghost use Rattle.mpy_tree.specs.Outcomes.{told};
 
 use crate::value::Value;
 
@@ -27,10 +29,31 @@ pub enum FaultKind {
     NoValue,
 }
 
-/// A fault, with the line of the innermost statement that was executed.
+/// Why an operation has no value.
 #[derive(Clone, Copy, PartialEq, Eq, Debug, Drop)]
-pub struct Fault {
-    pub kind: FaultKind,
+pub enum Halt {
+    /// One of the ten faults.
+    Fault(FaultKind),
+    /// Operands that the operator doesn't take, or a call that no function takes. No typed program comes there.
+    Stuck,
+}
+
+impl Halt {
+    /// The kind of fault that is told: a run that is stuck is told as one that reads what isn't set.
+    pub fn told(self) -> FaultKind
+        ensures { result ≡ told self }
+    {
+        match self {
+            Halt::Fault(kind) => kind,
+            Halt::Stuck => FaultKind::Unset,
+        }
+    }
+}
+
+/// Why an evaluation has no value, with the line of the innermost statement that was executed.
+#[derive(Clone, Copy, PartialEq, Eq, Debug, Drop)]
+pub struct Halted {
+    pub halt: Halt,
     pub line: u32,
 }
 

@@ -6,27 +6,52 @@ use crate::NoMemory;
 use crate::lists::{Chars, Ints};
 use std::alloc::Global;
 
+// The elements of one list, and then those of the other.
+fn joined<T: Copy>(alloc: Global, xs: &[T], ys: &[T]) -> Result<Vec<T>, NoMemory>
+    ensures { IfOk result (λ r. r.items ≡ xs.now ++ ys.now) }
+{
+    let mut items = Vec::new(alloc);
+    items.extend_from_slice(xs)?;
+    items.extend_from_slice(ys)?;
+    Ok(items)
+}
+
+// So many copies of a list, one after another.
+#[tactic(auto, using(crate::proofs::Repetition::copies_more))]
+fn repeated<T: Copy>(alloc: Global, xs: &[T], times: usize) -> Result<Vec<T>, NoMemory>
+    ensures { IfOk result (λ r. r.items ≡ copies times xs.now) }
+{
+    let mut items = Vec::new(alloc);
+    for _turn in 0..times {
+        items.extend_from_slice(xs)?;
+    }
+    Ok(items)
+}
+
+// The elements from one place up to another; none if the first isn't below the second.
+fn between<T: Copy>(alloc: Global, xs: &[T], from: usize, to: usize) -> Result<Vec<T>, NoMemory>
+    requires { to ≤ length xs.now }
+    ensures { IfOk result (λ r. r.items ≡ take (to - from) (drop from xs.now)) }
+{
+    if to <= from {
+        return Ok(Vec::new(alloc));
+    }
+    Ok(Vec::from_slice(alloc, &xs[from..to])?)
+}
+
 impl Ints {
     /// The numbers of this list, and then those of the other.
     pub fn concat(&self, alloc: Global, other: &Ints) -> Result<Ints, NoMemory>
         ensures { IfOk result (λ r. r ≡ self.now ++ other.now) }
     {
-        let mut items = Vec::new(alloc);
-        items.extend_from_slice(self.items())?;
-        items.extend_from_slice(other.items())?;
-        Ok(Ints::from_vec(items))
+        Ok(Ints::from_vec(joined(alloc, self.items(), other.items())?))
     }
 
     /// So many copies of this list, one after another.
-    #[tactic(auto, using(crate::proofs::Repetition::copies_more))]
     pub fn repeat(&self, alloc: Global, times: usize) -> Result<Ints, NoMemory>
         ensures { IfOk result (λ r. r ≡ copies times self.now) }
     {
-        let mut items = Vec::new(alloc);
-        for _turn in 0..times {
-            items.extend_from_slice(self.items())?;
-        }
-        Ok(Ints::from_vec(items))
+        Ok(Ints::from_vec(repeated(alloc, self.items(), times)?))
     }
 
     /// The numbers from one place up to another; none if the first isn't below the second.
@@ -34,11 +59,7 @@ impl Ints {
         requires { to ≤ length self.now }
         ensures { IfOk result (λ r. r ≡ take (to - from) (drop from self.now)) }
     {
-        if to <= from {
-            return Ok(Ints::from_vec(Vec::new(alloc)));
-        }
-        let items = Vec::from_slice(alloc, &self.items()[from..to])?;
-        Ok(Ints::from_vec(items))
+        Ok(Ints::from_vec(between(alloc, self.items(), from, to)?))
     }
 }
 
@@ -47,22 +68,16 @@ impl Chars {
     pub fn concat(&self, alloc: Global, other: &Chars) -> Result<Chars, NoMemory>
         ensures { IfOk result (λ r. r ≡ self.now ++ other.now) }
     {
-        let mut bytes = Vec::new(alloc);
-        bytes.extend_from_slice(self.bytes())?;
-        bytes.extend_from_slice(other.bytes())?;
+        let bytes = joined(alloc, self.bytes(), other.bytes())?;
         Ok(Chars::from_vec(bytes))
     }
 
     /// So many copies of this text, one after another.
-    #[tactic(auto, using(crate::proofs::Repetition::copies_more))]
+    #[tactic(auto, using(crate::proofs::Repetition::all_copies))]
     pub fn repeat(&self, alloc: Global, times: usize) -> Result<Chars, NoMemory>
         ensures { IfOk result (λ r. r ≡ copies times self.now) }
     {
-        let text = self.bytes();
-        let mut bytes = Vec::new(alloc);
-        for _turn in 0..times {
-            bytes.extend_from_slice(text)?;
-        }
+        let bytes = repeated(alloc, self.bytes(), times)?;
         Ok(Chars::from_vec(bytes))
     }
 
@@ -71,10 +86,7 @@ impl Chars {
         requires { to ≤ length self.now }
         ensures { IfOk result (λ r. r ≡ take (to - from) (drop from self.now)) }
     {
-        if to <= from {
-            return Ok(Chars::from_vec(Vec::new(alloc)));
-        }
-        let bytes = Vec::from_slice(alloc, &self.bytes()[from..to])?;
+        let bytes = between(alloc, self.bytes(), from, to)?;
         Ok(Chars::from_vec(bytes))
     }
 

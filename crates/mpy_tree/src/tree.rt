@@ -1,7 +1,7 @@
 //! The syntax of programs.
 
 ghost use Rattle.std.specs.Prelude.{◌≡◌, map};
-ghost use Rattle.mpy_tree.specs.View.{term_of, terms, terms_of};
+ghost use Rattle.mpy_tree.specs.View.{term_of, terms, terms_of, branch_of, branches, branches_of, statement_of, block, block_of};
 
 use crate::lists::Chars;
 use crate::names::{Name, Names};
@@ -97,11 +97,43 @@ pub struct Arms {
     pub items: Vec<Arm>,
 }
 
+impl Arms {
+    /// The list that has these arms.
+    pub fn from_vec(items: Vec<Arm>) -> Arms
+        ensures { branches_of result ≡ branches (map branch_of items.items) }
+    {
+        Arms { items }
+    }
+
+    /// The arms.
+    pub fn items(&self) -> &[Arm]
+        ensures { branches_of self.now ≡ branches (map branch_of result.now) }
+    {
+        self.items.as_slice()
+    }
+}
+
 /// A body.
 #[cycle(stmt)]
 #[derive(Drop)]
 pub struct Stmts {
     pub items: Vec<Stmt>,
+}
+
+impl Stmts {
+    /// The list that has these statements.
+    pub fn from_vec(items: Vec<Stmt>) -> Stmts
+        ensures { block_of result ≡ block (map statement_of items.items) }
+    {
+        Stmts { items }
+    }
+
+    /// The statements.
+    pub fn items(&self) -> &[Stmt]
+        ensures { block_of self.now ≡ block (map statement_of result.now) }
+    {
+        self.items.as_slice()
+    }
 }
 
 /// A function.
@@ -117,6 +149,22 @@ pub struct Func {
 #[derive(Drop)]
 pub struct Funcs {
     pub items: Vec<Func>,
+}
+
+impl Funcs {
+    /// The list that has these functions.
+    pub fn from_vec(items: Vec<Func>) -> Funcs
+        ensures { result.items ≡ items }
+    {
+        Funcs { items }
+    }
+
+    /// The functions.
+    pub fn items(&self) -> &[Func]
+        ensures { result.now ≡ self.now.items.items }
+    {
+        self.items.as_slice()
+    }
 }
 
 /// A program.

@@ -41,6 +41,13 @@ impl Tys {
     {
         self.items.as_slice()
     }
+
+    /// The types, given back.
+    pub fn into_vec(self) -> Vec<Ty>
+        ensures { result.items ≡ self }
+    {
+        self.items
+    }
 }
 
 /// What has a type in a function: a local, or the result.
@@ -83,6 +90,13 @@ impl Facts {
         ensures { result.now ≡ self.now }
     {
         self.items.as_slice()
+    }
+
+    /// The facts, given back.
+    pub fn into_vec(self) -> Vec<Fact>
+        ensures { result.items ≡ self }
+    {
+        self.items
     }
 }
 
