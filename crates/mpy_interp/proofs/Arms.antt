@@ -15,9 +15,9 @@ use Rattle.mpy_tree.specs.declared.tree.Act.TheOpen as G
 use Rattle.mpy_tree.specs.Syntax.{Action, Branch, Branches, Statement, Block}
 use Rattle.mpy_tree.specs.Syntax as ast
 use Rattle.mpy_tree.specs.View.{term_of, maybe_term, action_of, block_of, act_step, arm_step, arms_step, stmt_step, stmts_step}
-use Rattle.mpy_interp.specs.declared.exec.Flow.{Flow}
+use Rattle.mpy_interp.specs.declared.exec.Completion.{Completion}
 use Rattle.mpy_interp.specs.declared.stop.Stop.{Stop}
-use Rattle.mpy_interp.specs.Flows.{EndsAs}
+use Rattle.mpy_interp.specs.Completions.{EndsAs}
 
 pub assign_is : (x : List ℕ) (e : Expr) → action_of (Assign x e) ≡ ast.Assign x (term_of e)
 assign_is x e =
@@ -60,5 +60,5 @@ for_is x e body =
     ∙ fold-roll-Act Action Branch Branches Statement Block act_step arm_step arms_step stmt_step stmts_step (G.For x e body)
 
 -- a statement ends as the action that it is
-pub ends_as : (l : Limits) (calls : Calls) (a b : Act) (n : Action) (line : ℕ) (s t : State) (r : Result Flow Stop) → a ≡ b → action_of b ≡ n → EndsAs r t (run_action l calls n line s) → EndsAs r t (run_action l calls (action_of a) line s)
+pub ends_as : (l : Limits) (calls : Calls) (a b : Act) (n : Action) (line : ℕ) (s t : State) (r : Result Completion Stop) → a ≡ b → action_of b ≡ n → EndsAs r t (run_action l calls n line s) → EndsAs r t (run_action l calls (action_of a) line s)
 ends_as l calls a b n line s t r is e h = subst (λ (m : Action). EndsAs r t (run_action l calls m line s)) (sym (ap action_of is ∙ e)) h

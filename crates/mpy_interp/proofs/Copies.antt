@@ -4,6 +4,7 @@ use Rattle.std.proofs.lemmas.Bool.Decides.{nat_tests}
 use Rattle.mpy_tree.specs.declared.limits.Limits.{Limits}
 use Rattle.mpy_tree.specs.declared.value.Value.TheVariants.{List as Items, Text}
 use Rattle.mpy_tree.specs.declared.outcome.FaultKind.TheVariants.{Length}
+use Rattle.mpy_tree.specs.declared.outcome.Halt.TheVariants.{Fault}
 use Rattle.mpy_tree.specs.Operations.{copies, repeated, list_within, text_within}
 use Rattle.mpy_interp.specs.Copies.{copy_count}
 
@@ -41,12 +42,12 @@ text_repeated l cs n times fits which =
     ap (text_within l) (repeated_by cs n times which)
     ∙ within (copies times cs) l.cap _ _ (omega (arith, length_copies times cs))
 
-pub list_too_long : (l : Limits) (xs : List ℤ) (n : ℤ) → l.cap < length xs * copy_count n → list_within l (repeated xs n) ≡ Err Length
+pub list_too_long : (l : Limits) (xs : List ℤ) (n : ℤ) → l.cap < length xs * copy_count n → list_within l (repeated xs n) ≡ Err (Fault Length)
 list_too_long l xs n h =
     ap (list_within l) (repeated_is xs n)
     ∙ beyond (copies (copy_count n) xs) l.cap _ _ (omega (arith, length_copies (copy_count n) xs))
 
-pub text_too_long : (l : Limits) (cs : List ℕ) (n : ℤ) → l.cap < length cs * copy_count n → text_within l (repeated cs n) ≡ Err Length
+pub text_too_long : (l : Limits) (cs : List ℕ) (n : ℤ) → l.cap < length cs * copy_count n → text_within l (repeated cs n) ≡ Err (Fault Length)
 text_too_long l cs n h =
     ap (text_within l) (repeated_is cs n)
     ∙ beyond (copies (copy_count n) cs) l.cap _ _ (omega (arith, length_copies (copy_count n) cs))

@@ -2,8 +2,7 @@ pub mod Arms
 pub mod Copies
 pub mod Division
 pub mod Lookups
-pub mod Parameters
-pub mod Ranges
+pub mod Progressions
 pub mod Texts
 pub mod Turning
 pub mod Wholes

@@ -4,7 +4,7 @@ use Rattle.std.proofs.lemmas.List.{map-append, take_more, drop_more}
 use Rattle.std.specs.declared.result.Result.{Result}
 use Rattle.mpy_tree.specs.declared.value.Value.{Value}
 use Rattle.mpy_tree.specs.declared.value.Value.TheVariants.{Int}
-use Rattle.mpy_tree.specs.declared.outcome.FaultKind.{FaultKind}
+use Rattle.mpy_tree.specs.declared.outcome.Halt.{Halt}
 use Rattle.mpy_tree.specs.Values.{◌>>=◌}
 use Rattle.mpy_tree.specs.Operations.{numbers}
 use Rattle.mpy_tree.specs.Expressions.{wholes}
@@ -17,7 +17,7 @@ numbers_more xs i vs ws h so_far more =
     ∙ sym (map-append Int (take i xs) (get_or xs i (pos 0) ∷ []))
     ∙ ap numbers (sym (take_more xs i (pos 0) h))
 
-with_head : (r : Result (List ℤ) FaultKind) (xs : List ℤ) (z : ℤ) → ((r >>= λ zs. Ok (z ∷ zs)) >>= λ ws. Ok (xs ++ ws)) ≡ (r >>= λ zs. Ok ((xs ++ z ∷ []) ++ zs))
+with_head : (r : Result (List ℤ) Halt) (xs : List ℤ) (z : ℤ) → ((r >>= λ zs. Ok (z ∷ zs)) >>= λ ws. Ok (xs ++ ws)) ≡ (r >>= λ zs. Ok ((xs ++ z ∷ []) ++ zs))
 with_head (Ok zs) xs z = ap Ok (sym (append_assoc xs (z ∷ []) zs))
 with_head (Err e) xs z = refl
 

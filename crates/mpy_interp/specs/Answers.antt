@@ -3,21 +3,21 @@ use Rattle.std.specs.Prelude.{◌≡◌, ⊤, List, ◌++◌}
 use Rattle.std.specs.declared.result.Result.{Result}
 use Rattle.std.specs.declared.result.Result.TheVariants.{Ok, Err}
 use Rattle.mpy_tree.specs.declared.value.Value.{Value}
-use Rattle.mpy_tree.specs.declared.outcome.Fault.{Fault}
+use Rattle.mpy_tree.specs.declared.outcome.Halted.{Halted}
 use Rattle.mpy_interp.specs.declared.stop.Stop.{Stop}
-use Rattle.mpy_interp.specs.declared.stop.Stop.TheVariants.{Fault as Faulted, NoMemory}
+use Rattle.mpy_interp.specs.declared.stop.Stop.TheVariants as stop
 use Rattle.mpy_tree.specs.Values.{◌>>=◌}
 
 -- the answer, read by f, is what the definition gives, unless memory lacked
-abbrev pub MeetsBy : {A B : Type 0} → (A → B) → Result A Stop → Result B Fault → Type 0
+abbrev pub MeetsBy : {A B : Type 0} → (A → B) → Result A Stop → Result B Halted → Type 0
 MeetsBy f (Ok v) m = m ≡ Ok (f v)
-MeetsBy f (Err (Faulted e)) m = m ≡ Err e
-MeetsBy f (Err NoMemory) m = ⊤
+MeetsBy f (Err (stop.Halted h)) m = m ≡ Err h
+MeetsBy f (Err stop.NoMemory) m = ⊤
 
 -- the answer is what the definition gives, unless memory lacked
-abbrev pub Meets : {A : Type 0} → Result A Stop → Result A Fault → Type 0
+abbrev pub Meets : {A : Type 0} → Result A Stop → Result A Halted → Type 0
 Meets = MeetsBy (λ v. v)
 
 -- the values so far, and then the others
-abbrev pub after : List Value → Result (List Value) Fault → Result (List Value) Fault
+abbrev pub after : List Value → Result (List Value) Halted → Result (List Value) Halted
 after done r = r >>= λ vs. Ok (done ++ vs)

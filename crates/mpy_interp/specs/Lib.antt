@@ -1,4 +1,4 @@
 pub mod Answers
+pub mod Completions
 pub mod Copies
-pub mod Flows
 pub mod Frames

@@ -7,86 +7,77 @@ ghost use Rattle.mpy_tree.specs.Operations.{arith, append};
 ghost use Rattle.mpy_tree.specs.Statements.{set_by, set_at, set_at_by};
 
 use crate::calls::Calls;
-use crate::eval::eval;
 use crate::frame::Frame;
 use crate::lists::{append_to, element_at, replace_at};
+use crate::machine::Machine;
 use crate::operators::operate;
 use crate::stop::Stop;
-use mpy_tree::{ArithOp, Expr, Limits, Name, Value};
-use std::alloc::Global;
+use mpy_tree::{ArithOp, Expr, Name, Value};
 
-/// The new value of `x` in `x op= e`.
-pub fn augmented<C: Calls>(
-    alloc: Global,
-    l: &Limits,
-    calls: &C,
-    frame: &Frame<'_>,
-    line: u32,
-    x: &Name,
-    op: ArithOp,
-    e: &Expr,
-) -> Result<Value, Stop>
-    ensures { Meets result (set_by l.now (C.gives calls.now) (state_of frame.now) line x.now (arith l.now op) (term_of e.now)) }
-{
-    let v = frame.get(line, x)?;
-    let w = eval(alloc, l, calls, frame, line, e)?;
-    operate(alloc, l, line, op, &v, &w)
-}
+impl<C: Calls> Machine<'_, C> {
+    /// The new value of `x` in `x op= e`.
+    pub fn augmented(
+        &self,
+        frame: &Frame<'_>,
+        line: u32,
+        x: &Name,
+        op: ArithOp,
+        e: &Expr,
+    ) -> Result<Value, Stop>
+        ensures { Meets result (set_by self.now.limits.now (C.gives self.now.calls.now)
+            (state_of frame.now) line x.now (arith self.now.limits.now op) (term_of e.now)) }
+    {
+        let v = frame.get(line, x)?;
+        let w = self.eval(frame, line, e)?;
+        operate(self.alloc, self.limits, line, op, &v, &w)
+    }
 
-/// The new value of `x` in `x.append(e)`.
-pub fn appended<C: Calls>(
-    alloc: Global,
-    l: &Limits,
-    calls: &C,
-    frame: &Frame<'_>,
-    line: u32,
-    x: &Name,
-    e: &Expr,
-) -> Result<Value, Stop>
-    ensures { Meets result (set_by l.now (C.gives calls.now) (state_of frame.now) line x.now (append l.now) (term_of e.now)) }
-{
-    let v = frame.get(line, x)?;
-    let w = eval(alloc, l, calls, frame, line, e)?;
-    append_to(l, line, v, &w)
-}
+    /// The new value of `x` in `x.append(e)`.
+    pub fn appended(&self, frame: &Frame<'_>, line: u32, x: &Name, e: &Expr) -> Result<Value, Stop>
+        ensures { Meets result (set_by self.now.limits.now (C.gives self.now.calls.now)
+            (state_of frame.now) line x.now (append self.now.limits.now) (term_of e.now)) }
+    {
+        let v = frame.get(line, x)?;
+        let w = self.eval(frame, line, e)?;
+        append_to(self.limits, line, v, &w)
+    }
 
-/// The new value of `x` in `x[i] = e`.
-pub fn replaced<C: Calls>(
-    alloc: Global,
-    l: &Limits,
-    calls: &C,
-    frame: &Frame<'_>,
-    line: u32,
-    x: &Name,
-    i: &Expr,
-    e: &Expr,
-) -> Result<Value, Stop>
-    ensures { Meets result (set_at l.now (C.gives calls.now) (state_of frame.now) line x.now (term_of i.now) (term_of e.now)) }
-{
-    let w = eval(alloc, l, calls, frame, line, e)?;
-    let v = frame.get(line, x)?;
-    let k = eval(alloc, l, calls, frame, line, i)?;
-    replace_at(line, v, &k, &w)
-}
+    /// The new value of `x` in `x[i] = e`.
+    pub fn replaced(
+        &self,
+        frame: &Frame<'_>,
+        line: u32,
+        x: &Name,
+        i: &Expr,
+        e: &Expr,
+    ) -> Result<Value, Stop>
+        ensures { Meets result (set_at self.now.limits.now (C.gives self.now.calls.now)
+            (state_of frame.now) line x.now (term_of i.now) (term_of e.now)) }
+    {
+        let w = self.eval(frame, line, e)?;
+        let v = frame.get(line, x)?;
+        let k = self.eval(frame, line, i)?;
+        replace_at(line, v, &k, &w)
+    }
 
-/// The new value of `x` in `x[i] op= e`.
-pub fn replaced_by<C: Calls>(
-    alloc: Global,
-    l: &Limits,
-    calls: &C,
-    frame: &Frame<'_>,
-    line: u32,
-    x: &Name,
-    i: &Expr,
-    op: ArithOp,
-    e: &Expr,
-) -> Result<Value, Stop>
-    ensures { Meets result (set_at_by l.now (C.gives calls.now) (state_of frame.now) line x.now (term_of i.now) (arith l.now op) (term_of e.now)) }
-{
-    let v = frame.get(line, x)?;
-    let k = eval(alloc, l, calls, frame, line, i)?;
-    let old = element_at(alloc, line, &v, &k)?;
-    let w = eval(alloc, l, calls, frame, line, e)?;
-    let new = operate(alloc, l, line, op, &old, &w)?;
-    replace_at(line, v, &k, &new)
+    /// The new value of `x` in `x[i] op= e`.
+    pub fn replaced_by(
+        &self,
+        frame: &Frame<'_>,
+        line: u32,
+        x: &Name,
+        i: &Expr,
+        op: ArithOp,
+        e: &Expr,
+    ) -> Result<Value, Stop>
+        ensures { Meets result (set_at_by self.now.limits.now (C.gives self.now.calls.now)
+            (state_of frame.now) line x.now (term_of i.now) (arith self.now.limits.now op) (term_of e.now)) }
+    {
+        let v = frame.get(line, x)?;
+        let k = self.eval(frame, line, i)?;
+        let old = element_at(self.alloc, line, &v, &k)?;
+        let w = self.eval(frame, line, e)?;
+        let new = operate(self.alloc, self.limits, line, op, &old, &w)?;
+        replace_at(line, v, &k, &new)
+    }
 }

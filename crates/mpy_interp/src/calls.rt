@@ -2,7 +2,7 @@
 ghost use Rattle.std.specs.Prelude.{◌≡◌, ℕ, List};
 ghost use Rattle.std.specs.declared.result.Result.{Result};
 ghost use Rattle.mpy_tree.specs.declared.value.Value.{Value};
-ghost use Rattle.mpy_tree.specs.declared.outcome.Fault.{Fault};
+ghost use Rattle.mpy_tree.specs.declared.outcome.Halted.{Halted};
 ghost use Rattle.mpy_interp.specs.Answers.{Meets};
 
 use crate::stop::Stop;
@@ -11,8 +11,8 @@ use std::alloc::Global;
 
 /// What calls of the program's functions give.
 pub trait Calls {
-    ghost gives: { Self → List ℕ → List Value → ℕ → Result Value Fault };
+    ghost gives: { Self → List ℕ → List Value → ℕ → Result Value Halted };
 
-    fn call(&self, alloc: Global, f: &Name, args: &[Value], line: u32) -> Result<Value, Stop>
-        ensures { Meets result (gives self.now f.now args.now line) };
+    fn call(&self, alloc: Global, f: &Name, args: Vec<Value>, line: u32) -> Result<Value, Stop>
+        ensures { Meets result (gives self.now f.now args.items line) };
 }

@@ -4,7 +4,7 @@ ghost use Rattle.mpy_interp.specs.Answers.{Meets};
 ghost use Rattle.mpy_tree.specs.Values.{on_line};
 ghost use Rattle.mpy_tree.specs.Operations.{holds, compare, equal, truth, has_number, is_front, is_part, member};
 
-use crate::stop::{Stop, WRONG_TYPE, faulted};
+use crate::stop::{Stop, stuck};
 use mpy_tree::{CmpOp, Value};
 
 /// What a value is as a test.
@@ -55,7 +55,7 @@ fn compare_numbers(op: CmpOp, line: u32, a: &Value, b: &Value) -> Result<bool, S
             CmpOp::Gt => *b < *a,
             _ => *b <= *a,
         }),
-        _ => Err(faulted(WRONG_TYPE, line)),
+        _ => Err(stuck(line)),
     }
 }
 
@@ -68,7 +68,7 @@ fn equals(line: u32, a: &Value, b: &Value) -> Result<bool, Stop>
         (Value::Bool(a), Value::Bool(b)) => Ok(*a == *b),
         (Value::List(a), Value::List(b)) => Ok(a.items() == b.items()),
         (Value::Text(a), Value::Text(b)) => Ok(a.bytes() == b.bytes()),
-        _ => Err(faulted(WRONG_TYPE, line)),
+        _ => Err(stuck(line)),
     }
 }
 
@@ -79,7 +79,7 @@ fn contains(line: u32, a: &Value, b: &Value) -> Result<bool, Stop>
     match (a, b) {
         (Value::Int(z), Value::List(xs)) => Ok(contains_number(xs.items(), *z)),
         (Value::Text(cs), Value::Text(ds)) => Ok(contains_text(ds.bytes(), cs.bytes())),
-        _ => Err(faulted(WRONG_TYPE, line)),
+        _ => Err(stuck(line)),
     }
 }
 

@@ -2,230 +2,211 @@
 ghost use Rattle.std.specs.Prelude.{◌≡◌, ℕ, List};
 ghost use Rattle.std.specs.declared.result.Result.{Result};
 ghost use Rattle.mpy_tree.specs.declared.value.Value.{Value};
-ghost use Rattle.mpy_tree.specs.declared.outcome.Fault.{Fault};
+ghost use Rattle.mpy_tree.specs.declared.outcome.Halted.{Halted};
 ghost use Rattle.mpy_tree.specs.Syntax as ast;
 ghost use Rattle.mpy_tree.specs.View.{term_of, maybe_term, action_of, block_of, branches_of, block_or_none};
 ghost use Rattle.mpy_interp.specs.Answers.{Meets};
-ghost use Rattle.mpy_interp.specs.Flows.{EndsAs, ArmsEndAs};
+ghost use Rattle.mpy_interp.specs.Completions.{EndsAs};
 ghost use Rattle.mpy_interp.specs.Frames.{state_of};
 ghost use Rattle.mpy_tree.specs.Statements.{store, give, run_block, run_action, run_arms, run_else};
 
-use crate::assignments::{appended, augmented, replaced, replaced_by};
 use crate::calls::Calls;
 use crate::comparisons::is_true;
-use crate::eval::eval;
 use crate::frame::Frame;
 use crate::lists::members_of;
+use crate::machine::Machine;
 use crate::stop::{Stop, faulted};
-use mpy_tree::{Act, Arms, Expr, FaultKind, Limits, Name, Stmts, Value};
-use std::alloc::Global;
+use mpy_tree::{Act, Arms, Expr, FaultKind, Name, Stmts, Value};
 
-/// How statements end.
+/// How statements complete, where nothing stops them.
 #[derive(Drop)]
-pub enum Flow {
+pub enum Completion {
     Next,
     Broke,
     Continued,
     Returned(Value),
 }
 
-/// Runs a body.
-#[cycle(exec)]
-pub fn exec_block<C: Calls>(
-    alloc: Global,
-    l: &Limits,
-    calls: &C,
-    frame: &mut Frame<'_>,
-    body: &Stmts,
-) -> Result<Flow, Stop>
-    ensures { EndsAs result (state_of frame.new) (run_block l.now (C.gives calls.now) (block_of body.now) (state_of frame.old)) }
-{
-    for s in &body.items {
-        match exec_act(alloc, l, calls, frame, s.line, &s.act)? {
-            Flow::Next => {}
-            Flow::Broke => return Ok(Flow::Broke),
-            Flow::Continued => return Ok(Flow::Continued),
-            Flow::Returned(v) => return Ok(Flow::Returned(v)),
-        }
-    }
-    Ok(Flow::Next)
-}
-
-// Runs one statement.
-#[cycle(exec)]
-fn exec_act<C: Calls>(
-    alloc: Global,
-    l: &Limits,
-    calls: &C,
-    frame: &mut Frame<'_>,
-    line: u32,
-    act: &Act,
-) -> Result<Flow, Stop>
-    ensures { EndsAs result (state_of frame.new) (run_action l.now (C.gives calls.now) (action_of act.now) line (state_of frame.old)) }
-{
-    match act {
-        Act::Assign(x, e) => {
-            let v = eval(alloc, l, calls, frame, line, e);
-            stored(frame, x, v)
-        }
-        Act::Augment(x, op, e) => {
-            let v = augmented(alloc, l, calls, frame, line, x, *op, e);
-            stored(frame, x, v)
-        }
-        Act::Put(x, i, e) => {
-            let v = replaced(alloc, l, calls, frame, line, x, i, e);
-            stored(frame, x, v)
-        }
-        Act::AugmentAt(x, i, op, e) => {
-            let v = replaced_by(alloc, l, calls, frame, line, x, i, *op, e);
-            stored(frame, x, v)
-        }
-        Act::Append(x, e) => {
-            let v = appended(alloc, l, calls, frame, line, x, e);
-            stored(frame, x, v)
-        }
-        Act::Return(e) => exec_return(alloc, l, calls, frame, line, e),
-        Act::Pass => Ok(Flow::Next),
-        Act::Break => Ok(Flow::Broke),
-        Act::Continue => Ok(Flow::Continued),
-        Act::If(arms, last) => match exec_arms(alloc, l, calls, frame, arms)? {
-            Some(flow) => Ok(flow),
-            None => exec_else(alloc, l, calls, frame, last),
-        },
-        Act::While(e, body) => exec_while(alloc, l, calls, frame, body, line, e),
-        Act::For(x, e, body) => exec_for(alloc, l, calls, frame, body, line, x, e),
-    }
-}
-
 // Sets a local to what was computed.
-fn stored(frame: &mut Frame<'_>, x: &Name, v: Result<Value, Stop>) -> Result<Flow, Stop>
-    ensures { (m : Result Value Fault) → Meets v m → EndsAs result (state_of frame.new) (store (state_of frame.old) x.now m) }
+fn stored<'a>(
+    frame: &mut Frame<'a>,
+    x: &'a Name,
+    v: Result<Value, Stop>,
+) -> Result<Completion, Stop>
+    ensures { (m : Result Value Halted) → Meets v m
+        → EndsAs result (state_of frame.new) (store (state_of frame.old) x.now m) }
 {
     frame.set(x, v?)?;
-    Ok(Flow::Next)
+    Ok(Completion::Next)
 }
 
-// Runs a `return`.
-fn exec_return<C: Calls>(
-    alloc: Global,
-    l: &Limits,
-    calls: &C,
-    frame: &Frame<'_>,
-    line: u32,
-    e: &Option<Expr>,
-) -> Result<Flow, Stop>
-    ensures { EndsAs result (state_of frame.now) (give l.now (C.gives calls.now) (state_of frame.now) line (maybe_term e.now)) }
-{
-    match e {
-        None => Err(faulted(FaultKind::NoValue, line)),
-        Some(e) => {
-            let v = eval(alloc, l, calls, frame, line, e)?;
-            Ok(Flow::Returned(v))
+impl<C: Calls> Machine<'_, C> {
+    /// Runs a body.
+    #[cycle(exec)]
+    pub fn exec_block<'a>(&self, frame: &mut Frame<'a>, body: &'a Stmts) -> Result<Completion, Stop>
+        ensures { EndsAs result (state_of frame.new) (run_block self.now.limits.now (C.gives self.now.calls.now)
+            (block_of body.now) (state_of frame.old)) }
+    {
+        for s in &body.items {
+            match self.exec_act(frame, s.line, &s.act)? {
+                Completion::Next => {}
+                Completion::Broke => return Ok(Completion::Broke),
+                Completion::Continued => return Ok(Completion::Continued),
+                Completion::Returned(v) => return Ok(Completion::Returned(v)),
+            }
         }
+        Ok(Completion::Next)
     }
-}
 
-// Runs the first arm whose test holds.
-#[cycle(exec)]
-fn exec_arms<C: Calls>(
-    alloc: Global,
-    l: &Limits,
-    calls: &C,
-    frame: &mut Frame<'_>,
-    arms: &Arms,
-) -> Result<Option<Flow>, Stop>
-    ensures { ArmsEndAs result (state_of frame.new) (state_of frame.old) (run_arms l.now (C.gives calls.now) (branches_of arms.now) (state_of frame.old)) }
-{
-    for arm in &arms.items {
-        let v = eval(alloc, l, calls, frame, arm.line, &arm.test)?;
-        if is_true(&v) {
-            let flow = exec_block(alloc, l, calls, frame, &arm.body)?;
-            return Ok(Some(flow));
+    // Runs one statement.
+    #[cycle(exec)]
+    fn exec_act<'a>(
+        &self,
+        frame: &mut Frame<'a>,
+        line: u32,
+        act: &'a Act,
+    ) -> Result<Completion, Stop>
+        ensures { EndsAs result (state_of frame.new) (run_action self.now.limits.now (C.gives self.now.calls.now)
+            (action_of act.now) line (state_of frame.old)) }
+    {
+        match act {
+            Act::Assign(x, e) => {
+                let v = self.eval(frame, line, e);
+                stored(frame, x, v)
+            }
+            Act::Augment(x, op, e) => {
+                let v = self.augmented(frame, line, x, *op, e);
+                stored(frame, x, v)
+            }
+            Act::Put(x, i, e) => {
+                let v = self.replaced(frame, line, x, i, e);
+                stored(frame, x, v)
+            }
+            Act::AugmentAt(x, i, op, e) => {
+                let v = self.replaced_by(frame, line, x, i, *op, e);
+                stored(frame, x, v)
+            }
+            Act::Append(x, e) => {
+                let v = self.appended(frame, line, x, e);
+                stored(frame, x, v)
+            }
+            Act::Return(e) => self.exec_return(frame, line, e),
+            Act::Pass => Ok(Completion::Next),
+            Act::Break => Ok(Completion::Broke),
+            Act::Continue => Ok(Completion::Continued),
+            Act::If(arms, last) => self.exec_if(frame, arms, last),
+            Act::While(e, body) => self.exec_while(frame, body, line, e),
+            Act::For(x, e, body) => self.exec_for(frame, body, line, x, e),
         }
     }
-    Ok(None)
-}
 
-// Runs the body of an `else`.
-#[cycle(exec)]
-fn exec_else<C: Calls>(
-    alloc: Global,
-    l: &Limits,
-    calls: &C,
-    frame: &mut Frame<'_>,
-    last: &Option<Stmts>,
-) -> Result<Flow, Stop>
-    ensures { EndsAs result (state_of frame.new) (run_else l.now (C.gives calls.now) (block_or_none last.now) (state_of frame.old)) }
-{
-    match last {
-        None => Ok(Flow::Next),
-        Some(body) => exec_block(alloc, l, calls, frame, body),
+    // Runs a `return`.
+    fn exec_return(
+        &self,
+        frame: &Frame<'_>,
+        line: u32,
+        e: &Option<Expr>,
+    ) -> Result<Completion, Stop>
+        ensures { EndsAs result (state_of frame.now) (give self.now.limits.now (C.gives self.now.calls.now)
+            (state_of frame.now) line (maybe_term e.now)) }
+    {
+        match e {
+            None => Err(faulted(FaultKind::NoValue, line)),
+            Some(e) => {
+                let v = self.eval(frame, line, e)?;
+                Ok(Completion::Returned(v))
+            }
+        }
     }
-}
 
-// Runs a `while`.
-#[tactic(auto, using(crate::proofs::Turning::one_turn))]
-#[cycle(exec)]
-fn exec_while<C: Calls>(
-    alloc: Global,
-    l: &Limits,
-    calls: &C,
-    frame: &mut Frame<'_>,
-    body: &Stmts,
-    line: u32,
-    test: &Expr,
-) -> Result<Flow, Stop>
-    ensures { EndsAs result (state_of frame.new) (run_action l.now (C.gives calls.now) (ast.While (term_of test.now) (block_of body.now)) line (state_of frame.old)) }
-{
-    let mut left = l.turns;
-    'turns: loop {
-        let v = eval(alloc, l, calls, frame, line, test)?;
-        if !is_true(&v) {
-            return Ok(Flow::Next);
+    // Runs the first arm whose test holds, or else the last body.
+    #[cycle(exec)]
+    fn exec_if<'a>(
+        &self,
+        frame: &mut Frame<'a>,
+        arms: &'a Arms,
+        last: &'a Option<Stmts>,
+    ) -> Result<Completion, Stop>
+        ensures { EndsAs result (state_of frame.new) (run_arms self.now.limits.now (C.gives self.now.calls.now)
+            (branches_of arms.now)
+            (run_else self.now.limits.now (C.gives self.now.calls.now)
+            (block_or_none last.now) (state_of frame.old))
+            (state_of frame.old)) }
+    {
+        for arm in &arms.items {
+            let v = self.eval(frame, arm.line, &arm.test)?;
+            if is_true(&v) {
+                return self.exec_block(frame, &arm.body);
+            }
         }
-        if left == 0 {
-            return Err(faulted(FaultKind::Turns, line));
+        match last {
+            None => Ok(Completion::Next),
+            Some(body) => self.exec_block(frame, body),
         }
-        match exec_block(alloc, l, calls, frame, body)? {
-            Flow::Next => {}
-            Flow::Continued => {}
-            Flow::Broke => return Ok(Flow::Next),
-            Flow::Returned(v) => return Ok(Flow::Returned(v)),
-        }
-        left -= 1;
     }
-}
 
-// Runs a `for`.
-#[tactic(auto, using(crate::proofs::Turning::one_member))]
-#[cycle(exec)]
-fn exec_for<C: Calls>(
-    alloc: Global,
-    l: &Limits,
-    calls: &C,
-    frame: &mut Frame<'_>,
-    body: &Stmts,
-    line: u32,
-    x: &Name,
-    e: &Expr,
-) -> Result<Flow, Stop>
-    ensures { EndsAs result (state_of frame.new) (run_action l.now (C.gives calls.now) (ast.For x.now (term_of e.now) (block_of body.now)) line (state_of frame.old)) }
-{
-    let list = eval(alloc, l, calls, frame, line, e)?;
-    let values = members_of(alloc, line, &list)?;
-    let mut turns = l.turns;
-    for v in &values {
-        if turns == 0 {
-            return Err(faulted(FaultKind::Turns, line));
+    // Runs a `while`.
+    #[tactic(auto, using(crate::proofs::Turning::one_turn, crate::proofs::Turning::no_turn))]
+    #[cycle(exec)]
+    fn exec_while<'a>(
+        &self,
+        frame: &mut Frame<'a>,
+        body: &'a Stmts,
+        line: u32,
+        test: &Expr,
+    ) -> Result<Completion, Stop>
+        ensures { EndsAs result (state_of frame.new) (run_action self.now.limits.now (C.gives self.now.calls.now)
+            (ast.While (term_of test.now) (block_of body.now)) line (state_of frame.old)) }
+    {
+        let mut left = self.limits.turns;
+        'turns: loop {
+            let v = self.eval(frame, line, test)?;
+            if !is_true(&v) {
+                return Ok(Completion::Next);
+            }
+            if left == 0 {
+                return Err(faulted(FaultKind::Turns, line));
+            }
+            match self.exec_block(frame, body)? {
+                Completion::Next => {}
+                Completion::Continued => {}
+                Completion::Broke => return Ok(Completion::Next),
+                Completion::Returned(v) => return Ok(Completion::Returned(v)),
+            }
+            left -= 1;
         }
-        frame.set(x, v.copy()?)?;
-        match exec_block(alloc, l, calls, frame, body)? {
-            Flow::Next => {}
-            Flow::Continued => {}
-            Flow::Broke => return Ok(Flow::Next),
-            Flow::Returned(v) => return Ok(Flow::Returned(v)),
-        }
-        turns -= 1;
     }
-    Ok(Flow::Next)
+
+    // Runs a `for`.
+    #[tactic(auto, using(crate::proofs::Turning::one_member))]
+    #[cycle(exec)]
+    fn exec_for<'a>(
+        &self,
+        frame: &mut Frame<'a>,
+        body: &'a Stmts,
+        line: u32,
+        x: &'a Name,
+        e: &Expr,
+    ) -> Result<Completion, Stop>
+        ensures { EndsAs result (state_of frame.new) (run_action self.now.limits.now (C.gives self.now.calls.now)
+            (ast.For x.now (term_of e.now) (block_of body.now)) line (state_of frame.old)) }
+    {
+        let list = self.eval(frame, line, e)?;
+        let values = members_of(self.alloc, line, &list)?;
+        let mut turns = self.limits.turns;
+        for v in &values {
+            if turns == 0 {
+                return Err(faulted(FaultKind::Turns, line));
+            }
+            frame.set(x, v.copy()?)?;
+            match self.exec_block(frame, body)? {
+                Completion::Next => {}
+                Completion::Continued => {}
+                Completion::Broke => return Ok(Completion::Next),
+                Completion::Returned(v) => return Ok(Completion::Returned(v)),
+            }
+            turns -= 1;
+        }
+        Ok(Completion::Next)
+    }
 }

@@ -1,39 +1,39 @@
 //! The locals of a call.
-ghost use Rattle.std.specs.Prelude.{◌≡◌, OnOk};
+ghost use Rattle.std.specs.Prelude.{◌≡◌, IfOk, OnOk};
 ghost use Rattle.mpy_interp.specs.Answers.{Meets};
 ghost use Rattle.mpy_tree.specs.Values.{on_line, set_or_fault, assign};
 ghost use Rattle.mpy_tree.specs.Running.{bound};
 ghost use Rattle.mpy_interp.specs.Frames.{place_of, state_of};
 
 use crate::stop::{Stop, faulted};
-use mpy_tree::{FaultKind, Name, Names, NoMemory, Value};
+use mpy_tree::{FaultKind, Name, NoMemory, Value};
 use std::alloc::Global;
 
-/// A local that was assigned.
+/// A local that is set, by its name in the program.
 #[derive(Drop)]
-pub struct Binding {
-    pub name: Name,
+pub struct Binding<'a> {
+    pub name: &'a Name,
     pub value: Value,
 }
 
-/// The locals of a call: the parameters with the arguments, and before them what was assigned.
+/// The locals of a call, in the order in which they were set.
 #[derive(Drop)]
 pub struct Frame<'a> {
-    pub params: &'a [Name],
-    pub args: &'a [Value],
-    pub locals: Vec<Binding>,
+    pub locals: Vec<Binding<'a>>,
 }
 
 impl<'a> Frame<'a> {
-    /// The parameters have the arguments. Nothing is allocated before the first assignment.
-    pub fn new(alloc: Global, params: &'a Names, args: &'a [Value]) -> Frame<'a>
-        ensures { state_of result ≡ bound params.now args.now }
+    /// The parameters have the arguments.
+    pub fn bind(alloc: Global, params: &'a [Name], args: Vec<Value>) -> Result<Frame<'a>, NoMemory>
+        ensures { IfOk result (λ f. state_of f ≡ bound params.now args.items) }
     {
-        Frame {
-            params: params.items(),
-            args,
-            locals: Vec::new(alloc),
+        let mut locals = Vec::new(alloc);
+        for value in args {
+            if let Some(name) = params.get(locals.len()) {
+                locals.push(Binding { name, value })?;
+            }
         }
+        Ok(Frame { locals })
     }
 
     /// A copy of the value of a local.
@@ -41,23 +41,20 @@ impl<'a> Frame<'a> {
         ensures { Meets result (on_line line (set_or_fault (state_of self.now x.now))) }
     {
         for b in &self.locals {
-            if x.is(&b.name) {
+            if x.is(b.name) {
                 return Ok(b.value.copy()?);
             }
         }
-        argument(line, self.params, self.args, x)
+        Err(faulted(FaultKind::Unset, line))
     }
 
     /// A local is set to a value.
-    pub fn set(&mut self, x: &Name, v: Value) -> Result<(), NoMemory>
+    pub fn set(&mut self, x: &'a Name, v: Value) -> Result<(), NoMemory>
         ensures { OnOk result (state_of self.new ≡ assign (state_of self.old) x.now v) }
     {
         match self.place(x) {
             Some(k) => self.locals[k].value = v,
-            None => {
-                let name = x.copy()?;
-                self.locals.push(Binding { name, value: v })?;
-            }
+            None => self.locals.push(Binding { name: x, value: v })?,
         }
         Ok(())
     }
@@ -66,22 +63,6 @@ impl<'a> Frame<'a> {
     fn place(&self, x: &Name) -> Option<usize>
         ensures { result ≡ place_of self.now.locals.items x.now }
     {
-        self.locals.iter().position(|b| x.is(&b.name))
+        self.locals.iter().position(|b| x.is(b.name))
     }
-}
-
-// A copy of the argument of a parameter.
-#[tactic(auto, using(crate::proofs::Parameters::bound_more))]
-fn argument(line: u32, params: &[Name], args: &[Value], x: &Name) -> Result<Value, Stop>
-    ensures { Meets result (on_line line (set_or_fault (bound params.now args.now x.now))) }
-{
-    for (i, p) in params.iter().enumerate() {
-        if x.is(p) {
-            return match args.get(i) {
-                None => Err(faulted(FaultKind::Unset, line)),
-                Some(v) => Ok(v.copy()?),
-            };
-        }
-    }
-    Err(faulted(FaultKind::Unset, line))
 }

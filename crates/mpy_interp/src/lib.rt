@@ -9,9 +9,11 @@ mod eval;
 mod exec;
 mod frame;
 mod lists;
+mod machine;
 mod numbers;
 mod operators;
 mod program;
+mod ranges;
 mod stop;
 
 pub use program::run;

@@ -6,7 +6,7 @@ ghost use Rattle.mpy_tree.specs.Values.{on_line};
 ghost use Rattle.mpy_tree.specs.Operations.{list_within, text_within, repeated, index, index_in, element, slice, end_or, put, append, members, numbers, cut};
 ghost use Rattle.mpy_tree.specs.Expressions.{wholes, list_of, end_of, slice_of};
 
-use crate::stop::{Stop, WRONG_TYPE, faulted};
+use crate::stop::{Stop, faulted, stuck};
 use mpy_tree::{Chars, FaultKind, Ints, Limits, NoMemory, Value};
 use std::alloc::Global;
 
@@ -55,7 +55,7 @@ pub fn numbers_of(alloc: Global, line: u32, values: &[Value]) -> Result<Vec<i32>
     for v in values {
         match v {
             Value::Int(z) => numbers.push(*z)?,
-            _ => return Err(faulted(WRONG_TYPE, line)),
+            _ => return Err(stuck(line)),
         }
     }
     Ok(numbers)
@@ -125,7 +125,7 @@ pub fn element_at(alloc: Global, line: u32, v: &Value, i: &Value) -> Result<Valu
     match (v, i) {
         (Value::List(xs), Value::Int(i)) => Ok(Value::Int(number_at(line, xs, *i)?)),
         (Value::Text(cs), Value::Int(i)) => character_at(alloc, line, cs, *i),
-        _ => Err(faulted(WRONG_TYPE, line)),
+        _ => Err(stuck(line)),
     }
 }
 
@@ -183,7 +183,7 @@ pub fn part_between(
     match v {
         Value::List(xs) => Ok(Value::List(part_of_list(alloc, xs, start, end)?)),
         Value::Text(cs) => Ok(Value::Text(part_of_text(alloc, cs, start, end)?)),
-        _ => Err(faulted(WRONG_TYPE, line)),
+        _ => Err(stuck(line)),
     }
 }
 
@@ -194,7 +194,7 @@ fn end_number(line: u32, v: Option<Value>) -> Result<Option<i32>, Stop>
     match v {
         None => Ok(None),
         Some(Value::Int(z)) => Ok(Some(z)),
-        Some(_) => Err(faulted(WRONG_TYPE, line)),
+        Some(_) => Err(stuck(line)),
     }
 }
 
@@ -248,7 +248,7 @@ pub fn replace_at(line: u32, v: Value, i: &Value, w: &Value) -> Result<Value, St
 {
     match (v, i) {
         (Value::List(xs), Value::Int(i)) => replace_number(line, xs, *i, w),
-        _ => Err(faulted(WRONG_TYPE, line)),
+        _ => Err(stuck(line)),
     }
 }
 
@@ -263,7 +263,7 @@ fn replace_number(line: u32, xs: Ints, i: i32, w: &Value) -> Result<Value, Stop>
             items[k] = *z;
             Ok(Value::List(Ints::from_vec(items)))
         }
-        (Some(_), _) => Err(faulted(WRONG_TYPE, line)),
+        (Some(_), _) => Err(stuck(line)),
     }
 }
 
@@ -273,7 +273,7 @@ pub fn append_to(l: &Limits, line: u32, v: Value, w: &Value) -> Result<Value, St
 {
     match (v, w) {
         (Value::List(xs), Value::Int(z)) => append_number(l, line, xs, *z),
-        _ => Err(faulted(WRONG_TYPE, line)),
+        _ => Err(stuck(line)),
     }
 }
 
@@ -294,7 +294,7 @@ pub fn members_of(alloc: Global, line: u32, v: &Value) -> Result<Vec<Value>, Sto
     match v {
         Value::List(xs) => Ok(number_values(alloc, xs.items())?),
         Value::Text(cs) => Ok(text_values(alloc, cs.characters(alloc)?)?),
-        _ => Err(faulted(WRONG_TYPE, line)),
+        _ => Err(stuck(line)),
     }
 }
 

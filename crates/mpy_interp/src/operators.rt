@@ -6,7 +6,7 @@ ghost use Rattle.mpy_tree.specs.Operations.{arith, sum, product, negative};
 
 use crate::lists::{join_lists, join_texts, repeat_list, repeat_text};
 use crate::numbers::{divide, make_number, modulo, raise};
-use crate::stop::{Stop, WRONG_TYPE, faulted};
+use crate::stop::{Stop, stuck};
 use mpy_tree::{ArithOp, Limits, Value};
 use std::alloc::Global;
 
@@ -16,7 +16,7 @@ pub fn negate(l: &Limits, line: u32, v: &Value) -> Result<Value, Stop>
 {
     match v {
         Value::Int(a) => make_number(l, line, -(*a as i64)),
-        _ => Err(faulted(WRONG_TYPE, line)),
+        _ => Err(stuck(line)),
     }
 }
 
@@ -49,7 +49,7 @@ fn add(alloc: Global, l: &Limits, line: u32, a: &Value, b: &Value) -> Result<Val
         (Value::Int(a), Value::Int(b)) => make_number(l, line, *a as i64 + *b as i64),
         (Value::List(xs), Value::List(ys)) => join_lists(alloc, l, line, xs, ys),
         (Value::Text(cs), Value::Text(ds)) => join_texts(alloc, l, line, cs, ds),
-        _ => Err(faulted(WRONG_TYPE, line)),
+        _ => Err(stuck(line)),
     }
 }
 
@@ -61,7 +61,7 @@ fn multiply(alloc: Global, l: &Limits, line: u32, a: &Value, b: &Value) -> Resul
         (Value::Int(a), Value::Int(b)) => make_number(l, line, *a as i64 * *b as i64),
         (Value::List(xs), Value::Int(n)) => repeat_list(alloc, l, line, xs, *n),
         (Value::Text(cs), Value::Int(n)) => repeat_text(alloc, l, line, cs, *n),
-        _ => Err(faulted(WRONG_TYPE, line)),
+        _ => Err(stuck(line)),
     }
 }
 
@@ -83,6 +83,6 @@ fn operate_on_numbers(
             ArithOp::Power => raise(l, line, *a, *b),
             _ => make_number(l, line, *a as i64 - *b as i64),
         },
-        _ => Err(faulted(WRONG_TYPE, line)),
+        _ => Err(stuck(line)),
     }
 }

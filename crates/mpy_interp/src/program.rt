@@ -1,21 +1,21 @@
 //! What a program gives on its arguments.
-ghost use Rattle.std.specs.Prelude.{◌≡◌, IfOk};
+ghost use Rattle.std.specs.Prelude.{◌≡◌, IfOk, Some};
 ghost use Rattle.mpy_tree.specs.View.{routine_of, routines_of};
 ghost use Rattle.mpy_interp.specs.Answers.{Meets};
-ghost use Rattle.mpy_tree.specs.Running.{no_calls, found, enter, entered, evaluated};
+ghost use Rattle.mpy_tree.specs.Running.{no_calls, found, enter, evaluated};
 ghost use Rattle.mpy_tree.specs.Outcomes.{run_outcome};
 
 use crate::calls::Calls;
-use crate::exec::{Flow, exec_block};
+use crate::exec::Completion;
 use crate::frame::Frame;
-use crate::stop::{Stop, WRONG_TYPE, faulted};
+use crate::machine::Machine;
+use crate::stop::{Stop, faulted, stuck};
 use mpy_tree::{FaultKind, Func, Limits, Name, NoMemory, Outcome, Prog, Types, Value, Values};
 use std::alloc::{AllocError, Global};
 
 /// How a run of the program ends on these arguments, of which the function `entry` is called.
 ///
-/// The program needn't be typed: an operator whose operands it doesn't take gives a fault. So the types
-/// aren't looked at.
+/// The program needn't be typed: where it is stuck, the fault is Unset. So the types aren't looked at.
 pub fn run(
     alloc: Global,
     p: &Prog,
@@ -26,11 +26,11 @@ pub fn run(
 ) -> Result<Outcome, NoMemory>
     ensures { IfOk result (λ o. o ≡ run_outcome l.now (routines_of p.now) entry.now args.now) }
 {
-    match evaluate(alloc, p, l, entry, args.items()) {
+    match evaluate(alloc, p, l, entry, args.copy()?.into_vec()) {
         Ok(v) => Ok(Outcome::Value(v)),
-        Err(Stop::Fault(f)) => Ok(Outcome::Fault {
-            kind: f.kind,
-            line: f.line,
+        Err(Stop::Halted(h)) => Ok(Outcome::Fault {
+            kind: h.halt.told(),
+            line: h.line,
         }),
         Err(Stop::NoMemory) => Err(AllocError),
     }
@@ -43,7 +43,7 @@ struct NoCalls;
 impl Calls for NoCalls {
     ghost gives = { λ _. no_calls };
 
-    fn call(&self, _alloc: Global, _f: &Name, _args: &[Value], line: u32) -> Result<Value, Stop> {
+    fn call(&self, _alloc: Global, _f: &Name, _args: Vec<Value>, line: u32) -> Result<Value, Stop> {
         Err(faulted(FaultKind::Depth, line))
     }
 }
@@ -57,32 +57,39 @@ struct Deeper<'a, C: Calls> {
 }
 
 impl<C: Calls> Calls for Deeper<'_, C> {
-    ghost gives = { λ d f vs line. enter d.limits.now (C.gives d.below) (found (routines_of d.program.now) f) vs line };
+    ghost gives = { λ d f vs line.
+        enter d.limits.now (C.gives d.below) (found (routines_of d.program.now) f) vs line };
 
-    fn call(&self, alloc: Global, f: &Name, args: &[Value], line: u32) -> Result<Value, Stop> {
+    fn call(&self, alloc: Global, f: &Name, args: Vec<Value>, line: u32) -> Result<Value, Stop> {
+        let machine = Machine {
+            alloc,
+            limits: self.limits,
+            calls: &self.below,
+        };
         for func in &self.program.funcs.items {
             if f.is(&func.name) {
-                return enter_func(alloc, self.limits, &self.below, func, args);
+                return machine.enter(func, args, line);
             }
         }
-        Err(faulted(WRONG_TYPE, line))
+        Err(stuck(line))
     }
 }
 
-// Runs a function's body.
-fn enter_func<C: Calls>(
-    alloc: Global,
-    l: &Limits,
-    calls: &C,
-    func: &Func,
-    args: &[Value],
-) -> Result<Value, Stop>
-    ensures { Meets result (entered l.now (C.gives calls.now) (routine_of func.now) args.now) }
-{
-    let mut frame = Frame::new(alloc, &func.params, args);
-    match exec_block(alloc, l, calls, &mut frame, &func.body)? {
-        Flow::Returned(v) => Ok(v),
-        _ => Err(faulted(FaultKind::NoValue, func.line)),
+impl<C: Calls> Machine<'_, C> {
+    // Runs a function's body on its arguments, for a call on a line.
+    fn enter(&self, func: &Func, args: Vec<Value>, line: u32) -> Result<Value, Stop>
+        ensures { Meets result (enter self.now.limits.now (C.gives self.now.calls.now)
+            (Some (routine_of func.now)) args.items line) }
+    {
+        let params = func.params.items();
+        if args.len() != params.len() {
+            return Err(stuck(line));
+        }
+        let mut frame = Frame::bind(self.alloc, params, args)?;
+        match self.exec_block(&mut frame, &func.body)? {
+            Completion::Returned(v) => Ok(v),
+            _ => Err(faulted(FaultKind::NoValue, func.line)),
+        }
     }
 }
 
@@ -93,9 +100,9 @@ fn evaluate(
     p: &Prog,
     l: &Limits,
     entry: &Name,
-    args: &[Value],
+    args: Vec<Value>,
 ) -> Result<Value, Stop>
-    ensures { Meets result (evaluated l.now (routines_of p.now) entry.now args.now) }
+    ensures { Meets result (evaluated l.now (routines_of p.now) entry.now args.items) }
 {
     let one = Deeper {
         limits: l,

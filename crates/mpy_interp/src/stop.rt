@@ -1,18 +1,15 @@
 //! Why an evaluation has no value.
 ghost use Rattle.std.specs.Prelude.{◌≡◌};
-ghost use Rattle.mpy_tree.specs.Values.{fault};
+ghost use Rattle.mpy_tree.specs.Values.{fault, stuck};
 ghost use Rattle.mpy_interp.specs.declared.stop.Stop.TheVariants.{NoMemory};
 
-use mpy_tree::{Fault, FaultKind};
+use mpy_tree::{FaultKind, Halt, Halted};
 use std::alloc::{AllocError, AllocFailed};
-
-/// The fault where operands have no type that the operator takes. No typed program comes there.
-pub const WRONG_TYPE: FaultKind = FaultKind::Unset;
 
 /// Why an evaluation has no value.
 #[derive(Drop)]
 pub enum Stop {
-    Fault(Fault),
+    Halted(Halted),
     NoMemory,
 }
 
@@ -34,7 +31,16 @@ impl<T: Drop> From<AllocFailed<T>> for Stop {
 
 /// A fault on a line.
 pub fn faulted(kind: FaultKind, line: u32) -> Stop
-    ensures { result ≡ Stop.Fault (fault kind line) }
+    ensures { result ≡ Stop.Halted (fault kind line) }
 {
-    Stop::Fault(Fault { kind, line })
+    let halt = Halt::Fault(kind);
+    Stop::Halted(Halted { halt, line })
+}
+
+/// Operands that an operator doesn't take, or a call that no function takes, on a line.
+pub fn stuck(line: u32) -> Stop
+    ensures { result ≡ Stop.Halted (stuck line) }
+{
+    let halt = Halt::Stuck;
+    Stop::Halted(Halted { halt, line })
 }

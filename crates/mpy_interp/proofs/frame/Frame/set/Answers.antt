@@ -1,15 +1,13 @@
 use Rattle.std.proofs.Common.{refl, sym, ◌∙◌}
-use Rattle.mpy_tree.specs.Running.{bound}
 use Rattle.mpy_interp.proofs.Lookups.{set_known, set_unknown}
 use Rattle.mpy_interp.proofs.frame.Frame.set.Goals as goal
 
 pub returns-in-Some : goal.returns-in-Some
 returns-in-Some c =
     let f = c.args.self.now in
-    set_known f.locals.items c.in-Some.k c.index_mut.result.now _ c.args.x.now c.args.v (bound f.params.now f.args.now) (sym c.place.ensures ∙ c.in-Some.is) c.index_mut.ensures.value refl refl
+    set_known f.locals.items c.in-Some.k c.index_mut.result.now _ c.args.x.now c.args.v (sym c.place.ensures ∙ c.in-Some.is) c.index_mut.ensures.value refl refl
 
 pub returns-in_ok-push-in-None : goal.returns-in_ok-push-in-None
 returns-in_ok-push-in-None c =
-    let f = c.args.self.now in
     rw c.in_ok-push-in-None.ensures.items
-    (set_unknown f.locals.items _ c.args.x.now c.args.v (bound f.params.now f.args.now) (sym c.place.ensures ∙ c.in-None.is) c.in_ok-name-in-None.ensures refl)
+    (set_unknown c.args.self.now.locals.items _ c.args.x.now c.args.v (sym c.place.ensures ∙ c.in-None.is) refl refl)

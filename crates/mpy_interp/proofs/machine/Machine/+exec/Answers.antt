@@ -1,0 +1,38 @@
+use Rattle.mpy_interp.specs.Frames.{state_of}
+use Rattle.mpy_tree.specs.Syntax as ast
+use Rattle.mpy_tree.specs.View.{term_of, maybe_term, block_of}
+use Rattle.mpy_tree.specs.declared.tree.Act.{Assign, Augment, Put, AugmentAt, Append, Return, While, For}
+use Rattle.mpy_interp.proofs.Arms.{ends_as, assign_is, augment_is, put_is, augment_at_is, append_is, return_is, while_is, for_is}
+use Rattle.mpy_interp.proofs.machine.Machine.+exec.Goals as goal
+
+pub exec_act-returns-in-Assign : goal.exec_act-returns-in-Assign
+exec_act-returns-in-Assign g t c =
+    ends_as c.args.self.now.limits.now (g.C.Calls.gives c.args.self.now.calls.now) c.args.act.now (Assign c.in-Assign.x c.in-Assign.e) (ast.Assign c.in-Assign.x (term_of c.in-Assign.e)) c.args.line (state_of c.args.frame.now) (state_of c.stored.new.frame) c.stored.result c.in-Assign.is (assign_is c.in-Assign.x c.in-Assign.e) (c.stored.ensures _ c.eval-v.ensures)
+
+pub exec_act-returns-in-Augment : goal.exec_act-returns-in-Augment
+exec_act-returns-in-Augment g t c =
+    ends_as c.args.self.now.limits.now (g.C.Calls.gives c.args.self.now.calls.now) c.args.act.now (Augment c.in-Augment.x c.in-Augment.op c.in-Augment.e) (ast.Augment c.in-Augment.x c.in-Augment.op (term_of c.in-Augment.e)) c.args.line (state_of c.args.frame.now) (state_of c.stored-in-Augment.new.frame) c.stored-in-Augment.result c.in-Augment.is (augment_is c.in-Augment.x c.in-Augment.op c.in-Augment.e) (c.stored-in-Augment.ensures _ c.augmented-v.ensures)
+
+pub exec_act-returns-in-Put : goal.exec_act-returns-in-Put
+exec_act-returns-in-Put g t c =
+    ends_as c.args.self.now.limits.now (g.C.Calls.gives c.args.self.now.calls.now) c.args.act.now (Put c.in-Put.x c.in-Put.i c.in-Put.e) (ast.Put c.in-Put.x (term_of c.in-Put.i) (term_of c.in-Put.e)) c.args.line (state_of c.args.frame.now) (state_of c.stored-in-Put.new.frame) c.stored-in-Put.result c.in-Put.is (put_is c.in-Put.x c.in-Put.i c.in-Put.e) (c.stored-in-Put.ensures _ c.replaced-v.ensures)
+
+pub exec_act-returns-in-AugmentAt : goal.exec_act-returns-in-AugmentAt
+exec_act-returns-in-AugmentAt g t c =
+    ends_as c.args.self.now.limits.now (g.C.Calls.gives c.args.self.now.calls.now) c.args.act.now (AugmentAt c.in-AugmentAt.x c.in-AugmentAt.i c.in-AugmentAt.op c.in-AugmentAt.e) (ast.AugmentAt c.in-AugmentAt.x (term_of c.in-AugmentAt.i) c.in-AugmentAt.op (term_of c.in-AugmentAt.e)) c.args.line (state_of c.args.frame.now) (state_of c.stored-in-AugmentAt.new.frame) c.stored-in-AugmentAt.result c.in-AugmentAt.is (augment_at_is c.in-AugmentAt.x c.in-AugmentAt.i c.in-AugmentAt.op c.in-AugmentAt.e) (c.stored-in-AugmentAt.ensures _ c.replaced_by-v.ensures)
+
+pub exec_act-returns-in-Append : goal.exec_act-returns-in-Append
+exec_act-returns-in-Append g t c =
+    ends_as c.args.self.now.limits.now (g.C.Calls.gives c.args.self.now.calls.now) c.args.act.now (Append c.in-Append.x c.in-Append.e) (ast.Append c.in-Append.x (term_of c.in-Append.e)) c.args.line (state_of c.args.frame.now) (state_of c.stored-in-Append.new.frame) c.stored-in-Append.result c.in-Append.is (append_is c.in-Append.x c.in-Append.e) (c.stored-in-Append.ensures _ c.appended-v.ensures)
+
+pub exec_act-returns-in-Return : goal.exec_act-returns-in-Return
+exec_act-returns-in-Return g t c =
+    ends_as c.args.self.now.limits.now (g.C.Calls.gives c.args.self.now.calls.now) c.args.act.now (Return c.in-Return.e) (ast.Return (maybe_term c.in-Return.e)) c.args.line (state_of c.args.frame.now) (state_of c.args.frame.now) c.exec_return.result c.in-Return.is (return_is c.in-Return.e) c.exec_return.ensures
+
+pub exec_act-returns-in-While : goal.exec_act-returns-in-While
+exec_act-returns-in-While g t c =
+    ends_as c.args.self.now.limits.now (g.C.Calls.gives c.args.self.now.calls.now) c.args.act.now (While c.in-While.e c.in-While.body) (ast.While (term_of c.in-While.e) (block_of c.in-While.body)) c.args.line (state_of c.args.frame.now) (state_of c.exec_while.new.frame) c.exec_while.result c.in-While.is (while_is c.in-While.e c.in-While.body) c.exec_while.ensures
+
+pub exec_act-returns-in-For : goal.exec_act-returns-in-For
+exec_act-returns-in-For g t c =
+    ends_as c.args.self.now.limits.now (g.C.Calls.gives c.args.self.now.calls.now) c.args.act.now (For c.in-For.x c.in-For.e c.in-For.body) (ast.For c.in-For.x (term_of c.in-For.e) (block_of c.in-For.body)) c.args.line (state_of c.args.frame.now) (state_of c.exec_for.new.frame) c.exec_for.result c.in-For.is (for_is c.in-For.x c.in-For.e c.in-For.body) c.exec_for.ensures
