@@ -1,4 +1,3 @@
 pub mod Answers
 pub mod Completions
-pub mod Copies
 pub mod Frames

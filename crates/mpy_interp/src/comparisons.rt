@@ -108,7 +108,7 @@ fn contains_text(text: &[u8], part: &[u8]) -> bool
 }
 
 // Whether a text begins with another.
-#[tactic(auto, using(crate::proofs::Texts::front_past))]
+#[tactic(auto, using(mpy_tree::proofs::Texts::front_past))]
 fn begins_with(text: &[u8], front: &[u8]) -> bool
     ensures { result ≡ is_front front.now text.now }
 {

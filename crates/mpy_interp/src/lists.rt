@@ -1,7 +1,7 @@
 //! Operators on lists and texts.
 ghost use Rattle.std.specs.Prelude.{◌≡◌, ◌*◌, ◌<◌, ◌≤◌, ◌⊎◌, MatchOption, ℕ, ◌++◌, ◌∷◌, [], length, map, IfOk};
 ghost use Rattle.mpy_interp.specs.Answers.{Meets, MeetsBy};
-ghost use Rattle.mpy_interp.specs.Copies.{copy_count};
+ghost use Rattle.mpy_tree.specs.Operations.{copy_count};
 ghost use Rattle.mpy_tree.specs.Values.{on_line};
 ghost use Rattle.mpy_tree.specs.Operations.{list_within, text_within, repeated, index, index_in, element, slice, end_or, put, append, members, numbers, cut};
 ghost use Rattle.mpy_tree.specs.Expressions.{wholes, list_of, end_of, slice_of};
@@ -82,7 +82,7 @@ pub fn join_texts(
 }
 
 /// `xs * n` of a list.
-#[tactic(auto, using(crate::proofs::Copies::list_repeated, crate::proofs::Copies::list_too_long))]
+#[tactic(auto, using(mpy_tree::proofs::Copies::list_repeated, mpy_tree::proofs::Copies::list_too_long))]
 pub fn repeat_list(alloc: Global, l: &Limits, line: u32, xs: &Ints, n: i32) -> Result<Value, Stop>
     ensures { Meets result (on_line line (list_within l.now (repeated xs.now n))) }
 {
@@ -93,7 +93,7 @@ pub fn repeat_list(alloc: Global, l: &Limits, line: u32, xs: &Ints, n: i32) -> R
 }
 
 /// `cs * n` of a text.
-#[tactic(auto, using(crate::proofs::Copies::text_repeated, crate::proofs::Copies::text_too_long))]
+#[tactic(auto, using(mpy_tree::proofs::Copies::text_repeated, mpy_tree::proofs::Copies::text_too_long))]
 pub fn repeat_text(alloc: Global, l: &Limits, line: u32, cs: &Chars, n: i32) -> Result<Value, Stop>
     ensures { Meets result (on_line line (text_within l.now (repeated cs.now n))) }
 {
@@ -287,7 +287,7 @@ fn append_number(l: &Limits, line: u32, xs: Ints, z: i32) -> Result<Value, Stop>
 }
 
 /// The members that a `for` goes over.
-#[tactic(auto, using(crate::proofs::Texts::characters_are))]
+#[tactic(auto, using(mpy_tree::proofs::Texts::characters_are))]
 pub fn members_of(alloc: Global, line: u32, v: &Value) -> Result<Vec<Value>, Stop>
     ensures { MeetsBy (λ v. v.items) result (on_line line (members v.now)) }
 {

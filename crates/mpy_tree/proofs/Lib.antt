@@ -1,5 +1,9 @@
+pub mod Copies
+pub mod Division
 pub mod ListTests
 pub mod Opening
+pub mod Progressions
 pub mod Repetition
 pub mod Sameness
+pub mod Texts
 mod WorkedExamples

@@ -58,14 +58,17 @@ abbrev pub power : Limits → ℤ → ℤ → Result Value Halt
 power l a (pos n) = number l (int_pow a n)
 power l a (negsuc n) = Err (Fault fault.Power)
 
--- as many copies, none for a number below 1
+-- so many copies; a repetition makes none for a number below 1
 abbrev pub copies : {A : Type 0} → ℕ → List A → List A
 copies zero xs = []
 copies (suc n) xs = xs ++ copies n xs
 
+abbrev pub copy_count : ℤ → ℕ
+copy_count (pos n) = n
+copy_count (negsuc n) = 0
+
 abbrev pub repeated : {A : Type 0} → List A → ℤ → List A
-repeated xs (pos n) = copies n xs
-repeated xs (negsuc n) = []
+repeated xs n = copies (copy_count n) xs
 
 -- an operator that takes numbers alone
 abbrev pub on_numbers : (ℤ → ℤ → Result Value Halt) → Value → Value → Result Value Halt

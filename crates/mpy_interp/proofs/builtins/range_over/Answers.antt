@@ -1,6 +1,6 @@
 use Rattle.std.proofs.Common.{FitsSigned, w32, get_or, pos, rules}
 use Rattle.std.proofs.lemmas.Int.{to_z-of_z}
-use Rattle.mpy_interp.proofs.Progressions.{range_of_three}
+use Rattle.mpy_tree.proofs.Progressions.{range_of_three}
 use Rattle.mpy_interp.proofs.builtins.range_over.Goals as goal
 
 pub returns-in-len3 : goal.returns-in-len3

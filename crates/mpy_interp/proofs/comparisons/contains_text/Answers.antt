@@ -1,7 +1,7 @@
 use Rattle.std.proofs.Common.{◌-◌, length, drop, sym, ap, ◌∙◌, arith, length-drop}
 use Rattle.std.proofs.lemmas.List.{take_all}
 use Rattle.mpy_tree.specs.Operations.{is_front}
-use Rattle.mpy_interp.proofs.Texts.{part_more}
+use Rattle.mpy_tree.proofs.Texts.{part_more}
 use Rattle.mpy_interp.proofs.comparisons.contains_text.Goals as goal
 
 pub loop-k-preserved : goal.loop-k-preserved

@@ -1,6 +1,6 @@
 use Rattle.std.proofs.Common.{rules}
 use Rattle.std.proofs.lemmas.Int.{to_z-of_z}
-use Rattle.mpy_interp.proofs.Progressions.{number_fits}
+use Rattle.mpy_tree.proofs.Progressions.{number_fits}
 use Rattle.mpy_interp.proofs.ranges.range.Goals as goal
 
 pub numbers_from-requires : goal.numbers_from-requires
