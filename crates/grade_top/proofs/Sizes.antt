@@ -6,7 +6,7 @@ use Rattle.std.proofs.Math.Nat.{pow-suc}
 use Rattle.std.proofs.Math.Pow.{pow_mono}
 use Rattle.mpy_tree.specs.Syntax.{Term, a_term, at, end, step}
 use Rattle.mpy_tree.specs.Syntax as ast
-use Rattle.mpy_parser.specs.Limits.{depth, has_long, is_large, is_large_header, limit_lines, line_if}
+use Rattle.mpy_limits.specs.Limits.{depth, has_long, is_large, is_large_header, limit_lines, line_if}
 use Rattle.mpy_parser.specs.Programs.{IsProgram as IsRead}
 use Rattle.grade_top.specs.ProgramForm.{Function, program}
 use Rattle.grade_top.specs.Rewriting.{literals_in}

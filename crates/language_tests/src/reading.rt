@@ -2,7 +2,7 @@
 
 use crate::programs::read;
 use mpy_lexer::{Form, lines};
-use mpy_parser::{ExprError, read_expr};
+use mpy_expressions::{ExprError, read_expr};
 use mpy_tree::Cause;
 use std::alloc::Global;
 use std::test::Fail;

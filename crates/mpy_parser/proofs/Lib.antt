@@ -1,11 +1,3 @@
-pub mod Shorter
-pub mod Readings
-pub mod Sound
-pub mod Elements
-pub mod Stopping
-pub mod Complete
-pub mod Characters
-pub mod Between
 pub mod ItemsSound
 pub mod ItemsComplete
 pub mod OneAnswer
@@ -16,10 +8,4 @@ pub mod Fine
 pub mod Nests
 pub mod Faultless
 pub mod Steps
-pub mod Depths
-pub mod Leasts
-pub mod StatementPlaces
-pub mod Actions
-pub mod Lines
-pub mod Functions
-mod LimitExamples
+pub mod Judged

@@ -4,7 +4,7 @@ use Rattle.std.proofs.lemmas.List.{take_more, take-append-drop, map-append}
 use Rattle.std.proofs.Math.Seq.{drop-cons}
 use Rattle.mpy_lexer.specs.declared.line.Line.{Line}
 use Rattle.mpy_parser.specs.declared.entries.Entry.{Entry}
-use Rattle.mpy_parser.specs.declared.terminals.Terminal.{Terminal}
+use Rattle.mpy_expressions.specs.declared.terminals.Terminal.{Terminal}
 use Rattle.mpy_parser.specs.Items.{LineItem, SpellsItem}
 use Rattle.mpy_parser.specs.Nesting.{ItemLine}
 use Rattle.mpy_parser.specs.ItemReading.{item_at}

@@ -13,9 +13,9 @@ use Rattle.mpy_lexer.specs.Leasts.{least}
 use Rattle.std.specs.Option.{option_or}
 use Rattle.mpy_lexer.specs.Lexing.{lex, byte_fault, token_fault, length_fault, logical_lines, lines_unless}
 use Rattle.mpy_lexer.specs.PhysicalLines.{rows}
-use Rattle.mpy_parser.specs.Limits.{limit_lines}
+use Rattle.mpy_limits.specs.Limits.{limit_lines}
 use Rattle.mpy_parser.specs.Faults.{indent_fault, block_fault}
-use Rattle.mpy_parser.specs.Terminals.{terminals}
+use Rattle.mpy_expressions.specs.Terminals.{terminals}
 use Rattle.mpy_parser.specs.Items.{LineItem, SpellsItem}
 use Rattle.mpy_parser.specs.Nesting.{ItemLine, item_line, AreRoutines}
 use Rattle.mpy_parser.specs.Programs.{IsItem, AreItems, NotSpelled, HasLines, HasNoLongLine, Reads, IsProgram, IsRefused, by_lexing, by_columns, by_item, by_blocks, by_limits, lexing_cause}

@@ -1,9 +1,12 @@
--- Where logical lines don't nest: the faults of columns, and those of blocks. The lines before one are listed with the nearest first.
-use Rattle.std.specs.Prelude.{ℕ, Bool, true, false, not, ◌&&◌, ◌||◌, ◌==◌, nat_lt, List, [], ◌∷◌, Option, Some, None, if◌then◌else◌}
+-- Where logical lines don't nest: the faults of columns, and those of blocks. The lines before one
+-- are listed with the nearest first.
+use Rattle.std.specs.Prelude.{ℕ, Bool, true, false, not, ◌&&◌, ◌||◌, ◌==◌, nat_lt, List, [], ◌∷◌}
+use Rattle.std.specs.Prelude.{Option, Some, None, if◌then◌else◌}
 use Rattle.mpy_tree.specs.Syntax.{Action}
 use Rattle.mpy_tree.specs.Syntax as ast
 use Rattle.mpy_lexer.specs.declared.line.Line.{Line}
-use Rattle.mpy_parser.specs.Items.{function, when, else_when, otherwise, while, for_each, LineItem, simple, headed}
+use Rattle.mpy_parser.specs.Items.{function, when, else_when, otherwise, while, for_each, LineItem}
+use Rattle.mpy_parser.specs.Items.{simple, headed}
 use Rattle.mpy_parser.specs.Nesting.{ItemLine}
 
 -- whether the nearest of the lines that aren't deeper has this very column
@@ -19,7 +22,8 @@ is_indent_fault c (d ∷ ds) = nat_lt c d && not (returns_to c ds)
 -- the first line whose column is at fault
 unfoldable pub indent_fault : List ℕ → List Line → Option ℕ
 indent_fault before [] = None
-indent_fault before (l ∷ ls) = if is_indent_fault l.column before then Some l.line else indent_fault (l.column ∷ before) ls
+indent_fault before (l ∷ ls) =
+    if is_indent_fault l.column before then Some l.line else indent_fault (l.column ∷ before) ls
 
 -- a header with nothing behind its colon
 abbrev pub is_open : LineItem → Bool
@@ -62,12 +66,15 @@ leaves (headed h (Some act)) = leaves_turn act
 -- whether the nearest of the lines that aren't deeper has this column and is an arm
 abbrev pub follows_arm : ℕ → List ItemLine → Bool
 follows_arm c [] = false
-follows_arm c (l ∷ ls) = if nat_lt c l.column then follows_arm c ls else l.column == c && is_arm l.item
+follows_arm c (l ∷ ls) =
+    if nat_lt c l.column then follows_arm c ls else l.column == c && is_arm l.item
 
--- whether one of the headers round a line of this column is a loop: each is the nearest line that is less deep
+-- whether one of the headers round a line of this column is a loop: each is the nearest line that
+-- is less deep
 abbrev pub in_loop : ℕ → List ItemLine → Bool
 in_loop c [] = false
-in_loop c (l ∷ ls) = if nat_lt l.column c then is_loop l.item || in_loop l.column ls else in_loop c ls
+in_loop c (l ∷ ls) =
+    if nat_lt l.column c then is_loop l.item || in_loop l.column ls else in_loop c ls
 
 -- deeper than a line that isn't an open header
 abbrev pub is_stray : ℕ → List ItemLine → Bool
@@ -84,10 +91,12 @@ is_block_fault before l rest =
     is_stray l.column before
     || (is_open l.item && not (has_deeper l.column rest))
     || (goes_on_arm l.item && not (follows_arm l.column before))
-    || not ((l.column == 0 && is_function l.item) || (not (l.column == 0) && not (is_function l.item)))
+    || not ((l.column == 0 && is_function l.item)
+    || (not (l.column == 0) && not (is_function l.item)))
     || (leaves l.item && not (is_loop l.item || in_loop l.column before))
 
 -- the first line whose block is at fault
 unfoldable pub block_fault : List ItemLine → List ItemLine → Option ℕ
 block_fault before [] = None
-block_fault before (l ∷ rest) = if is_block_fault before l rest then Some l.line else block_fault (l ∷ before) rest
+block_fault before (l ∷ rest) =
+    if is_block_fault before l rest then Some l.line else block_fault (l ∷ before) rest

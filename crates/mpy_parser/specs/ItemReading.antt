@@ -1,16 +1,19 @@
 -- Reading the item of a logical line, all of its terminals.
-use Rattle.std.specs.Prelude.{ℕ, Bool, List, [], ◌∷◌, nat_eq, Option, Some, None, if◌then◌else◌, codes}
+use Rattle.std.specs.Prelude.{ℕ, Bool, List, [], ◌∷◌, nat_eq, Option, Some, None, if◌then◌else◌}
+use Rattle.std.specs.Prelude.{codes}
 use Rattle.std.specs.Cmp.Lexicographic.{pointwise}
 use Rattle.mpy_tree.specs.Syntax.{Term, no_term, a_term, Action}
 use Rattle.mpy_tree.specs.Syntax as ast
 use Rattle.mpy_tree.specs.declared.operators.ArithOp.{ArithOp}
 use Rattle.mpy_tree.specs.declared.levels.Level.TheVariants as level
-use Rattle.mpy_parser.specs.declared.words.Word.{Word}
-use Rattle.mpy_parser.specs.declared.words.Word.TheVariants as word
-use Rattle.mpy_parser.specs.declared.terminals.Terminal.{Terminal}
-use Rattle.mpy_parser.specs.declared.terminals.Terminal.TheVariants as terminal
-use Rattle.mpy_parser.specs.Reading.{◌>>=◌, reading, behind_closing_bracket, behind_closing_paren, behind_colon}
-use Rattle.mpy_parser.specs.Items.{Opening, function, when, else_when, otherwise, while, for_each, LineItem, simple, headed, augmented}
+use Rattle.mpy_expressions.specs.declared.words.Word.{Word}
+use Rattle.mpy_expressions.specs.declared.words.Word.TheVariants as word
+use Rattle.mpy_expressions.specs.declared.terminals.Terminal.{Terminal}
+use Rattle.mpy_expressions.specs.declared.terminals.Terminal.TheVariants as terminal
+use Rattle.mpy_expressions.specs.Reading.{◌>>=◌, reading, behind_closing_bracket}
+use Rattle.mpy_expressions.specs.Reading.{behind_closing_paren, behind_colon}
+use Rattle.mpy_parser.specs.Items.{Opening, function, when, else_when, otherwise, while, for_each}
+use Rattle.mpy_parser.specs.Items.{LineItem, simple, headed, augmented}
 
 -- what was read, where nothing is left
 abbrev pub ended : {A : Type 0} → A → List Terminal → Option A
@@ -51,7 +54,8 @@ argument x ts = do
   ended (ast.Append x e.0) rest
 
 abbrev pub method : List ℕ → List Terminal → Option Action
-method x (terminal.Name f ∷ terminal.Word word.LeftParen ∷ ts) = if is_append f then argument x ts else None
+method x (terminal.Name f ∷ terminal.Word word.LeftParen ∷ ts) =
+    if is_append f then argument x ts else None
 method x _ = None
 
 -- behind a name and a word
@@ -76,7 +80,8 @@ simple_at _ = None
 -- names joined by commas, and the closing parenthesis
 abbrev pub names_at : List Terminal → Option (List (List ℕ) × List Terminal)
 names_at (terminal.Name x ∷ terminal.Word word.RightParen ∷ ts) = Some (x ∷ [], ts)
-names_at (terminal.Name x ∷ terminal.Word word.Comma ∷ ts) = names_at ts >>= λ xs. Some (x ∷ xs.0, xs.1)
+names_at (terminal.Name x ∷ terminal.Word word.Comma ∷ ts) =
+    names_at ts >>= λ xs. Some (x ∷ xs.0, xs.1)
 names_at _ = None
 
 abbrev pub parameters_at : List Terminal → Option (List (List ℕ) × List Terminal)
@@ -84,11 +89,13 @@ parameters_at (terminal.Word word.RightParen ∷ ts) = Some ([], ts)
 parameters_at ts = names_at ts
 
 abbrev pub function_at : List Terminal → Option (Opening × List Terminal)
-function_at (terminal.Name f ∷ terminal.Word word.LeftParen ∷ ts) = parameters_at ts >>= λ xs. Some (function f xs.0, xs.1)
+function_at (terminal.Name f ∷ terminal.Word word.LeftParen ∷ ts) =
+    parameters_at ts >>= λ xs. Some (function f xs.0, xs.1)
 function_at _ = None
 
 abbrev pub each_at : List Terminal → Option (Opening × List Terminal)
-each_at (terminal.Name x ∷ terminal.Word word.In ∷ ts) = reading level.Conditional ts >>= λ e. Some (for_each x e.0, e.1)
+each_at (terminal.Name x ∷ terminal.Word word.In ∷ ts) =
+    reading level.Conditional ts >>= λ e. Some (for_each x e.0, e.1)
 each_at _ = None
 
 -- the header of a test, by its word
@@ -122,4 +129,7 @@ abbrev pub headed_at : Opening × List Terminal → Option LineItem
 headed_at h = body_behind h.1 >>= λ body. Some (headed h.0 body)
 
 unfoldable pub item_at : List Terminal → Option LineItem
-item_at ts = elim (header_at ts) [ Some h ↦ headed_at h | None ↦ (simple_at ts >>= λ act. Some (simple act)) ]
+item_at ts = elim (header_at ts) [
+  | Some h ↦ headed_at h
+  | None ↦ (simple_at ts >>= λ act. Some (simple act))
+]

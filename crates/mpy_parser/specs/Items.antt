@@ -5,11 +5,11 @@ use Rattle.mpy_tree.specs.declared.operators.ArithOp.TheVariants.{Add, Sub, Mul,
 use Rattle.mpy_tree.specs.Syntax.{Term, no_term, a_term, Action}
 use Rattle.mpy_tree.specs.Syntax as ast
 use Rattle.mpy_tree.specs.declared.levels.Level.TheVariants as level
-use Rattle.mpy_parser.specs.declared.words.Word.{Word}
-use Rattle.mpy_parser.specs.declared.words.Word.TheVariants as word
-use Rattle.mpy_parser.specs.declared.terminals.Terminal.{Terminal}
-use Rattle.mpy_parser.specs.declared.terminals.Terminal.TheVariants as terminal
-use Rattle.mpy_parser.specs.Grammar.{Spells}
+use Rattle.mpy_expressions.specs.declared.words.Word.{Word}
+use Rattle.mpy_expressions.specs.declared.words.Word.TheVariants as word
+use Rattle.mpy_expressions.specs.declared.terminals.Terminal.{Terminal}
+use Rattle.mpy_expressions.specs.declared.terminals.Terminal.TheVariants as terminal
+use Rattle.mpy_expressions.specs.Grammar.{Spells}
 
 -- what begins a body
 pub data Opening : Type 0 where
@@ -35,15 +35,50 @@ augmented word.PercentAssign = Some Rem
 augmented _ = None
 
 pub data SpellsSimple : List Terminal → Action → Type 0 where
-  assign : (x : List ℕ) {es : List Terminal} {e : Term} → Spells level.Conditional es e → SpellsSimple (terminal.Name x ∷ terminal.Word word.Assign ∷ es) (ast.Assign x e)
-  augment : (x : List ℕ) (w : Word) {op : ArithOp} {es : List Terminal} {e : Term} → augmented w ≡ Some op → Spells level.Conditional es e → SpellsSimple (terminal.Name x ∷ terminal.Word w ∷ es) (ast.Augment x op e)
-  put : (x : List ℕ) {is es : List Terminal} {i e : Term} → Spells level.Conditional is i → Spells level.Conditional es e → SpellsSimple (terminal.Name x ∷ terminal.Word word.LeftBracket ∷ is ++ terminal.Word word.RightBracket ∷ terminal.Word word.Assign ∷ es) (ast.Put x i e)
-  augment_at : (x : List ℕ) (w : Word) {op : ArithOp} {is es : List Terminal} {i e : Term} → augmented w ≡ Some op → Spells level.Conditional is i → Spells level.Conditional es e → SpellsSimple (terminal.Name x ∷ terminal.Word word.LeftBracket ∷ is ++ terminal.Word word.RightBracket ∷ terminal.Word w ∷ es) (ast.AugmentAt x i op e)
-  append : (x : List ℕ) {es : List Terminal} {e : Term} → Spells level.Conditional es e → SpellsSimple (terminal.Name x ∷ terminal.Word word.Dot ∷ terminal.Name (codes "append") ∷ terminal.Word word.LeftParen ∷ es ++ terminal.Word word.RightParen ∷ []) (ast.Append x e)
+  -- x = e
+  assign : (x : List ℕ) {es : List Terminal} {e : Term}
+      → Spells level.Conditional es e
+      → SpellsSimple (terminal.Name x ∷ terminal.Word word.Assign ∷ es) (ast.Assign x e)
+  -- x += e, and so on
+  augment : (x : List ℕ) (w : Word) {op : ArithOp} {es : List Terminal} {e : Term}
+      → augmented w ≡ Some op
+      → Spells level.Conditional es e
+      → SpellsSimple (terminal.Name x ∷ terminal.Word w ∷ es) (ast.Augment x op e)
+  -- x[i] = e
+  put : (x : List ℕ) {is es : List Terminal} {i e : Term}
+      → Spells level.Conditional is i
+      → Spells level.Conditional es e
+      → SpellsSimple
+      (terminal.Name x ∷ terminal.Word word.LeftBracket ∷ is
+      ++ terminal.Word word.RightBracket ∷ terminal.Word word.Assign ∷ es)
+      (ast.Put x i e)
+  -- x[i] += e, and so on
+  augment_at : (x : List ℕ) (w : Word) {op : ArithOp} {is es : List Terminal} {i e : Term}
+      → augmented w ≡ Some op
+      → Spells level.Conditional is i
+      → Spells level.Conditional es e
+      → SpellsSimple
+      (terminal.Name x ∷ terminal.Word word.LeftBracket ∷ is
+      ++ terminal.Word word.RightBracket ∷ terminal.Word w ∷ es)
+      (ast.AugmentAt x i op e)
+  -- x.append(e)
+  append : (x : List ℕ) {es : List Terminal} {e : Term}
+      → Spells level.Conditional es e
+      → SpellsSimple
+      (terminal.Name x ∷ terminal.Word word.Dot ∷ terminal.Name (codes "append")
+      ∷ terminal.Word word.LeftParen ∷ es ++ terminal.Word word.RightParen ∷ [])
+      (ast.Append x e)
+  -- return
   give_nothing : SpellsSimple (terminal.Word word.Return ∷ []) (ast.Return no_term)
-  give : {es : List Terminal} {e : Term} → Spells level.Conditional es e → SpellsSimple (terminal.Word word.Return ∷ es) (ast.Return (a_term e))
+  -- return e
+  give : {es : List Terminal} {e : Term}
+      → Spells level.Conditional es e
+      → SpellsSimple (terminal.Word word.Return ∷ es) (ast.Return (a_term e))
+  -- pass
   pass : SpellsSimple (terminal.Word word.Pass ∷ []) ast.Pass
+  -- break
   leave : SpellsSimple (terminal.Word word.Break ∷ []) ast.Break
+  -- continue
   again : SpellsSimple (terminal.Word word.Continue ∷ []) ast.Continue
 
 -- names joined by commas
@@ -54,18 +89,44 @@ name_list (x ∷ y ∷ rest) = terminal.Name x ∷ terminal.Word word.Comma ∷ 
 
 -- a header, up to its colon
 pub data SpellsHeader : List Terminal → Opening → Type 0 where
-  a_function : (f : List ℕ) (params : List (List ℕ)) → SpellsHeader (terminal.Word word.Def ∷ terminal.Name f ∷ terminal.Word word.LeftParen ∷ name_list params ++ terminal.Word word.RightParen ∷ []) (function f params)
-  an_if : {es : List Terminal} {e : Term} → Spells level.Conditional es e → SpellsHeader (terminal.Word word.If ∷ es) (when e)
-  an_elif : {es : List Terminal} {e : Term} → Spells level.Conditional es e → SpellsHeader (terminal.Word word.Elif ∷ es) (else_when e)
+  -- def f(x1, .., xk)
+  a_function : (f : List ℕ) (params : List (List ℕ))
+      → SpellsHeader
+      (terminal.Word word.Def ∷ terminal.Name f ∷ terminal.Word word.LeftParen
+      ∷ name_list params ++ terminal.Word word.RightParen ∷ [])
+      (function f params)
+  -- if e
+  an_if : {es : List Terminal} {e : Term}
+      → Spells level.Conditional es e
+      → SpellsHeader (terminal.Word word.If ∷ es) (when e)
+  -- elif e
+  an_elif : {es : List Terminal} {e : Term}
+      → Spells level.Conditional es e
+      → SpellsHeader (terminal.Word word.Elif ∷ es) (else_when e)
+  -- else
   an_else : SpellsHeader (terminal.Word word.Else ∷ []) otherwise
-  a_while : {es : List Terminal} {e : Term} → Spells level.Conditional es e → SpellsHeader (terminal.Word word.While ∷ es) (while e)
-  a_for : (x : List ℕ) {es : List Terminal} {e : Term} → Spells level.Conditional es e → SpellsHeader (terminal.Word word.For ∷ terminal.Name x ∷ terminal.Word word.In ∷ es) (for_each x e)
+  -- while e
+  a_while : {es : List Terminal} {e : Term}
+      → Spells level.Conditional es e
+      → SpellsHeader (terminal.Word word.While ∷ es) (while e)
+  -- for x in e
+  a_for : (x : List ℕ) {es : List Terminal} {e : Term}
+      → Spells level.Conditional es e
+      → SpellsHeader (terminal.Word word.For ∷ terminal.Name x ∷ terminal.Word word.In ∷ es)
+      (for_each x e)
 
 -- what may stand behind the colon of a header
 pub data SpellsBody : List Terminal → Option Action → Type 0 where
   open_body : SpellsBody [] None
-  one_statement : {ts : List Terminal} {act : Action} → SpellsSimple ts act → SpellsBody ts (Some act)
+  one_statement : {ts : List Terminal} {act : Action}
+      → SpellsSimple ts act
+      → SpellsBody ts (Some act)
 
 pub data SpellsItem : List Terminal → LineItem → Type 0 where
-  a_statement : {ts : List Terminal} {act : Action} → SpellsSimple ts act → SpellsItem ts (simple act)
-  a_header : {hs ts : List Terminal} {h : Opening} {body : Option Action} → SpellsHeader hs h → SpellsBody ts body → SpellsItem (hs ++ terminal.Word word.Colon ∷ ts) (headed h body)
+  a_statement : {ts : List Terminal} {act : Action}
+      → SpellsSimple ts act
+      → SpellsItem ts (simple act)
+  a_header : {hs ts : List Terminal} {h : Opening} {body : Option Action}
+      → SpellsHeader hs h
+      → SpellsBody ts body
+      → SpellsItem (hs ++ terminal.Word word.Colon ∷ ts) (headed h body)

@@ -1,14 +1,8 @@
-pub mod Grammar
-pub mod Reading
 pub mod Views
 pub mod Items
 pub mod Nesting
 pub mod Faults
-pub mod Terminals
-pub mod Joints
-pub mod Limits
 pub mod Programs
-pub mod Longest
 pub mod ItemReading
 pub mod Open
 pub mod Piles

@@ -1,8 +1,11 @@
--- What is still open above a line, the nearest first: the lines so far, but for those that a later line is less deep than.
-use Rattle.std.specs.Prelude.{ℕ, Bool, false, not, ◌&&◌, ◌||◌, ◌==◌, nat_lt, List, [], ◌∷◌, Option, Some, None, if◌then◌else◌}
+-- What is still open above a line, the nearest first: the lines so far, but for those that a later
+-- line is less deep than.
+use Rattle.std.specs.Prelude.{ℕ, Bool, false, not, ◌&&◌, ◌||◌, ◌==◌, nat_lt, List, [], ◌∷◌, Option}
+use Rattle.std.specs.Prelude.{Some, None, if◌then◌else◌}
 use Rattle.mpy_parser.specs.declared.places.Place.{Place}
 use Rattle.mpy_parser.specs.Nesting.{ItemLine}
-use Rattle.mpy_parser.specs.Faults.{is_open, is_arm, is_loop, goes_on_arm, is_function, leaves, has_deeper}
+use Rattle.mpy_parser.specs.Faults.{is_open, is_arm, is_loop, goes_on_arm, is_function, leaves}
+use Rattle.mpy_parser.specs.Faults.{has_deeper}
 
 abbrev pub nearest : {A : Type 0} → List A → Option A
 nearest [] = None
@@ -43,12 +46,19 @@ loop_at c (p ∷ ps) = if nat_lt p.column c then p.body_in_loop else p.in_loop
 
 -- the place of a line below these, none of which is deeper
 abbrev pub place : ItemLine → List Place → Place
-place l ps = record { column = l.column; is_open = is_open l.item; is_arm = is_arm l.item; in_loop = loop_at l.column ps; body_in_loop = is_loop l.item || loop_at l.column ps }
+place l ps = record {
+  column = l.column;
+  is_open = is_open l.item;
+  is_arm = is_arm l.item;
+  in_loop = loop_at l.column ps;
+  body_in_loop = is_loop l.item || loop_at l.column ps;
+}
 
 -- whether a line that isn't stray is at fault below these, none of which is deeper
 abbrev pub is_fault_at : List Place → ItemLine → List ItemLine → Bool
 is_fault_at ps l rest =
     (is_open l.item && not (has_deeper l.column rest))
     || (goes_on_arm l.item && not (arm_at l.column ps))
-    || not ((l.column == 0 && is_function l.item) || (not (l.column == 0) && not (is_function l.item)))
+    || not ((l.column == 0 && is_function l.item)
+    || (not (l.column == 0) && not (is_function l.item)))
     || (leaves l.item && not (is_loop l.item || loop_at l.column ps))

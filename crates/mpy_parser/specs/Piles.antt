@@ -1,14 +1,19 @@
 -- A program put together from its lines, the last line first.
-use Rattle.std.specs.Prelude.{ℕ, ◌==◌, nat_lt, List, [], ◌∷◌, map, Option, Some, None, if◌then◌else◌}
-use Rattle.mpy_tree.specs.Syntax.{Term, Statement, at, Action, Block, end, step, MaybeBlock, no_block, a_block, Branch, arm, Branches, no_arms, arm_and, Routine}
+use Rattle.std.specs.Prelude.{ℕ, ◌==◌, nat_lt, List, [], ◌∷◌, map, Option, Some, None}
+use Rattle.std.specs.Prelude.{if◌then◌else◌}
+use Rattle.mpy_tree.specs.Syntax.{Term, Statement, at, Action, Block, end, step, MaybeBlock}
+use Rattle.mpy_tree.specs.Syntax.{no_block, a_block, Branch, arm, Branches, no_arms, arm_and}
+use Rattle.mpy_tree.specs.Syntax.{Routine}
 use Rattle.mpy_tree.specs.Syntax as ast
 use Rattle.mpy_tree.specs.View.{statement_of, branch_of, block, branches, block_or_none, routine_of}
 use Rattle.mpy_parser.specs.declared.piles.Group.{Group}
 use Rattle.mpy_parser.specs.declared.piles.Pile.{Pile}
-use Rattle.mpy_parser.specs.Items.{Opening, function, when, else_when, otherwise, while, for_each, LineItem, simple, headed}
+use Rattle.mpy_parser.specs.Items.{Opening, function, when, else_when, otherwise, while, for_each}
+use Rattle.mpy_parser.specs.Items.{LineItem, simple, headed}
 use Rattle.mpy_parser.specs.Nesting.{ItemLine, routine}
 
--- the statements of one column that no header has taken yet, and the arms before them, which go on with an `if` that is still to come
+-- the statements of one column that no header has taken yet, and the arms before them, which go on
+-- with an `if` that is still to come
 pub record Waiting : Type 0 where
   pub column : ℕ
   pub body : Block
@@ -57,10 +62,14 @@ abbrev pub with_statement : ℕ → Statement → List Waiting → List Waiting
 with_statement c s gs = waiting c (step s (group_at c gs).body) no_arms no_block ∷ behind_group c gs
 
 abbrev pub with_if : ℕ → ℕ → Term → Block → List Waiting → List Waiting
-with_if c line e b gs = with_statement c (at line (ast.If (arm_and (arm line e b) (group_at c gs).arms) (group_at c gs).last)) gs
+with_if c line e b gs =
+    with_statement c
+    (at line (ast.If (arm_and (arm line e b) (group_at c gs).arms) (group_at c gs).last)) gs
 
 abbrev pub with_arm : ℕ → Branch → List Waiting → List Waiting
-with_arm c b gs = waiting c (group_at c gs).body (arm_and b (group_at c gs).arms) (group_at c gs).last ∷ behind_group c gs
+with_arm c b gs =
+    waiting c (group_at c gs).body (arm_and b (group_at c gs).arms) (group_at c gs).last
+    ∷ behind_group c gs
 
 abbrev pub with_else : ℕ → Block → List Waiting → List Waiting
 with_else c b gs = waiting c (group_at c gs).body no_arms (a_block b) ∷ behind_group c gs
@@ -72,11 +81,13 @@ with_header line c (when e) b h = heap (with_if c line e b h.groups) h.made
 with_header line c (else_when e) b h = heap (with_arm c (arm line e b) h.groups) h.made
 with_header line c otherwise b h = heap (with_else c b h.groups) h.made
 with_header line c (while e) b h = heap (with_statement c (at line (ast.While e b)) h.groups) h.made
-with_header line c (for_each x e) b h = heap (with_statement c (at line (ast.For x e b)) h.groups) h.made
+with_header line c (for_each x e) b h =
+    heap (with_statement c (at line (ast.For x e b)) h.groups) h.made
 
 abbrev pub with_item : ℕ → ℕ → LineItem → Heap → Heap
 with_item line c (simple act) h = heap (with_statement c (at line act) h.groups) h.made
-with_item line c (headed o m) h = with_header line c o (body_at c line m h.groups) (heap (behind_body c m h.groups) h.made)
+with_item line c (headed o m) h =
+    with_header line c o (body_at c line m h.groups) (heap (behind_body c m h.groups) h.made)
 
 abbrev pub with_line : ItemLine → Heap → Heap
 with_line l h = with_item l.line l.column l.item h
@@ -87,7 +98,9 @@ with_lines [] h = h
 with_lines (l ∷ ls) h = with_line l (with_lines ls h)
 
 abbrev pub group_of : Group → Waiting
-group_of g = waiting g.column (block (map statement_of g.body)) (branches (map branch_of g.arms)) (block_or_none g.last)
+group_of g =
+    waiting g.column (block (map statement_of g.body))
+    (branches (map branch_of g.arms)) (block_or_none g.last)
 
 abbrev pub groups_of : List Group → List Waiting
 groups_of gs = map group_of gs

@@ -15,11 +15,11 @@ use Rattle.mpy_lexer.specs.declared.line.LexError.TheVariants as lex_error
 use Rattle.mpy_lexer.specs.Leasts.{least}
 use Rattle.mpy_lexer.specs.Lexing.{lex, byte_fault, token_fault, length_fault, logical_lines}
 use Rattle.mpy_lexer.specs.PhysicalLines.{rows}
-use Rattle.mpy_parser.specs.Terminals.{terminals}
+use Rattle.mpy_expressions.specs.Terminals.{terminals}
 use Rattle.mpy_parser.specs.Items.{LineItem, SpellsItem}
 use Rattle.mpy_parser.specs.Nesting.{ItemLine, AreRoutines}
 use Rattle.mpy_parser.specs.Faults.{indent_fault, block_fault}
-use Rattle.mpy_parser.specs.Limits.{limit_lines}
+use Rattle.mpy_limits.specs.Limits.{limit_lines}
 
 -- a logical line spells the item, on its line and at its column
 pub record IsItem (l : Line) (i : ItemLine) : Type 0 where
@@ -78,15 +78,36 @@ lexing_cause lex_cause.Tab = cause.Tab
 lexing_cause lex_cause.Token = cause.Token
 lexing_cause lex_cause.LongLine = cause.Limit
 
--- The first cause for which a text is refused. Each step goes over the whole text before the next: bytes, tokens and long lines; columns; items; blocks; limits.
+-- The first cause for which a text is refused. Each step goes over the whole text before the next:
+-- bytes, tokens and long lines; columns; items; blocks; limits.
 pub data IsRefused (bytes : List ℕ) : Cause → ℕ → Type 0 where
-  by_lexing : (c : LexCause) (line : ℕ) → lex Program bytes ≡ Err (lex_error.Fault c line) → IsRefused bytes (lexing_cause c) line
-  by_columns : (ls : List Line) (line : ℕ) → lex Program bytes ≡ Ok ls → indent_fault [] ls ≡ Some line → IsRefused bytes cause.Indent line
-  by_item : (before : List Line) (l : Line) (rest : List Line) (is : List ItemLine) → lex Program bytes ≡ Ok (before ++ l ∷ rest) → indent_fault [] (before ++ l ∷ rest) ≡ None → AreItems before is → NotSpelled l → IsRefused bytes cause.Syntax l.line
-  by_blocks : (ls : List Line) (is : List ItemLine) (line : ℕ) → lex Program bytes ≡ Ok ls → indent_fault [] ls ≡ None → AreItems ls is → block_fault [] is ≡ Some line → IsRefused bytes cause.Block line
-  by_limits : (rs : List Routine) (line : ℕ) → Reads bytes rs → HasNoLongLine bytes → least (limit_lines rs) ≡ Some line → IsRefused bytes cause.Limit line
+  by_lexing : (c : LexCause) (line : ℕ)
+      → lex Program bytes ≡ Err (lex_error.Fault c line)
+      → IsRefused bytes (lexing_cause c) line
+  by_columns : (ls : List Line) (line : ℕ)
+      → lex Program bytes ≡ Ok ls
+      → indent_fault [] ls ≡ Some line
+      → IsRefused bytes cause.Indent line
+  by_item : (before : List Line) (l : Line) (rest : List Line) (is : List ItemLine)
+      → lex Program bytes ≡ Ok (before ++ l ∷ rest)
+      → indent_fault [] (before ++ l ∷ rest) ≡ None
+      → AreItems before is
+      → NotSpelled l
+      → IsRefused bytes cause.Syntax l.line
+  by_blocks : (ls : List Line) (is : List ItemLine) (line : ℕ)
+      → lex Program bytes ≡ Ok ls
+      → indent_fault [] ls ≡ None
+      → AreItems ls is
+      → block_fault [] is ≡ Some line
+      → IsRefused bytes cause.Block line
+  by_limits : (rs : List Routine) (line : ℕ)
+      → Reads bytes rs
+      → HasNoLongLine bytes
+      → least (limit_lines rs) ≡ Some line
+      → IsRefused bytes cause.Limit line
 
--- a cause and line are answered where they are the first; want of memory may be answered for any text
+-- a cause and line are answered where they are the first; want of memory may be answered for any
+-- text
 abbrev pub IsAnswered : List ℕ → ReadError → Type 0
 IsAnswered bytes (read_error.Fault c line) = IsRefused bytes c line
 IsAnswered bytes read_error.NoMemory = Unit {0}

@@ -1,20 +1,14 @@
 -- What the code's readings are as mathematics.
 use Rattle.std.specs.Prelude.{List, option_map, map}
-use Rattle.mpy_tree.specs.View.{term_of, maybe_term, action_of}
-use Rattle.mpy_parser.specs.declared.terms.Suffix.{Suffix}
-use Rattle.mpy_parser.specs.declared.terms.Suffix.TheVariants as suffix
+use Rattle.mpy_tree.specs.View.{term_of, action_of}
 use Rattle.mpy_parser.specs.declared.items.Header.{Header}
 use Rattle.mpy_parser.specs.declared.items.Header.TheVariants as header
 use Rattle.mpy_parser.specs.declared.items.Item.{Item}
 use Rattle.mpy_parser.specs.declared.items.Item.TheVariants as item
 use Rattle.mpy_parser.specs.declared.entries.Entry.{Entry}
-use Rattle.mpy_parser.specs.Reading.{Suffix as AnySuffix, by_index, by_ends}
-use Rattle.mpy_parser.specs.Items.{Opening, function, when, else_when, otherwise, while, for_each, LineItem, simple, headed}
+use Rattle.mpy_parser.specs.Items.{Opening, function, when, else_when, otherwise, while, for_each}
+use Rattle.mpy_parser.specs.Items.{LineItem, simple, headed}
 use Rattle.mpy_parser.specs.Nesting.{ItemLine}
-
-abbrev pub suffix_of : Suffix → AnySuffix
-suffix_of (suffix.Index i) = by_index (term_of i)
-suffix_of (suffix.Slice from to) = by_ends (maybe_term from) (maybe_term to)
 
 abbrev pub opening_of : Header → Opening
 opening_of (header.Def f params) = function f params

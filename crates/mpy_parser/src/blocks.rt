@@ -1,7 +1,8 @@
 //! Faults of blocks.
 ghost use Rattle.std.specs.Prelude.{◌≡◌, [], IfOk};
 ghost use Rattle.mpy_parser.specs.Faults.{block_fault, has_deeper};
-ghost use Rattle.mpy_parser.specs.Open.{past_places, is_stray_at, arm_at, loop_at, place, is_fault_at};
+ghost use Rattle.mpy_parser.specs.Open.{past_places, is_stray_at, arm_at, loop_at, place};
+ghost use Rattle.mpy_parser.specs.Open.{is_fault_at};
 ghost use Rattle.mpy_parser.specs.Views.{line_of, lines_of};
 
 use crate::NoMemory;
@@ -91,7 +92,9 @@ fn place_of(above: &Stack<Place>, entry: &Entry) -> Place
     }
 }
 
-/// The first line whose block is at fault: it is deeper than a line that is no open header, an open header with no deeper line next, an `elif` or `else` that goes on with no `if`, a function that isn't at column 0 or another line that is, or it has a `break` or a `continue` outside a loop.
+/// The first line whose block is at fault: it is deeper than a line that is no open header, an open
+/// header with no deeper line next, an `elif` or `else` that goes on with no `if`, a function that
+/// isn't at column 0 or another line that is, or it has a `break` or a `continue` outside a loop.
 ///
 /// Takes time and memory linear in the number of lines.
 #[tactic(auto, using(crate::proofs::Falls::place_faults))]

@@ -45,7 +45,8 @@ fn is_at_fault(above: &mut Stack<u32>, column: u32) -> bool
     }
 }
 
-/// The first line whose column is at fault: the first line of all, if its column isn't 0, or one that falls to a column that no line above it opened.
+/// The first line whose column is at fault: the first line of all, if its column isn't 0, or one
+/// that falls to a column that no line above it opened.
 ///
 /// Takes time and memory linear in the number of lines.
 #[tactic(auto, using(crate::proofs::Falls::column_faults))]

@@ -5,7 +5,7 @@ ghost use Rattle.mpy_parser.specs.Views.{line_of, lines_of};
 
 use crate::NoMemory;
 use crate::items::{Item, line_item};
-use crate::terminals::terminals;
+use mpy_expressions::terminals_of;
 use mpy_lexer::Line;
 use std::alloc::Global;
 
@@ -22,7 +22,7 @@ fn make_entry(alloc: Global, line: &Line) -> Result<Option<Entry>, NoMemory>
     ensures some { IfOk result (λ r. IfSome r (λ e. IsItem line.now (line_of e))) }
     ensures none { IfOk result (λ r. IfNone r (NotSpelled line.now)) }
 {
-    let seen = terminals(alloc, line.tokens.items())?;
+    let seen = terminals_of(alloc, line.tokens.items())?;
     match line_item(alloc, &seen)? {
         None => Ok(None),
         Some(item) => Ok(Some(Entry {

@@ -1,15 +1,13 @@
 //! Headers, up to their colon.
 ghost use Rattle.std.specs.Prelude.{◌≡◌, ◌<◌, Option, Some, None, option_map, IfOk, length};
-ghost use Rattle.mpy_parser.specs.ItemReading.{names_at, parameters_at, function_at, each_at, tested_at, header_at};
+ghost use Rattle.mpy_parser.specs.ItemReading.{names_at, parameters_at, function_at, each_at};
+ghost use Rattle.mpy_parser.specs.ItemReading.{tested_at, header_at};
 ghost use Rattle.mpy_parser.specs.Views.{opening_of};
 
 use crate::NoMemory;
-use crate::expressions::expression;
 use crate::items::Header;
-use mpy_tree::Level;
-use crate::terminals::Terminal;
-use crate::words::Word;
-use mpy_tree::{Name, Names};
+use mpy_expressions::{Terminal, Word, expression};
+use mpy_tree::{Level, Name, Names};
 use std::alloc::Global;
 
 // Names joined by commas, and the closing parenthesis.

@@ -5,10 +5,9 @@ ghost use Rattle.mpy_parser.specs.Views.{opening_of, item_of};
 ghost use Rattle.mpy_tree.specs.View.{action_of};
 
 use crate::NoMemory;
-use crate::expressions::behind_colon;
 use crate::headers::header;
 use crate::statements::simple;
-use crate::terminals::Terminal;
+use mpy_expressions::{Terminal, behind_colon};
 use mpy_tree::{Act, Expr, Name, Names};
 use std::alloc::Global;
 
@@ -23,7 +22,8 @@ pub enum Header {
     For(Name, Expr),
 }
 
-/// What a logical line spells: a simple statement, or a header, perhaps with its whole body behind the colon.
+/// What a logical line spells: a simple statement, or a header, perhaps with its whole body behind
+/// the colon.
 #[derive(Drop)]
 pub enum Item {
     Simple(Act),

@@ -1,7 +1,8 @@
 //! Kinds of items.
 ghost use Rattle.std.specs.Prelude.{◌≡◌};
 ghost use Rattle.mpy_tree.specs.View.{action_of};
-ghost use Rattle.mpy_parser.specs.Faults.{is_open, is_arm, goes_on_arm, is_function, is_loop, leaves_turn, leaves};
+ghost use Rattle.mpy_parser.specs.Faults.{is_open, is_arm, goes_on_arm, is_function, is_loop};
+ghost use Rattle.mpy_parser.specs.Faults.{leaves_turn, leaves};
 ghost use Rattle.mpy_parser.specs.Views.{item_of};
 
 use crate::items::{Header, Item};

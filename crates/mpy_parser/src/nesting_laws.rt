@@ -1,5 +1,7 @@
 //! What the faults of lines are to the blocks that they nest as.
-ghost use Rattle.mpy_parser.specs.NestingLaws.{NestedInOneWay, NestedWithoutBlockFault, NestedWithoutFault, NestedWithoutIndentFault, SameIndentFault};
+ghost use Rattle.mpy_parser.specs.NestingLaws.{NestedInOneWay, NestedWithoutBlockFault};
+ghost use Rattle.mpy_parser.specs.NestingLaws.{NestedWithoutFault, NestedWithoutIndentFault};
+ghost use Rattle.mpy_parser.specs.NestingLaws.{SameIndentFault};
 
 /// Lines that nest have no fault of blocks.
 pub fn nested_without_block_fault()

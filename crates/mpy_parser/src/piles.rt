@@ -2,7 +2,10 @@
 ghost use Rattle.std.specs.Prelude.{◌≡◌, [], map, option_map, IfOk, OnOk};
 ghost use Rattle.mpy_tree.specs.Syntax.{end, arm};
 ghost use Rattle.mpy_tree.specs.View.{action_of, block, block_of, branch_of, statement_of, term_of};
-ghost use Rattle.mpy_parser.specs.Piles.{waiting, heap, group_at, behind_group, deeper_body, behind_deeper, body_at, behind_body, with_statement, with_if, with_arm, with_else, with_header, with_line, group_of, groups_of, heap_of};
+ghost use Rattle.mpy_parser.specs.Piles.{waiting, heap, group_at, behind_group, deeper_body};
+ghost use Rattle.mpy_parser.specs.Piles.{behind_deeper, body_at, behind_body, with_statement};
+ghost use Rattle.mpy_parser.specs.Piles.{with_if, with_arm, with_else, with_header, with_line};
+ghost use Rattle.mpy_parser.specs.Piles.{group_of, groups_of, heap_of};
 ghost use Rattle.mpy_tree.specs.Syntax.{no_arms, no_block};
 ghost use Rattle.mpy_parser.specs.Views.{opening_of, line_of};
 
@@ -13,7 +16,8 @@ use crate::stacks::Stack;
 use mpy_tree::{Act, Arm, Arms, Expr, Func, Stmt, Stmts};
 use std::alloc::Global;
 
-/// The statements of one column that no header has taken yet, and the arms before them, which go on with an `if` that is still to come.
+/// The statements of one column that no header has taken yet, and the arms before them, which go on
+/// with an `if` that is still to come.
 #[derive(Drop)]
 pub(crate) struct Group {
     pub(crate) column: u32,

@@ -5,15 +5,16 @@ ghost use Rattle.mpy_tree.specs.Syntax.{Routine};
 ghost use Rattle.mpy_tree.specs.View.{routines_of};
 ghost use Rattle.mpy_lexer.specs.declared.forms.Form.TheVariants as form;
 ghost use Rattle.mpy_lexer.specs.Lexing.{lex};
-ghost use Rattle.mpy_parser.specs.Programs.{IsProgram, IsRefused, IsAnswered, IsGiven, IsRefusal, lexing_cause};
+ghost use Rattle.mpy_parser.specs.Programs.{IsProgram, IsRefused, IsAnswered, IsGiven, IsRefusal};
+ghost use Rattle.mpy_parser.specs.Programs.{lexing_cause};
 
 use crate::blocks::block_fault;
 use crate::building::build;
 use crate::columns::indent_fault;
 use crate::entries::entries;
-use crate::limits::limit_line;
 use crate::read_error::ReadError;
 use mpy_lexer::{Form, LexCause, LexError, Line, lines};
+use mpy_limits::limit_line;
 use mpy_tree::{Cause, Prog};
 use std::alloc::Global;
 
@@ -78,8 +79,10 @@ fn parse(alloc: Global, bytes: &[u8]) -> Result<Prog, ReadError>
 
 /// Reads a program from its text, of at most 1,073,741,824 bytes.
 ///
-/// The text is refused by the first cause that stands in it, each looked for in the whole text before the next: `Byte`
-/// and `Tab`, `Token`, `Limit` for a line of more than 400 tokens, `Indent`, `Syntax`, `Block`, and `Limit` for what the
+/// The text is refused by the first cause that stands in it, each looked for in the whole text
+/// before the next: `Byte`
+/// and `Tab`, `Token`, `Limit` for a line of more than 400 tokens, `Indent`, `Syntax`, `Block`, and
+/// `Limit` for what the
 /// program has too much of. Takes time linear in the text.
 pub fn read_prog(alloc: Global, bytes: &[u8]) -> Result<Prog, ReadError>
     requires { length bytes.now ≤ 1073741824 }

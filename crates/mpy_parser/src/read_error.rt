@@ -8,7 +8,8 @@ use std::alloc::AllocError;
 /// Why a text is not read as a program.
 #[derive(Clone, Copy, PartialEq, Eq, Debug, Drop)]
 pub enum ReadError {
-    /// The first cause that stands in the text, one of `Byte` to `Limit`, and its line, counted from 1.
+    /// The first cause that stands in the text, one of `Byte` to `Limit`, and its line, counted
+    /// from 1.
     Fault { cause: Cause, line: u32 },
     /// There was no memory.
     NoMemory,

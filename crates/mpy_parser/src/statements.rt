@@ -3,15 +3,13 @@ ghost use Rattle.std.specs.Prelude.{◌≡◌, Option, Some, None, option_map, I
 ghost use Rattle.mpy_tree.specs.Syntax as ast;
 ghost use Rattle.mpy_tree.specs.View.{term_of, action_of};
 ghost use Rattle.mpy_parser.specs.Items.{augmented};
-ghost use Rattle.mpy_parser.specs.ItemReading.{ended, whole, augmenting, augmented_at, assigned, at_place, is_append, argument, method, behind_name, given_at, simple_at};
+ghost use Rattle.mpy_parser.specs.ItemReading.{ended, whole, augmenting, augmented_at, assigned};
+ghost use Rattle.mpy_parser.specs.ItemReading.{at_place, is_append, argument, method, behind_name};
+ghost use Rattle.mpy_parser.specs.ItemReading.{given_at, simple_at};
 
 use crate::NoMemory;
-use crate::expressions::{behind_closing, expression};
-use mpy_tree::Level;
-use crate::terminals::Terminal;
-use crate::terms::Bracket;
-use crate::words::Word;
-use mpy_tree::{Act, ArithOp, Expr, Name};
+use mpy_expressions::{Bracket, Terminal, Word, behind_closing, expression};
+use mpy_tree::{Act, ArithOp, Expr, Level, Name};
 use std::alloc::Global;
 
 // The operator of an augmented assignment.

@@ -7,7 +7,7 @@ use Rattle.mpy_lexer.specs.declared.forms.Form.TheVariants.{Program}
 use Rattle.mpy_lexer.specs.declared.line.Line.{Line}
 use Rattle.mpy_lexer.specs.Lexing.{byte_fault, token_fault, logical_lines}
 use Rattle.mpy_lexer.specs.PhysicalLines.{rows}
-use Rattle.mpy_parser.specs.Limits.{limit_lines}
+use Rattle.mpy_limits.specs.Limits.{limit_lines}
 use Rattle.mpy_parser.specs.Programs.{HasLines, Reads, HasNoLongLine, IsProgram}
 use Rattle.mpy_round_trip.specs.Proper.{IsProper}
 use Rattle.mpy_round_trip.proofs.Scraps.{text_of_lines}

@@ -9,7 +9,7 @@ use Rattle.mpy_tree.specs.Syntax.{Routine}
 use Rattle.mpy_tree.specs.View.{routines_of}
 use Rattle.mpy_parser.specs.declared.read_error.ReadError.{ReadError}
 use Rattle.mpy_parser.specs.declared.read_error.ReadError.TheVariants as read_error
-use Rattle.mpy_parser.specs.Limits.{limit_lines}
+use Rattle.mpy_limits.specs.Limits.{limit_lines}
 use Rattle.mpy_parser.specs.ProgramLaws.{OneProgram, NotReadAndRefused, RefusedForALimit}
 use Rattle.mpy_parser.specs.Programs.{Reads, IsProgram, IsRefused, IsAnswered, HasNoLongLine}
 use Rattle.mpy_round_trip.specs.Proper.{IsProper}

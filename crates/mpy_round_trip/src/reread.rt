@@ -4,7 +4,7 @@ ghost use Rattle.mpy_tree.specs.declared.refusal.Cause.{Cause as AnyCause};
 ghost use Rattle.mpy_tree.specs.declared.refusal.Cause.TheVariants as cause;
 ghost use Rattle.mpy_tree.specs.Printing.{program_text};
 ghost use Rattle.mpy_tree.specs.View.{routines_of};
-ghost use Rattle.mpy_parser.specs.Limits.{limit_lines};
+ghost use Rattle.mpy_limits.specs.Limits.{limit_lines};
 ghost use Rattle.mpy_parser.specs.Programs.{HasNoLongLine, IsAnswered, IsProgram};
 ghost use Rattle.mpy_parser.specs.declared.read_error.ReadError.TheVariants as read_error;
 ghost use Rattle.mpy_round_trip.specs.Proper.{IsProper};

@@ -7,12 +7,12 @@ use Rattle.mpy_tree.specs.Syntax as ast
 use Rattle.mpy_tree.specs.Printing.{arith_text}
 use Rattle.mpy_lexer.specs.declared.forms.Kind.TheVariants as kind
 use Rattle.mpy_tree.specs.declared.levels.Level.TheVariants as level
-use Rattle.mpy_parser.specs.declared.words.Word.{Word}
-use Rattle.mpy_parser.specs.declared.words.Word.TheVariants as word
-use Rattle.mpy_parser.specs.declared.terminals.Terminal.{Terminal}
-use Rattle.mpy_parser.specs.declared.terminals.Terminal.TheVariants as terminal
-use Rattle.mpy_parser.specs.Terminals.{word_of, terminal_by}
-use Rattle.mpy_parser.specs.Grammar.{Spells}
+use Rattle.mpy_expressions.specs.declared.words.Word.{Word}
+use Rattle.mpy_expressions.specs.declared.words.Word.TheVariants as word
+use Rattle.mpy_expressions.specs.declared.terminals.Terminal.{Terminal}
+use Rattle.mpy_expressions.specs.declared.terminals.Terminal.TheVariants as terminal
+use Rattle.mpy_expressions.specs.Terminals.{word_of, terminal_by}
+use Rattle.mpy_expressions.specs.Grammar.{Spells}
 use Rattle.mpy_parser.specs.Items.{Opening, function, headed, simple, augmented, assign, augment, put, augment_at, append, give, name_list, SpellsHeader, SpellsItem, a_function, open_body, a_statement, a_header}
 use Rattle.mpy_round_trip.specs.Proper.{IsProperTerm, MayAugment}
 use Rattle.mpy_round_trip.proofs.Scraps.{gap}

@@ -4,7 +4,7 @@ use Rattle.std.proofs.lemmas.List.{length-map, length-take, length-drop}
 use Rattle.mpy_tree.specs.Syntax.{at, Action, Block, end, step, MaybeBlock, no_block, a_block, arm, Branches, no_arms, arm_and, Routine}
 use Rattle.mpy_tree.specs.Syntax as ast
 use Rattle.mpy_tree.specs.Equality.{block_without_lines, action_without_lines, arms_without_lines, else_without_lines, without_lines}
-use Rattle.mpy_parser.specs.Limits.{line_if, too_deep, deeper, block_lines, action_lines, arms_lines, last_lines, statements, statements_in, statements_of, statements_last, is_large_header, routine_lines, limit_lines}
+use Rattle.mpy_limits.specs.Limits.{line_if, too_deep, deeper, block_lines, action_lines, arms_lines, last_lines, statements, statements_in, statements_of, statements_last, is_large_header, routine_lines, limit_lines}
 
 joined : {A B : Type 0} (xs ys : List A) (us vs : List B) → length xs ≡ length us → length ys ≡ length vs → length (xs ++ ys) ≡ length (us ++ vs)
 joined xs ys us vs h k = length-append xs ys ∙ ap (λ n. n + length ys) h ∙ ap (λ n. length us + n) k ∙ sym (length-append us vs)

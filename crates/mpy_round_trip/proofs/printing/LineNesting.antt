@@ -5,9 +5,9 @@ use Rattle.mpy_tree.specs.Syntax.{no_term, a_term, at, Action, Block, end, step,
 use Rattle.mpy_tree.specs.Syntax as ast
 use Rattle.mpy_tree.specs.Equality.{block_without_lines, action_without_lines, arms_without_lines, else_without_lines, without_lines}
 use Rattle.mpy_lexer.specs.declared.line.Line.{Line}
-use Rattle.mpy_parser.specs.declared.words.Word.TheVariants as word
-use Rattle.mpy_parser.specs.declared.terminals.Terminal.TheVariants as terminal
-use Rattle.mpy_parser.specs.Terminals.{word_of}
+use Rattle.mpy_expressions.specs.declared.words.Word.TheVariants as word
+use Rattle.mpy_expressions.specs.declared.terminals.Terminal.TheVariants as terminal
+use Rattle.mpy_expressions.specs.Terminals.{word_of}
 use Rattle.mpy_parser.specs.Items.{function, when, else_when, otherwise, while, for_each, LineItem, simple, headed, SpellsItem, a_statement, a_header, give_nothing, pass, leave, again, an_if, a_while, a_for, open_body, an_elif as elif_header, an_else as else_header}
 use Rattle.mpy_parser.specs.Nesting.{ItemLine, item_line, MayStand, IsBlock, IsBody, AreArms, AreRoutines, no_lines, a_simple, a_loop, an_each, a_test, below, no_more, an_elif, an_else, no_routines, a_routine, routine}
 use Rattle.mpy_parser.specs.Programs.{AreItems}

@@ -12,13 +12,13 @@ use Rattle.mpy_lexer.specs.declared.token.Token.{Token}
 use Rattle.mpy_lexer.specs.declared.forms.Kind.TheVariants as kind
 use Rattle.mpy_tree.specs.declared.levels.Level.{Level}
 use Rattle.mpy_tree.specs.declared.levels.Level.TheVariants as level
-use Rattle.mpy_parser.specs.declared.words.Word.TheVariants as word
-use Rattle.mpy_parser.specs.declared.terminals.Terminal.{Terminal}
-use Rattle.mpy_parser.specs.declared.terminals.Terminal.TheVariants as terminal
-use Rattle.mpy_parser.specs.Terminals.{word_of, terminal_by, terminal_of, terminals}
+use Rattle.mpy_expressions.specs.declared.words.Word.TheVariants as word
+use Rattle.mpy_expressions.specs.declared.terminals.Terminal.{Terminal}
+use Rattle.mpy_expressions.specs.declared.terminals.Terminal.TheVariants as terminal
+use Rattle.mpy_expressions.specs.Terminals.{word_of, terminal_by, terminal_of, terminals}
 use Rattle.mpy_tree.specs.Levels.{above, operator_level, left_level, right_level}
-use Rattle.mpy_parser.specs.Joints.{arith_word}
-use Rattle.mpy_parser.specs.Grammar.{Spells, SpellsEnd, SpellsAll, conditional, disjunction, conjunction, negation, compared, arithmetic, minus, index, slice, number, quoted, truth, call, items, parenthesized, higher, missing, given, none, one, more, comparison, truth_word, name as a_name}
+use Rattle.mpy_expressions.specs.Joints.{arith_word}
+use Rattle.mpy_expressions.specs.Grammar.{Spells, SpellsEnd, SpellsAll, conditional, disjunction, conjunction, negation, compared, arithmetic, minus, index, slice, number, quoted, truth, call, items, parenthesized, higher, missing, given, none, one, more, comparison, truth_word, name as a_name}
 use Rattle.mpy_round_trip.specs.Proper.{IsProperTerm, AreProperTerms, IsProperEnd}
 use Rattle.mpy_round_trip.proofs.Scraps.{Scrap, gap, word as piece, scrap_of, words_in}
 use Rattle.mpy_round_trip.proofs.printing.ProgramLines.{mark, part_scraps, compare_scraps, term_scraps, list_scraps, rest_scraps, end_scraps}

@@ -7,10 +7,10 @@ use Rattle.mpy_tree.specs.Syntax.{Action}
 use Rattle.mpy_lexer.specs.declared.forms.Form.TheVariants.{Program}
 use Rattle.mpy_lexer.specs.declared.line.Line.{Line}
 use Rattle.mpy_lexer.specs.Spans.{IsLineOf}
-use Rattle.mpy_parser.specs.declared.words.Word.{Word}
-use Rattle.mpy_parser.specs.declared.words.Word.TheVariants as word
-use Rattle.mpy_parser.specs.declared.terminals.Terminal.{Terminal}
-use Rattle.mpy_parser.specs.declared.terminals.Terminal.TheVariants as terminal
+use Rattle.mpy_expressions.specs.declared.words.Word.{Word}
+use Rattle.mpy_expressions.specs.declared.words.Word.TheVariants as word
+use Rattle.mpy_expressions.specs.declared.terminals.Terminal.{Terminal}
+use Rattle.mpy_expressions.specs.declared.terminals.Terminal.TheVariants as terminal
 use Rattle.mpy_parser.specs.Items.{Opening, function, when, else_when, otherwise, while, for_each, LineItem, simple, headed, augmented, SpellsSimple, assign, augment, put, augment_at, append, give_nothing, give, pass, leave, again, name_list, SpellsHeader, a_function, an_if, an_elif, an_else, a_while, a_for, SpellsBody, open_body, one_statement, SpellsItem, a_statement, a_header}
 use Rattle.mpy_parser.specs.Nesting.{ItemLine, MayStand}
 use Rattle.mpy_parser.specs.Programs.{AreItems}

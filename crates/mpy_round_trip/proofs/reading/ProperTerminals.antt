@@ -12,10 +12,10 @@ use Rattle.mpy_lexer.specs.Bytes.{is_quote}
 use Rattle.mpy_lexer.specs.Pieces.{number_value, number_of}
 use Rattle.mpy_lexer.specs.TokenForms.{has_form}
 use Rattle.mpy_lexer.specs.Spans.{IsIn}
-use Rattle.mpy_parser.specs.declared.words.Word.{Word}
-use Rattle.mpy_parser.specs.declared.terminals.Terminal.{Terminal}
-use Rattle.mpy_parser.specs.declared.terminals.Terminal.TheVariants as terminal
-use Rattle.mpy_parser.specs.Terminals.{word_terminal, word_of, is_numeral, number_terminal_of, is_printable, is_escapable, with_character, characters, text_terminal, text_terminal_of, terminal_by, terminals}
+use Rattle.mpy_expressions.specs.declared.words.Word.{Word}
+use Rattle.mpy_expressions.specs.declared.terminals.Terminal.{Terminal}
+use Rattle.mpy_expressions.specs.declared.terminals.Terminal.TheVariants as terminal
+use Rattle.mpy_expressions.specs.Terminals.{word_terminal, word_of, is_numeral, number_terminal_of, is_printable, is_escapable, with_character, characters, text_terminal, text_terminal_of, terminal_by, terminals}
 use Rattle.mpy_round_trip.specs.Proper.{IsName}
 
 -- a terminal of which proper terms are made

@@ -1,5 +1,5 @@
 use Rattle.std.proofs.Common.{option_map, refl, ap, sym, ◌∙◌}
-use Rattle.mpy_parser.specs.Terminals.{terminals}
+use Rattle.mpy_expressions.specs.Terminals.{terminals}
 use Rattle.mpy_parser.specs.ItemReading.{item_at}
 use Rattle.mpy_parser.specs.Views.{item_of}
 use Rattle.mpy_parser.proofs.LinesSpelled.{spelled_by, not_spelled_by}

@@ -1,7 +1,7 @@
 use Rattle.std.proofs.Common.{[], IfOk, IfErr, ap, subst, sym, ◌∙◌}
 use Rattle.mpy_tree.specs.View.{routines_of}
 use Rattle.mpy_parser.specs.Faults.{indent_fault, block_fault}
-use Rattle.mpy_parser.specs.Limits.{limit_lines}
+use Rattle.mpy_limits.specs.Limits.{limit_lines}
 use Rattle.mpy_parser.specs.Programs.{AreItems, IsFirstUnspelled, by_columns, by_blocks, by_limits}
 use Rattle.mpy_parser.specs.Views.{lines_of}
 use Rattle.mpy_parser.proofs.Fine.{same_indents}

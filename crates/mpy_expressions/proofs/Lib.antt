@@ -1,0 +1,8 @@
+pub mod Shorter
+pub mod Readings
+pub mod Sound
+pub mod Elements
+pub mod Stopping
+pub mod Complete
+pub mod Characters
+pub mod Between

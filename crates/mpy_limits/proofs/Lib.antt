@@ -1,0 +1,7 @@
+pub mod Depths
+pub mod Leasts
+pub mod StatementPlaces
+pub mod Actions
+pub mod Lines
+pub mod Functions
+mod LimitExamples

@@ -1,0 +1,159 @@
+-- How large a program may be, and where one is larger.
+use Rattle.std.specs.Prelude.{ℕ, zero, suc, ◌+◌, max, Bool, false, ◌||◌, nat_lt, List, [], ◌∷◌}
+use Rattle.std.specs.Prelude.{◌++◌, length, map, take, drop, Result, Ok, Err, if◌then◌else◌}
+use Rattle.std.specs.List.{flat_map, list_any}
+use Rattle.mpy_tree.specs.Syntax.{Term, Terms, MaybeTerm, no_terms, term_and, no_term, a_term, at}
+use Rattle.mpy_tree.specs.Syntax.{Action, Block, end, step, MaybeBlock, no_block, a_block, arm}
+use Rattle.mpy_tree.specs.Syntax.{Branches, no_arms, arm_and, Routine}
+use Rattle.mpy_tree.specs.Syntax as ast
+
+-- a leaf has depth 1, and every other node one more than its deepest part
+abbrev mutual
+  pub depth : Term → ℕ
+  depth (ast.Int n) = 1
+  depth (ast.Bool b) = 1
+  depth (ast.Text cs) = 1
+  depth (ast.Name x) = 1
+  depth (ast.List es) = 1 + most_depth es
+  depth (ast.Neg e) = 1 + depth e
+  depth (ast.Not e) = 1 + depth e
+  depth (ast.Arith op a b) = 1 + max (depth a) (depth b)
+  depth (ast.Cmp op a b) = 1 + max (depth a) (depth b)
+  depth (ast.And a b) = 1 + max (depth a) (depth b)
+  depth (ast.Or a b) = 1 + max (depth a) (depth b)
+  depth (ast.Cond t a b) = 1 + max (depth t) (max (depth a) (depth b))
+  depth (ast.Index v i) = 1 + max (depth v) (depth i)
+  depth (ast.Slice v from to) = 1 + max (depth v) (max (end_depth from) (end_depth to))
+  depth (ast.Call f es) = 1 + most_depth es
+
+  pub most_depth : Terms → ℕ
+  most_depth no_terms = 0
+  most_depth (term_and e es) = max (depth e) (most_depth es)
+
+  pub end_depth : MaybeTerm → ℕ
+  end_depth no_term = 0
+  end_depth (a_term e) = depth e
+
+-- a name of more than 40 bytes
+abbrev pub is_long : List ℕ → Bool
+is_long x = nat_lt 40 (length x)
+
+abbrev mutual
+  pub has_long : Term → Bool
+  has_long (ast.Int n) = false
+  has_long (ast.Bool b) = false
+  has_long (ast.Text cs) = false
+  has_long (ast.Name x) = is_long x
+  has_long (ast.List es) = some_has_long es
+  has_long (ast.Neg e) = has_long e
+  has_long (ast.Not e) = has_long e
+  has_long (ast.Arith op a b) = has_long a || has_long b
+  has_long (ast.Cmp op a b) = has_long a || has_long b
+  has_long (ast.And a b) = has_long a || has_long b
+  has_long (ast.Or a b) = has_long a || has_long b
+  has_long (ast.Cond t a b) = has_long t || has_long a || has_long b
+  has_long (ast.Index v i) = has_long v || has_long i
+  has_long (ast.Slice v from to) = has_long v || end_has_long from || end_has_long to
+  has_long (ast.Call f es) = is_long f || some_has_long es
+
+  pub some_has_long : Terms → Bool
+  some_has_long no_terms = false
+  some_has_long (term_and e es) = has_long e || some_has_long es
+
+  pub end_has_long : MaybeTerm → Bool
+  end_has_long no_term = false
+  end_has_long (a_term e) = has_long e
+
+-- deeper than 32, or with a name that is too long
+abbrev pub is_large : Term → Bool
+is_large e = nat_lt 32 (depth e) || has_long e
+
+abbrev pub end_is_large : MaybeTerm → Bool
+end_is_large no_term = false
+end_is_large (a_term e) = is_large e
+
+abbrev pub line_if : Bool → ℕ → List ℕ
+line_if b line = if b then line ∷ [] else []
+
+-- the line of the first statement of a block, if it is nested deeper than 8
+abbrev pub too_deep : ℕ → Block → List ℕ
+too_deep d end = []
+too_deep d (step (at line act) rest) = line_if (nat_lt 8 d) line
+
+-- nesting one deeper, counted up to 9, which is deeper than any block may be
+abbrev pub deeper : ℕ → ℕ
+deeper d = if nat_lt 8 d then d else suc d
+
+-- The lines on which a block, nested d deep, passes a limit.
+abbrev mutual
+  pub block_lines : ℕ → Block → List ℕ
+  block_lines d end = []
+  block_lines d (step (at line act) rest) = action_lines d line act ++ block_lines d rest
+
+  pub action_lines : ℕ → ℕ → Action → List ℕ
+  action_lines d line (ast.Assign x e) = line_if (is_long x || is_large e) line
+  action_lines d line (ast.Augment x op e) = line_if (is_long x || is_large e) line
+  action_lines d line (ast.Put x i e) = line_if (is_long x || is_large i || is_large e) line
+  action_lines d line (ast.AugmentAt x i op e) =
+      line_if (is_long x || is_large i || is_large e) line
+  action_lines d line (ast.Append x e) = line_if (is_long x || is_large e) line
+  action_lines d line (ast.Return e) = line_if (end_is_large e) line
+  action_lines d line ast.Pass = []
+  action_lines d line ast.Break = []
+  action_lines d line ast.Continue = []
+  action_lines d line (ast.If arms last) = arms_lines d arms ++ last_lines d last
+  action_lines d line (ast.While e body) =
+      line_if (is_large e) line ++ too_deep (deeper d) body ++ block_lines (deeper d) body
+  action_lines d line (ast.For x e body) =
+      line_if (is_long x || is_large e) line ++ too_deep (deeper d) body
+      ++ block_lines (deeper d) body
+
+  pub arms_lines : ℕ → Branches → List ℕ
+  arms_lines d no_arms = []
+  arms_lines d (arm_and (arm line e body) rest) =
+      line_if (is_large e) line ++ too_deep (deeper d) body ++ block_lines (deeper d) body
+      ++ arms_lines d rest
+
+  pub last_lines : ℕ → MaybeBlock → List ℕ
+  last_lines d no_block = []
+  last_lines d (a_block body) = too_deep (deeper d) body ++ block_lines (deeper d) body
+
+-- the lines of all statements, in the order of the text; an `if` with all its arms is one
+abbrev mutual
+  pub statements : Block → List ℕ
+  statements end = []
+  statements (step (at line act) rest) = (line ∷ statements_in act) ++ statements rest
+
+  pub statements_in : Action → List ℕ
+  statements_in (ast.If arms last) = statements_of arms ++ statements_last last
+  statements_in (ast.While e body) = statements body
+  statements_in (ast.For x e body) = statements body
+  statements_in _ = []
+
+  pub statements_of : Branches → List ℕ
+  statements_of no_arms = []
+  statements_of (arm_and (arm line e body) rest) = statements body ++ statements_of rest
+
+  pub statements_last : MaybeBlock → List ℕ
+  statements_last no_block = []
+  statements_last (a_block body) = statements body
+
+-- the member at a place, counted from 0, or how far the place is behind the end
+abbrev pub nth_or_left : List ℕ → ℕ → Result ℕ ℕ
+nth_or_left [] n = Err n
+nth_or_left (x ∷ xs) zero = Ok x
+nth_or_left (x ∷ xs) (suc n) = nth_or_left xs n
+
+-- more than 6 parameters, or a name that is too long
+abbrev pub is_large_header : Routine → Bool
+is_large_header r = nat_lt 6 (length r.params) || is_long r.name || list_any is_long r.params
+
+abbrev pub routine_lines : Routine → List ℕ
+routine_lines r = line_if (is_large_header r) r.line ++ block_lines 1 r.body
+
+-- All lines on which a program passes a limit: those of its 9th function, of its 201st statement,
+-- and those above.
+abbrev pub limit_lines : List Routine → List ℕ
+limit_lines rs =
+    map (λ r. r.line) (take 1 (drop 8 rs))
+    ++ take 1 (drop 200 (flat_map (λ r. statements r.body) rs)) ++ flat_map routine_lines rs

@@ -1,0 +1,6 @@
+//! How large a program may be.
+#![tactic(auto)]
+
+mod limits;
+
+pub use limits::limit_line;
