@@ -9,7 +9,7 @@ use Rattle.mpy_tree.specs.declared.operators.ArithOp.{ArithOp}
 use Rattle.mpy_tree.specs.declared.operators.ArithOp.TheVariants.{Add, Sub, Mul, Floor, Rem, Power}
 use Rattle.mpy_tree.specs.declared.value.Value.{Value}
 use Rattle.mpy_tree.specs.declared.value.Value.TheVariants as value
-use Rattle.mpy_tree.specs.declared.outcome.Fault.{Fault}
+use Rattle.mpy_tree.specs.declared.outcome.Halted.{Halted}
 use Rattle.mpy_tree.specs.declared.outcome.FaultKind.TheVariants.{Overflow}
 use Rattle.mpy_tree.specs.Values.{◌>>=◌, fault, on_line, State, same_bytes, set_or_fault, nothing_set, assign}
 use Rattle.mpy_tree.specs.Operations.{fits, number, arith as arith_op}
@@ -35,7 +35,7 @@ IsOver x (ast.Arith op a b) = IsSumOrProduct op × IsOver x a × IsOver x b
 IsOver x _ = ⊥
 
 -- an evaluation on a line, by a value or none
-abbrev pub result_by : ℕ → Option ℤ → Result Value Fault
+abbrev pub result_by : ℕ → Option ℤ → Result Value Halted
 result_by line None = Err (fault Overflow line)
 result_by line (Some v) = Ok (value.Int v)
 

@@ -1,3 +1,4 @@
+pub mod ParenthesesLaw
 pub mod Scraps
 pub mod printing
 pub mod lexing

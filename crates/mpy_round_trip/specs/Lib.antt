@@ -1,3 +1,4 @@
+pub mod Parentheses
 pub mod Proper
 pub mod RoundTrip
 pub mod ReadingProper

@@ -1,4 +1,5 @@
 //! Laws of programs and their texts.
+ghost use Rattle.mpy_round_trip.specs.Parentheses.{ParenthesizedAboveItsLevel};
 ghost use Rattle.mpy_round_trip.specs.RoundTrip.{SpelledByItsText, SpelledByNoOther};
 
 use mpy_parser::one_program;
@@ -14,3 +15,8 @@ pub fn spelled_by_no_other()
 {
     one_program();
 }
+
+/// The level by which the printer puts parentheses round a part is the highest that spells the part without them.
+pub fn parenthesized_above_its_level()
+    ensures holds { ParenthesizedAboveItsLevel }
+{}

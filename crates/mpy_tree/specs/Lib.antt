@@ -3,13 +3,17 @@ pub mod Comparing
 pub mod Equality
 pub mod Expressions
 pub mod Levels
+pub mod Locals
 pub mod Operations
 pub mod Outcomes
 pub mod Printable
 pub mod Printing
 pub mod Refusals
 pub mod Running
+pub mod Shapes
+pub mod Sites
 pub mod Statements
 pub mod Syntax
+pub mod Trees
 pub mod Values
 pub mod View

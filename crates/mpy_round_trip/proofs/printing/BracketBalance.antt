@@ -7,7 +7,10 @@ use Rattle.mpy_tree.specs.declared.operators.CmpOp.{CmpOp}
 use Rattle.mpy_tree.specs.declared.operators.CmpOp.TheVariants.{Eq, Ne, Lt, Le, Gt, Ge, Member, NotMember}
 use Rattle.mpy_tree.specs.Syntax.{Term, Terms, MaybeTerm, no_terms, term_and, no_term, a_term}
 use Rattle.mpy_tree.specs.Syntax as ast
-use Rattle.mpy_tree.specs.Printing.{quoted_text, truth_text, arith_text, level_of, left_level, right_level}
+use Rattle.mpy_tree.specs.declared.levels.Level.{Level}
+use Rattle.mpy_tree.specs.declared.levels.Level.TheVariants as level
+use Rattle.mpy_tree.specs.Levels.{rank, left_level, right_level}
+use Rattle.mpy_tree.specs.Printing.{quoted_text, truth_text, arith_text, level_of}
 use Rattle.mpy_lexer.specs.declared.forms.Kind.{Kind}
 use Rattle.mpy_lexer.specs.declared.forms.Kind.TheVariants as kind
 use Rattle.mpy_lexer.specs.Brackets.{first_of_mark, is_opening, is_closing, closes, open_behind}
@@ -63,8 +66,8 @@ in_square {put} p = record {
   matched = λ line opened ss m. (refl, p.matched line (record { mark = 91; line = line } ∷ opened) (mark (codes "]") ∷ ss) (refl, m));
 }
 
-part_balanced : (k : ℕ) (e : Term) (put : List Scrap → List Scrap) → IsBalanced put → IsBalanced (part_scraps k e put)
-part_balanced k e put p = by_case (nat_lt (level_of e) k)
+part_balanced : (k : Level) (e : Term) (put : List Scrap → List Scrap) → IsBalanced put → IsBalanced (part_scraps k e put)
+part_balanced k e put p = by_case (nat_lt (rank (level_of e)) (rank k))
   where
     by_case : (b : Bool) → IsBalanced (λ ss. cond b (mark (codes "(") ∷ put (mark (codes ")") ∷ ss)) (put ss))
     by_case true = in_round p
@@ -117,15 +120,15 @@ mutual
   term_balanced (ast.Text cs) = token kind.Text (quoted_text cs) (refl, refl)
   term_balanced (ast.Name x) = token kind.Name x (refl, refl)
   term_balanced (ast.List es) = in_square (list_balanced es)
-  term_balanced (ast.Neg e) = and_then (token kind.Mark (codes "-") (refl, refl)) (part_balanced 7 e (term_scraps e) (term_balanced e))
-  term_balanced (ast.Not e) = and_then (token kind.Reserved (codes "not") (refl, refl)) (and_then space (part_balanced 3 e (term_scraps e) (term_balanced e)))
+  term_balanced (ast.Neg e) = and_then (token kind.Mark (codes "-") (refl, refl)) (part_balanced level.Unary e (term_scraps e) (term_balanced e))
+  term_balanced (ast.Not e) = and_then (token kind.Reserved (codes "not") (refl, refl)) (and_then space (part_balanced level.Negation e (term_scraps e) (term_balanced e)))
   term_balanced (ast.Arith op a b) = and_then (part_balanced (left_level op) a (term_scraps a) (term_balanced a)) (and_then (operator op) (part_balanced (right_level op) b (term_scraps b) (term_balanced b)))
-  term_balanced (ast.Cmp op a b) = and_then (part_balanced 5 a (term_scraps a) (term_balanced a)) (and_then (compare_balanced op) (part_balanced 5 b (term_scraps b) (term_balanced b)))
-  term_balanced (ast.And a b) = and_then (part_balanced 2 a (term_scraps a) (term_balanced a)) (and_then (a_word (codes "and")) (part_balanced 3 b (term_scraps b) (term_balanced b)))
-  term_balanced (ast.Or a b) = and_then (part_balanced 1 a (term_scraps a) (term_balanced a)) (and_then (a_word (codes "or")) (part_balanced 2 b (term_scraps b) (term_balanced b)))
-  term_balanced (ast.Cond t a b) = and_then (part_balanced 1 a (term_scraps a) (term_balanced a)) (and_then (a_word (codes "if")) (and_then (part_balanced 1 t (term_scraps t) (term_balanced t)) (and_then (a_word (codes "else")) (term_balanced b))))
-  term_balanced (ast.Index v i) = and_then (part_balanced 9 v (term_scraps v) (term_balanced v)) (in_square (term_balanced i))
-  term_balanced (ast.Slice v from to) = and_then (part_balanced 9 v (term_scraps v) (term_balanced v)) (in_square (and_then (end_balanced from) (and_then (token kind.Mark (codes ":") (refl, refl)) (end_balanced to))))
+  term_balanced (ast.Cmp op a b) = and_then (part_balanced level.Sum a (term_scraps a) (term_balanced a)) (and_then (compare_balanced op) (part_balanced level.Sum b (term_scraps b) (term_balanced b)))
+  term_balanced (ast.And a b) = and_then (part_balanced level.Conjunction a (term_scraps a) (term_balanced a)) (and_then (a_word (codes "and")) (part_balanced level.Negation b (term_scraps b) (term_balanced b)))
+  term_balanced (ast.Or a b) = and_then (part_balanced level.Disjunction a (term_scraps a) (term_balanced a)) (and_then (a_word (codes "or")) (part_balanced level.Conjunction b (term_scraps b) (term_balanced b)))
+  term_balanced (ast.Cond t a b) = and_then (part_balanced level.Disjunction a (term_scraps a) (term_balanced a)) (and_then (a_word (codes "if")) (and_then (part_balanced level.Disjunction t (term_scraps t) (term_balanced t)) (and_then (a_word (codes "else")) (term_balanced b))))
+  term_balanced (ast.Index v i) = and_then (part_balanced level.Postfix v (term_scraps v) (term_balanced v)) (in_square (term_balanced i))
+  term_balanced (ast.Slice v from to) = and_then (part_balanced level.Postfix v (term_scraps v) (term_balanced v)) (in_square (and_then (end_balanced from) (and_then (token kind.Mark (codes ":") (refl, refl)) (end_balanced to))))
   term_balanced (ast.Call f es) = and_then (token kind.Name f (refl, refl)) (in_round (list_balanced es))
 
   list_balanced : (es : Terms) → IsBalanced (list_scraps es)

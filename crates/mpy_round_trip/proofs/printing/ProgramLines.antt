@@ -5,7 +5,10 @@ use Rattle.mpy_tree.specs.declared.operators.CmpOp.{CmpOp}
 use Rattle.mpy_tree.specs.declared.operators.CmpOp.TheVariants.{Eq, Ne, Lt, Le, Gt, Ge, Member, NotMember}
 use Rattle.mpy_tree.specs.Syntax.{Term, Terms, MaybeTerm, no_terms, term_and, no_term, a_term, at, Action, Block, end, step, MaybeBlock, no_block, a_block, arm, Branches, no_arms, arm_and, Routine}
 use Rattle.mpy_tree.specs.Syntax as ast
-use Rattle.mpy_tree.specs.Printing.{quoted_text, truth_text, arith_text, level_of, left_level, right_level}
+use Rattle.mpy_tree.specs.declared.levels.Level.{Level}
+use Rattle.mpy_tree.specs.declared.levels.Level.TheVariants as level
+use Rattle.mpy_tree.specs.Levels.{rank, left_level, right_level}
+use Rattle.mpy_tree.specs.Printing.{quoted_text, truth_text, arith_text, level_of}
 use Rattle.mpy_lexer.specs.declared.forms.Kind.TheVariants as kind
 use Rattle.mpy_round_trip.proofs.Scraps.{Scrap, gap, word, Printed}
 
@@ -19,8 +22,8 @@ abbrev pub mark : List ℕ → Scrap
 mark bytes = word kind.Mark bytes
 
 -- a part, in parentheses where its own level is below the one asked for
-abbrev pub part_scraps : ℕ → Term → (List Scrap → List Scrap) → List Scrap → List Scrap
-part_scraps k e inner ss = if nat_lt (level_of e) k then mark (codes "(") ∷ inner (mark (codes ")") ∷ ss) else inner ss
+abbrev pub part_scraps : Level → Term → (List Scrap → List Scrap) → List Scrap → List Scrap
+part_scraps k e inner ss = if nat_lt (rank (level_of e)) (rank k) then mark (codes "(") ∷ inner (mark (codes ")") ∷ ss) else inner ss
 
 abbrev pub compare_scraps : CmpOp → List Scrap → List Scrap
 compare_scraps Eq ss = mark (codes "==") ∷ ss
@@ -39,15 +42,15 @@ abbrev mutual
   term_scraps (ast.Text cs) ss = word kind.Text (quoted_text cs) ∷ ss
   term_scraps (ast.Name x) ss = name x ∷ ss
   term_scraps (ast.List es) ss = mark (codes "[") ∷ list_scraps es (mark (codes "]") ∷ ss)
-  term_scraps (ast.Neg e) ss = mark (codes "-") ∷ part_scraps 7 e (term_scraps e) ss
-  term_scraps (ast.Not e) ss = reserved (codes "not") ∷ gap ∷ part_scraps 3 e (term_scraps e) ss
+  term_scraps (ast.Neg e) ss = mark (codes "-") ∷ part_scraps level.Unary e (term_scraps e) ss
+  term_scraps (ast.Not e) ss = reserved (codes "not") ∷ gap ∷ part_scraps level.Negation e (term_scraps e) ss
   term_scraps (ast.Arith op a b) ss = part_scraps (left_level op) a (term_scraps a) (gap ∷ mark (arith_text op) ∷ gap ∷ part_scraps (right_level op) b (term_scraps b) ss)
-  term_scraps (ast.Cmp op a b) ss = part_scraps 5 a (term_scraps a) (gap ∷ compare_scraps op (gap ∷ part_scraps 5 b (term_scraps b) ss))
-  term_scraps (ast.And a b) ss = part_scraps 2 a (term_scraps a) (gap ∷ reserved (codes "and") ∷ gap ∷ part_scraps 3 b (term_scraps b) ss)
-  term_scraps (ast.Or a b) ss = part_scraps 1 a (term_scraps a) (gap ∷ reserved (codes "or") ∷ gap ∷ part_scraps 2 b (term_scraps b) ss)
-  term_scraps (ast.Cond t a b) ss = part_scraps 1 a (term_scraps a) (gap ∷ reserved (codes "if") ∷ gap ∷ part_scraps 1 t (term_scraps t) (gap ∷ reserved (codes "else") ∷ gap ∷ term_scraps b ss))
-  term_scraps (ast.Index v i) ss = part_scraps 9 v (term_scraps v) (mark (codes "[") ∷ term_scraps i (mark (codes "]") ∷ ss))
-  term_scraps (ast.Slice v from to) ss = part_scraps 9 v (term_scraps v) (mark (codes "[") ∷ end_scraps from (mark (codes ":") ∷ end_scraps to (mark (codes "]") ∷ ss)))
+  term_scraps (ast.Cmp op a b) ss = part_scraps level.Sum a (term_scraps a) (gap ∷ compare_scraps op (gap ∷ part_scraps level.Sum b (term_scraps b) ss))
+  term_scraps (ast.And a b) ss = part_scraps level.Conjunction a (term_scraps a) (gap ∷ reserved (codes "and") ∷ gap ∷ part_scraps level.Negation b (term_scraps b) ss)
+  term_scraps (ast.Or a b) ss = part_scraps level.Disjunction a (term_scraps a) (gap ∷ reserved (codes "or") ∷ gap ∷ part_scraps level.Conjunction b (term_scraps b) ss)
+  term_scraps (ast.Cond t a b) ss = part_scraps level.Disjunction a (term_scraps a) (gap ∷ reserved (codes "if") ∷ gap ∷ part_scraps level.Disjunction t (term_scraps t) (gap ∷ reserved (codes "else") ∷ gap ∷ term_scraps b ss))
+  term_scraps (ast.Index v i) ss = part_scraps level.Postfix v (term_scraps v) (mark (codes "[") ∷ term_scraps i (mark (codes "]") ∷ ss))
+  term_scraps (ast.Slice v from to) ss = part_scraps level.Postfix v (term_scraps v) (mark (codes "[") ∷ end_scraps from (mark (codes ":") ∷ end_scraps to (mark (codes "]") ∷ ss)))
   term_scraps (ast.Call f es) ss = name f ∷ mark (codes "(") ∷ list_scraps es (mark (codes ")") ∷ ss)
 
   pub list_scraps : Terms → List Scrap → List Scrap

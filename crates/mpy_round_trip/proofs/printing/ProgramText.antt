@@ -4,7 +4,10 @@ use Rattle.mpy_tree.specs.declared.operators.CmpOp.{CmpOp}
 use Rattle.mpy_tree.specs.declared.operators.CmpOp.TheVariants.{Eq, Ne, Lt, Le, Gt, Ge, Member, NotMember}
 use Rattle.mpy_tree.specs.Syntax.{Term, Terms, MaybeTerm, no_terms, term_and, no_term, a_term, at, Action, Block, end, step, MaybeBlock, no_block, a_block, arm, Branches, no_arms, arm_and, Routine}
 use Rattle.mpy_tree.specs.Syntax as ast
-use Rattle.mpy_tree.specs.Printing.{commas, arith_text, compare_text, level_of, left_level, right_level, at_level, text_of, texts_of, end_text, indented, return_text, block_text, action_text, arms_text, else_text, routine_text, program_text}
+use Rattle.mpy_tree.specs.declared.levels.Level.{Level}
+use Rattle.mpy_tree.specs.declared.levels.Level.TheVariants as level
+use Rattle.mpy_tree.specs.Levels.{rank, left_level, right_level}
+use Rattle.mpy_tree.specs.Printing.{commas, arith_text, compare_text, level_of, at_level, text_of, texts_of, end_text, indented, return_text, block_text, action_text, arms_text, else_text, routine_text, program_text}
 use Rattle.mpy_round_trip.proofs.Scraps.{Scrap, gap, Printed, bytes_of, text_of_lines}
 use Rattle.mpy_round_trip.proofs.printing.ProgramLines.{name, reserved, mark, part_scraps, compare_scraps, term_scraps, list_scraps, rest_scraps, end_scraps, name_scraps, return_scraps, header_scraps, printed, block_lines, action_lines, arms_lines, else_lines, routine_lines, printed_lines}
 
@@ -12,8 +15,8 @@ use Rattle.mpy_round_trip.proofs.printing.ProgramLines.{name, reserved, mark, pa
 abbrev HasText : (List Scrap → List Scrap) → List ℕ → Type 0
 HasText put text = (ss : List Scrap) → bytes_of (put ss) ≡ text ++ bytes_of ss
 
-part_text : (k : ℕ) (e : Term) (inner : List Scrap → List Scrap) (text : List ℕ) → HasText inner text → HasText (part_scraps k e inner) (at_level k e text)
-part_text k e inner text h ss = by_case (nat_lt (level_of e) k)
+part_text : (k : Level) (e : Term) (inner : List Scrap → List Scrap) (text : List ℕ) → HasText inner text → HasText (part_scraps k e inner) (at_level k e text)
+part_text k e inner text h ss = by_case (nat_lt (rank (level_of e)) (rank k))
   where
     by_case : (b : Bool) → bytes_of (cond b (mark (codes "(") ∷ inner (mark (codes ")") ∷ ss)) (inner ss)) ≡ cond b (codes "(" ++ text ++ codes ")") text ++ bytes_of ss
     by_case true = ap (λ l. 40 ∷ l) (h (mark (codes ")") ∷ ss) ∙ sym (append_assoc text (codes ")") (bytes_of ss)))
@@ -45,15 +48,15 @@ mutual
   term_text (ast.Text cs) ss = refl
   term_text (ast.Name x) ss = refl
   term_text (ast.List es) ss = simp (append_assoc, list_text es)
-  term_text (ast.Neg e) ss = simp (append_assoc, part_text 7 e (term_scraps e) (text_of e) (term_text e))
-  term_text (ast.Not e) ss = simp (append_assoc, part_text 3 e (term_scraps e) (text_of e) (term_text e))
+  term_text (ast.Neg e) ss = simp (append_assoc, part_text level.Unary e (term_scraps e) (text_of e) (term_text e))
+  term_text (ast.Not e) ss = simp (append_assoc, part_text level.Negation e (term_scraps e) (text_of e) (term_text e))
   term_text (ast.Arith op a b) ss = simp (append_assoc, part_text (left_level op) a (term_scraps a) (text_of a) (term_text a), part_text (right_level op) b (term_scraps b) (text_of b) (term_text b))
-  term_text (ast.Cmp op a b) ss = simp (append_assoc, compare_has_text op, part_text 5 a (term_scraps a) (text_of a) (term_text a), part_text 5 b (term_scraps b) (text_of b) (term_text b))
-  term_text (ast.And a b) ss = simp (append_assoc, part_text 2 a (term_scraps a) (text_of a) (term_text a), part_text 3 b (term_scraps b) (text_of b) (term_text b))
-  term_text (ast.Or a b) ss = simp (append_assoc, part_text 1 a (term_scraps a) (text_of a) (term_text a), part_text 2 b (term_scraps b) (text_of b) (term_text b))
-  term_text (ast.Cond t a b) ss = simp (append_assoc, part_text 1 a (term_scraps a) (text_of a) (term_text a), part_text 1 t (term_scraps t) (text_of t) (term_text t), term_text b)
-  term_text (ast.Index v i) ss = simp (append_assoc, part_text 9 v (term_scraps v) (text_of v) (term_text v), term_text i)
-  term_text (ast.Slice v from to) ss = simp (append_assoc, part_text 9 v (term_scraps v) (text_of v) (term_text v), ends_text from, ends_text to)
+  term_text (ast.Cmp op a b) ss = simp (append_assoc, compare_has_text op, part_text level.Sum a (term_scraps a) (text_of a) (term_text a), part_text level.Sum b (term_scraps b) (text_of b) (term_text b))
+  term_text (ast.And a b) ss = simp (append_assoc, part_text level.Conjunction a (term_scraps a) (text_of a) (term_text a), part_text level.Negation b (term_scraps b) (text_of b) (term_text b))
+  term_text (ast.Or a b) ss = simp (append_assoc, part_text level.Disjunction a (term_scraps a) (text_of a) (term_text a), part_text level.Conjunction b (term_scraps b) (text_of b) (term_text b))
+  term_text (ast.Cond t a b) ss = simp (append_assoc, part_text level.Disjunction a (term_scraps a) (text_of a) (term_text a), part_text level.Disjunction t (term_scraps t) (text_of t) (term_text t), term_text b)
+  term_text (ast.Index v i) ss = simp (append_assoc, part_text level.Postfix v (term_scraps v) (text_of v) (term_text v), term_text i)
+  term_text (ast.Slice v from to) ss = simp (append_assoc, part_text level.Postfix v (term_scraps v) (text_of v) (term_text v), ends_text from, ends_text to)
   term_text (ast.Call f es) ss = simp (append_assoc, list_text es)
 
   list_text : (es : Terms) → HasText (list_scraps es) (commas (texts_of es))

@@ -7,7 +7,7 @@ use Rattle.mpy_tree.specs.declared.operators.CmpOp.{CmpOp}
 use Rattle.mpy_tree.specs.declared.operators.CmpOp.TheVariants.{Eq, Ne, Lt, Le, Gt, Ge, Member, NotMember}
 use Rattle.mpy_tree.specs.Syntax.{Term, Terms, MaybeTerm, no_terms, term_and, no_term, a_term}
 use Rattle.mpy_tree.specs.Syntax as ast
-use Rattle.mpy_tree.specs.Printing.{arith_text, arith_level, level_of, truth_text, left_level as left_number, right_level as right_number}
+use Rattle.mpy_tree.specs.Printing.{arith_text, level_of, truth_text}
 use Rattle.mpy_lexer.specs.declared.token.Token.{Token}
 use Rattle.mpy_lexer.specs.declared.forms.Kind.TheVariants as kind
 use Rattle.mpy_tree.specs.declared.levels.Level.{Level}
@@ -16,7 +16,7 @@ use Rattle.mpy_expressions.specs.declared.words.Word.TheVariants as word
 use Rattle.mpy_expressions.specs.declared.terminals.Terminal.{Terminal}
 use Rattle.mpy_expressions.specs.declared.terminals.Terminal.TheVariants as terminal
 use Rattle.mpy_expressions.specs.Terminals.{word_of, terminal_by, terminal_of, terminals}
-use Rattle.mpy_tree.specs.Levels.{above, operator_level, left_level, right_level}
+use Rattle.mpy_tree.specs.Levels.{above, rank, left_level, right_level}
 use Rattle.mpy_expressions.specs.Joints.{arith_word}
 use Rattle.mpy_expressions.specs.Grammar.{Spells, SpellsEnd, SpellsAll, conditional, disjunction, conjunction, negation, compared, arithmetic, minus, index, slice, number, quoted, truth, call, items, parenthesized, higher, missing, given, none, one, more, comparison, truth_word, name as a_name}
 use Rattle.mpy_round_trip.specs.Proper.{IsProperTerm, AreProperTerms, IsProperEnd}
@@ -47,67 +47,59 @@ seen_words (piece k bytes ∷ ss) = ap (λ l. terminal_by k bytes ∷ l) (seen_w
 pub terminals_of_tokens : (ts : List Token) (ss : List Scrap) → map scrap_of ts ≡ words_in ss → terminals ts ≡ terminals_in ss
 terminals_of_tokens ts ss h = sym (seen_tokens ts) ∙ ap (map seen) h ∙ seen_words ss
 
--- the level that a number of the printer's stands for
+-- the level of a rank
 abbrev named : ℕ → Level
 named zero = level.Conditional
 named (suc n) = above (named n)
 
-lower : (j k : ℕ) (xs : List Terminal) (e : Term) → k ≤ j → Spells (named j) xs e → Spells (named k) xs e
-lower zero k xs e h s = let same : 0 ≡ k = omega arith in subst (λ n. Spells (named n) xs e) same s
-lower (suc j) k xs e h s = elim (cases_lt k (suc j)) [
-  | inl l ↦ lower j k xs e (omega arith) (higher {k = named j} s)
+named_rank : (k : Level) → named (rank k) ≡ k
+named_rank level.Conditional = refl
+named_rank level.Disjunction = refl
+named_rank level.Conjunction = refl
+named_rank level.Negation = refl
+named_rank level.Comparison = refl
+named_rank level.Sum = refl
+named_rank level.Product = refl
+named_rank level.Unary = refl
+named_rank level.Power = refl
+named_rank level.Postfix = refl
+named_rank level.Atom = refl
+
+rank_bound : (k : Level) → rank k ≤ 10
+rank_bound level.Conditional = omega arith
+rank_bound level.Disjunction = omega arith
+rank_bound level.Conjunction = omega arith
+rank_bound level.Negation = omega arith
+rank_bound level.Comparison = omega arith
+rank_bound level.Sum = omega arith
+rank_bound level.Product = omega arith
+rank_bound level.Unary = omega arith
+rank_bound level.Power = omega arith
+rank_bound level.Postfix = omega arith
+rank_bound level.Atom = omega arith
+
+lower_by : (j k : ℕ) (xs : List Terminal) (e : Term) → k ≤ j → Spells (named j) xs e → Spells (named k) xs e
+lower_by zero k xs e h s = let same : 0 ≡ k = omega arith in subst (λ n. Spells (named n) xs e) same s
+lower_by (suc j) k xs e h s = elim (cases_lt k (suc j)) [
+  | inl l ↦ lower_by j k xs e (omega arith) (higher {k = named j} s)
   | inr g ↦ (let same : suc j ≡ k = omega arith in subst (λ n. Spells (named n) xs e) same s)
 ]
 
-operator_named : (op : ArithOp) → named (arith_level op) ≡ operator_level op
-operator_named Add = refl
-operator_named Sub = refl
-operator_named Mul = refl
-operator_named Floor = refl
-operator_named Rem = refl
-operator_named Power = refl
-
-left_named : (op : ArithOp) → named (left_number op) ≡ left_level op
-left_named Add = refl
-left_named Sub = refl
-left_named Mul = refl
-left_named Floor = refl
-left_named Rem = refl
-left_named Power = refl
-
-right_named : (op : ArithOp) → named (right_number op) ≡ right_level op
-right_named Add = refl
-right_named Sub = refl
-right_named Mul = refl
-right_named Floor = refl
-right_named Rem = refl
-right_named Power = refl
-
-left_bound : (op : ArithOp) → left_number op ≤ 10
-left_bound Add = omega arith
-left_bound Sub = omega arith
-left_bound Mul = omega arith
-left_bound Floor = omega arith
-left_bound Rem = omega arith
-left_bound Power = omega arith
-
-right_bound : (op : ArithOp) → right_number op ≤ 10
-right_bound Add = omega arith
-right_bound Sub = omega arith
-right_bound Mul = omega arith
-right_bound Floor = omega arith
-right_bound Rem = omega arith
-right_bound Power = omega arith
+-- what a level spells, each level that binds less spells too
+lower : (j k : Level) (xs : List Terminal) (e : Term) → rank k ≤ rank j → Spells j xs e → Spells k xs e
+lower j k xs e h s =
+    subst (λ n. Spells n xs e) (named_rank k)
+    (lower_by (rank j) (rank k) xs e h (subst (λ n. Spells n xs e) (sym (named_rank j)) s))
 
 -- what is put before others has these terminals
 abbrev pub HasTerminals : (List Scrap → List Scrap) → List Terminal → Type 0
 HasTerminals put ts = (ss : List Scrap) → terminals_in (put ss) ≡ ts ++ terminals_in ss
 
 -- what is put before others spells the expression, at a level
-pub record IsSpelled (k : ℕ) (put : List Scrap → List Scrap) (e : Term) : Type 0 where
+pub record IsSpelled (k : Level) (put : List Scrap → List Scrap) (e : Term) : Type 0 where
   pub own : List Terminal
   pub onto : HasTerminals put own
-  pub spells : Spells (named k) own e
+  pub spells : Spells k own e
 
 pub record AreSpelled (put : List Scrap → List Scrap) (es : Terms) : Type 0 where
   pub own : List Terminal
@@ -125,20 +117,20 @@ record IsEndSpelled (put : List Scrap → List Scrap) (e : MaybeTerm) : Type 0 w
   onto : HasTerminals put own
   spells : SpellsEnd own e
 
-lowered : (j k : ℕ) (put : List Scrap → List Scrap) (e : Term) → k ≤ j → IsSpelled j put e → IsSpelled k put e
+lowered : (j k : Level) (put : List Scrap → List Scrap) (e : Term) → rank k ≤ rank j → IsSpelled j put e → IsSpelled k put e
 lowered j k put e h s = record { own = s.own; onto = s.onto; spells = lower j k s.own e h s.spells }
 
-part_spelled : (k : ℕ) (e : Term) (put : List Scrap → List Scrap) → k ≤ 10 → IsSpelled (level_of e) put e → IsSpelled k (part_scraps k e put) e
+part_spelled : (k : Level) (e : Term) (put : List Scrap → List Scrap) → IsSpelled (level_of e) put e → IsSpelled k (part_scraps k e put) e
 unfolding word_of
-part_spelled k e put h s = by_case (nat_lt (level_of e) k) refl
+part_spelled k e put s = by_case (nat_lt (rank (level_of e)) (rank k)) refl
   where
-    by_case : (b : Bool) → nat_lt (level_of e) k ≡ b → IsSpelled k (λ ss. cond b (mark (codes "(") ∷ put (mark (codes ")") ∷ ss)) (put ss)) e
+    by_case : (b : Bool) → nat_lt (rank (level_of e)) (rank k) ≡ b → IsSpelled k (λ ss. cond b (mark (codes "(") ∷ put (mark (codes ")") ∷ ss)) (put ss)) e
     by_case true below = record {
       own = terminal.Word word.LeftParen ∷ s.own ++ terminal.Word word.RightParen ∷ [];
       onto = λ ss. ap (λ l. terminal.Word word.LeftParen ∷ l) (s.onto (mark (codes ")") ∷ ss) ∙ sym (append_assoc s.own (terminal.Word word.RightParen ∷ []) (terminals_in ss)));
-      spells = lower 10 k _ e h (parenthesized (lower (level_of e) 0 s.own e (omega arith) s.spells));
+      spells = lower level.Atom k _ e (rank_bound k) (parenthesized (lower (level_of e) level.Conditional s.own e (omega arith) s.spells));
     }
-    by_case false above = lowered (level_of e) k put e (ltb-false (level_of e) k above) s
+    by_case false above = lowered (level_of e) k put e (ltb-false (rank (level_of e)) (rank k) above) s
 
 arith_terminal : (op : ArithOp) → terminal_by kind.Mark (arith_text op) ≡ terminal.Word (arith_word op)
 unfolding word_of
@@ -181,62 +173,62 @@ mutual
         spells = items s.spells;
       }
   term_spelled (ast.Neg e) p =
-      let s = part_spelled 7 e (term_scraps e) (omega arith) (term_spelled e p) in
+      let s = part_spelled level.Unary e (term_scraps e) (term_spelled e p) in
       record { own = terminal.Word word.Minus ∷ s.own; onto = λ ss. ap (λ l. terminal.Word word.Minus ∷ l) (s.onto ss); spells = minus s.spells }
   term_spelled (ast.Not e) p =
-      let s = part_spelled 3 e (term_scraps e) (omega arith) (term_spelled e p) in
+      let s = part_spelled level.Negation e (term_scraps e) (term_spelled e p) in
       record { own = terminal.Word word.Not ∷ s.own; onto = λ ss. ap (λ l. terminal.Word word.Not ∷ l) (s.onto ss); spells = negation s.spells }
   term_spelled (ast.Arith op a b) p =
-      let s = part_spelled (left_number op) a (term_scraps a) (left_bound op) (term_spelled a p.0) in
-      let t = part_spelled (right_number op) b (term_scraps b) (right_bound op) (term_spelled b p.1) in
+      let s = part_spelled (left_level op) a (term_scraps a) (term_spelled a p.0) in
+      let t = part_spelled (right_level op) b (term_scraps b) (term_spelled b p.1) in
       record {
         own = s.own ++ terminal.Word (arith_word op) ∷ t.own;
         onto = λ ss. simp (append_assoc, s.onto, t.onto, arith_terminal op);
-        spells = subst (λ k. Spells k (s.own ++ terminal.Word (arith_word op) ∷ t.own) (ast.Arith op a b)) (sym (operator_named op)) (arithmetic op (subst (λ k. Spells k s.own a) (left_named op) s.spells) (subst (λ k. Spells k t.own b) (right_named op) t.spells));
+        spells = arithmetic op s.spells t.spells;
       }
   term_spelled (ast.Cmp op a b) p =
-      let s = part_spelled 5 a (term_scraps a) (omega arith) (term_spelled a p.0) in
-      let t = part_spelled 5 b (term_scraps b) (omega arith) (term_spelled b p.1) in
+      let s = part_spelled level.Sum a (term_scraps a) (term_spelled a p.0) in
+      let t = part_spelled level.Sum b (term_scraps b) (term_spelled b p.1) in
       record {
         own = s.own ++ comparison op ++ t.own;
         onto = λ ss. simp (append_assoc, s.onto, t.onto, compare_terminals op);
         spells = compared op s.spells t.spells;
       }
   term_spelled (ast.And a b) p =
-      let s = part_spelled 2 a (term_scraps a) (omega arith) (term_spelled a p.0) in
-      let t = part_spelled 3 b (term_scraps b) (omega arith) (term_spelled b p.1) in
+      let s = part_spelled level.Conjunction a (term_scraps a) (term_spelled a p.0) in
+      let t = part_spelled level.Negation b (term_scraps b) (term_spelled b p.1) in
       record {
         own = s.own ++ terminal.Word word.And ∷ t.own;
         onto = λ ss. simp (append_assoc, s.onto, t.onto);
         spells = conjunction s.spells t.spells;
       }
   term_spelled (ast.Or a b) p =
-      let s = part_spelled 1 a (term_scraps a) (omega arith) (term_spelled a p.0) in
-      let t = part_spelled 2 b (term_scraps b) (omega arith) (term_spelled b p.1) in
+      let s = part_spelled level.Disjunction a (term_scraps a) (term_spelled a p.0) in
+      let t = part_spelled level.Conjunction b (term_scraps b) (term_spelled b p.1) in
       record {
         own = s.own ++ terminal.Word word.Or ∷ t.own;
         onto = λ ss. simp (append_assoc, s.onto, t.onto);
         spells = disjunction s.spells t.spells;
       }
   term_spelled (ast.Cond t a b) p =
-      let s = part_spelled 1 a (term_scraps a) (omega arith) (term_spelled a p.1) in
-      let u = part_spelled 1 t (term_scraps t) (omega arith) (term_spelled t p.0) in
-      let v = lowered (level_of b) 0 (term_scraps b) b (omega arith) (term_spelled b p.2) in
+      let s = part_spelled level.Disjunction a (term_scraps a) (term_spelled a p.1) in
+      let u = part_spelled level.Disjunction t (term_scraps t) (term_spelled t p.0) in
+      let v = lowered (level_of b) level.Conditional (term_scraps b) b (omega arith) (term_spelled b p.2) in
       record {
         own = s.own ++ terminal.Word word.If ∷ u.own ++ terminal.Word word.Else ∷ v.own;
         onto = λ ss. simp (append_assoc, s.onto, u.onto, v.onto);
         spells = conditional s.spells u.spells v.spells;
       }
   term_spelled (ast.Index v i) p =
-      let s = part_spelled 9 v (term_scraps v) (omega arith) (term_spelled v p.0) in
-      let t = lowered (level_of i) 0 (term_scraps i) i (omega arith) (term_spelled i p.1) in
+      let s = part_spelled level.Postfix v (term_scraps v) (term_spelled v p.0) in
+      let t = lowered (level_of i) level.Conditional (term_scraps i) i (omega arith) (term_spelled i p.1) in
       record {
         own = s.own ++ terminal.Word word.LeftBracket ∷ t.own ++ terminal.Word word.RightBracket ∷ [];
         onto = λ ss. simp (append_assoc, s.onto, t.onto);
         spells = index s.spells t.spells;
       }
   term_spelled (ast.Slice v from to) p =
-      let s = part_spelled 9 v (term_scraps v) (omega arith) (term_spelled v p.0) in
+      let s = part_spelled level.Postfix v (term_scraps v) (term_spelled v p.0) in
       let t = end_spelled from p.1 in
       let u = end_spelled to p.2 in
       record {
@@ -255,14 +247,14 @@ mutual
   list_spelled : (es : Terms) → AreProperTerms es → AreSpelled (list_scraps es) es
   list_spelled no_terms p = record { own = []; onto = λ ss. refl; spells = none }
   list_spelled (term_and e es) p =
-      let s = lowered (level_of e) 0 (term_scraps e) e (omega arith) (term_spelled e p.0) in
+      let s = lowered (level_of e) level.Conditional (term_scraps e) e (omega arith) (term_spelled e p.0) in
       let t = rest_spelled es p.1 in
       record { own = s.own ++ t.own; onto = λ ss. simp (append_assoc, s.onto, t.onto); spells = t.spells s.own e s.spells }
 
   rest_spelled : (es : Terms) → AreProperTerms es → AreSpelledBehind (rest_scraps es) es
   rest_spelled no_terms p = record { own = []; onto = λ ss. refl; spells = λ xs e s. subst (λ l. SpellsAll l (term_and e no_terms)) (sym (append-nil xs)) (one s) }
   rest_spelled (term_and f es) p =
-      let s = lowered (level_of f) 0 (term_scraps f) f (omega arith) (term_spelled f p.0) in
+      let s = lowered (level_of f) level.Conditional (term_scraps f) f (omega arith) (term_spelled f p.0) in
       let t = rest_spelled es p.1 in
       record {
         own = terminal.Word word.Comma ∷ s.own ++ t.own;
@@ -273,9 +265,9 @@ mutual
   end_spelled : (e : MaybeTerm) → IsProperEnd e → IsEndSpelled (end_scraps e) e
   end_spelled no_term p = record { own = []; onto = λ ss. refl; spells = missing }
   end_spelled (a_term e) p =
-      let s = lowered (level_of e) 0 (term_scraps e) e (omega arith) (term_spelled e p) in
+      let s = lowered (level_of e) level.Conditional (term_scraps e) e (omega arith) (term_spelled e p) in
       record { own = s.own; onto = s.onto; spells = given s.spells }
 
 -- as an expression that stands in no other
-pub whole : (e : Term) → IsProperTerm e → IsSpelled 0 (term_scraps e) e
-whole e p = lowered (level_of e) 0 (term_scraps e) e (omega arith) (term_spelled e p)
+pub whole : (e : Term) → IsProperTerm e → IsSpelled level.Conditional (term_scraps e) e
+whole e p = lowered (level_of e) level.Conditional (term_scraps e) e (omega arith) (term_spelled e p)

@@ -9,7 +9,10 @@ use Rattle.mpy_tree.specs.declared.operators.CmpOp.{CmpOp}
 use Rattle.mpy_tree.specs.declared.operators.CmpOp.TheVariants.{Eq, Ne, Lt, Le, Gt, Ge, Member, NotMember}
 use Rattle.mpy_tree.specs.Syntax.{Term, Terms, MaybeTerm, no_terms, term_and, no_term, a_term}
 use Rattle.mpy_tree.specs.Syntax as ast
-use Rattle.mpy_tree.specs.Printing.{truth_text, arith_text, level_of, left_level, right_level}
+use Rattle.mpy_tree.specs.declared.levels.Level.{Level}
+use Rattle.mpy_tree.specs.declared.levels.Level.TheVariants as level
+use Rattle.mpy_tree.specs.Levels.{rank, left_level, right_level}
+use Rattle.mpy_tree.specs.Printing.{truth_text, arith_text, level_of}
 use Rattle.mpy_lexer.specs.declared.forms.Kind.TheVariants as kind
 use Rattle.mpy_lexer.specs.Bytes.{is_name_start, is_name_byte}
 use Rattle.mpy_lexer.specs.Words.{is_reserved, mark_len}
@@ -65,9 +68,9 @@ pub record IsApart (put : List Scrap → List Scrap) : Type 0 where
   pub leads : (ss : List Scrap) → MayLead (next_byte (put ss))
   pub apart : (ss : List Scrap) → MayFollow (next_byte ss) → AreApart ss → AreApart (put ss)
 
-part_apart : (k : ℕ) (e : Term) (put : List Scrap → List Scrap) → IsApart put → IsApart (part_scraps k e put)
+part_apart : (k : Level) (e : Term) (put : List Scrap → List Scrap) → IsApart put → IsApart (part_scraps k e put)
 unfolding mark_len
-part_apart k e put p = by_case (nat_lt (level_of e) k)
+part_apart k e put p = by_case (nat_lt (rank (level_of e)) (rank k))
   where
     round : (ss : List Scrap) → AreApart ss → AreApart (mark (codes "(") ∷ put (mark (codes ")") ∷ ss))
     round ss h = (refl, refl, refl, p.apart (mark (codes ")") ∷ ss) refl (refl, refl, refl, h))
@@ -138,10 +141,10 @@ mutual
   }
   term_apart (ast.List es) p = record { leads = λ ss. refl; apart = λ ss f h. (refl, refl, refl, list_apart es p (mark (codes "]") ∷ ss) refl (refl, refl, refl, h)) }
   term_apart (ast.Neg e) p =
-      let q = part_apart 7 e (term_scraps e) (term_apart e p) in
-      record { leads = λ ss. refl; apart = λ ss f h. (refl, refl, minus_ends (next_byte (part_scraps 7 e (term_scraps e) ss)) (q.leads ss), q.apart ss f h) }
+      let q = part_apart level.Unary e (term_scraps e) (term_apart e p) in
+      record { leads = λ ss. refl; apart = λ ss f h. (refl, refl, minus_ends (next_byte (part_scraps level.Unary e (term_scraps e) ss)) (q.leads ss), q.apart ss f h) }
   term_apart (ast.Not e) p =
-      let q = part_apart 3 e (term_scraps e) (term_apart e p) in
+      let q = part_apart level.Negation e (term_scraps e) (term_apart e p) in
       record { leads = λ ss. refl; apart = λ ss f h. (refl, refl, refl, q.apart ss f h) }
   term_apart (ast.Arith op a b) p =
       let q = part_apart (left_level op) a (term_scraps a) (term_apart a p.0) in
@@ -151,43 +154,43 @@ mutual
         apart = λ ss f h. q.apart _ refl (operator_apart op (part_scraps (right_level op) b (term_scraps b) ss) (r.apart ss f h));
       }
   term_apart (ast.Cmp op a b) p =
-      let q = part_apart 5 a (term_scraps a) (term_apart a p.0) in
-      let r = part_apart 5 b (term_scraps b) (term_apart b p.1) in
+      let q = part_apart level.Sum a (term_scraps a) (term_apart a p.0) in
+      let r = part_apart level.Sum b (term_scraps b) (term_apart b p.1) in
       record {
-        leads = λ ss. q.leads (gap ∷ compare_scraps op (gap ∷ part_scraps 5 b (term_scraps b) ss));
-        apart = λ ss f h. q.apart _ refl (compare_apart op (part_scraps 5 b (term_scraps b) ss) (r.apart ss f h));
+        leads = λ ss. q.leads (gap ∷ compare_scraps op (gap ∷ part_scraps level.Sum b (term_scraps b) ss));
+        apart = λ ss f h. q.apart _ refl (compare_apart op (part_scraps level.Sum b (term_scraps b) ss) (r.apart ss f h));
       }
   term_apart (ast.And a b) p =
-      let q = part_apart 2 a (term_scraps a) (term_apart a p.0) in
-      let r = part_apart 3 b (term_scraps b) (term_apart b p.1) in
+      let q = part_apart level.Conjunction a (term_scraps a) (term_apart a p.0) in
+      let r = part_apart level.Negation b (term_scraps b) (term_apart b p.1) in
       record {
-        leads = λ ss. q.leads (gap ∷ reserved (codes "and") ∷ gap ∷ part_scraps 3 b (term_scraps b) ss);
-        apart = λ ss f h. q.apart (gap ∷ reserved (codes "and") ∷ gap ∷ part_scraps 3 b (term_scraps b) ss) refl (refl, refl, refl, r.apart ss f h);
+        leads = λ ss. q.leads (gap ∷ reserved (codes "and") ∷ gap ∷ part_scraps level.Negation b (term_scraps b) ss);
+        apart = λ ss f h. q.apart (gap ∷ reserved (codes "and") ∷ gap ∷ part_scraps level.Negation b (term_scraps b) ss) refl (refl, refl, refl, r.apart ss f h);
       }
   term_apart (ast.Or a b) p =
-      let q = part_apart 1 a (term_scraps a) (term_apart a p.0) in
-      let r = part_apart 2 b (term_scraps b) (term_apart b p.1) in
+      let q = part_apart level.Disjunction a (term_scraps a) (term_apart a p.0) in
+      let r = part_apart level.Conjunction b (term_scraps b) (term_apart b p.1) in
       record {
-        leads = λ ss. q.leads (gap ∷ reserved (codes "or") ∷ gap ∷ part_scraps 2 b (term_scraps b) ss);
-        apart = λ ss f h. q.apart (gap ∷ reserved (codes "or") ∷ gap ∷ part_scraps 2 b (term_scraps b) ss) refl (refl, refl, refl, r.apart ss f h);
+        leads = λ ss. q.leads (gap ∷ reserved (codes "or") ∷ gap ∷ part_scraps level.Conjunction b (term_scraps b) ss);
+        apart = λ ss f h. q.apart (gap ∷ reserved (codes "or") ∷ gap ∷ part_scraps level.Conjunction b (term_scraps b) ss) refl (refl, refl, refl, r.apart ss f h);
       }
   term_apart (ast.Cond t a b) p =
-      let q = part_apart 1 a (term_scraps a) (term_apart a p.1) in
-      let r = part_apart 1 t (term_scraps t) (term_apart t p.0) in
+      let q = part_apart level.Disjunction a (term_scraps a) (term_apart a p.1) in
+      let r = part_apart level.Disjunction t (term_scraps t) (term_apart t p.0) in
       let s = term_apart b p.2 in
       record {
-        leads = λ ss. q.leads (gap ∷ reserved (codes "if") ∷ gap ∷ part_scraps 1 t (term_scraps t) (gap ∷ reserved (codes "else") ∷ gap ∷ term_scraps b ss));
-        apart = λ ss f h. q.apart (gap ∷ reserved (codes "if") ∷ gap ∷ part_scraps 1 t (term_scraps t) (gap ∷ reserved (codes "else") ∷ gap ∷ term_scraps b ss)) refl (refl, refl, refl, r.apart (gap ∷ reserved (codes "else") ∷ gap ∷ term_scraps b ss) refl (refl, refl, refl, s.apart ss f h));
+        leads = λ ss. q.leads (gap ∷ reserved (codes "if") ∷ gap ∷ part_scraps level.Disjunction t (term_scraps t) (gap ∷ reserved (codes "else") ∷ gap ∷ term_scraps b ss));
+        apart = λ ss f h. q.apart (gap ∷ reserved (codes "if") ∷ gap ∷ part_scraps level.Disjunction t (term_scraps t) (gap ∷ reserved (codes "else") ∷ gap ∷ term_scraps b ss)) refl (refl, refl, refl, r.apart (gap ∷ reserved (codes "else") ∷ gap ∷ term_scraps b ss) refl (refl, refl, refl, s.apart ss f h));
       }
   term_apart (ast.Index v i) p =
-      let q = part_apart 9 v (term_scraps v) (term_apart v p.0) in
+      let q = part_apart level.Postfix v (term_scraps v) (term_apart v p.0) in
       let r = term_apart i p.1 in
       record {
         leads = λ ss. q.leads (mark (codes "[") ∷ term_scraps i (mark (codes "]") ∷ ss));
         apart = λ ss f h. q.apart (mark (codes "[") ∷ term_scraps i (mark (codes "]") ∷ ss)) refl (refl, refl, refl, r.apart (mark (codes "]") ∷ ss) refl (refl, refl, refl, h));
       }
   term_apart (ast.Slice v from to) p =
-      let q = part_apart 9 v (term_scraps v) (term_apart v p.0) in
+      let q = part_apart level.Postfix v (term_scraps v) (term_apart v p.0) in
       record {
         leads = λ ss. q.leads (mark (codes "[") ∷ end_scraps from (mark (codes ":") ∷ end_scraps to (mark (codes "]") ∷ ss)));
         apart = λ ss f h. q.apart (mark (codes "[") ∷ end_scraps from (mark (codes ":") ∷ end_scraps to (mark (codes "]") ∷ ss))) refl (refl, refl, refl, end_apart from p.1 (mark (codes ":") ∷ end_scraps to (mark (codes "]") ∷ ss)) refl (refl, refl, refl, end_apart to p.2 (mark (codes "]") ∷ ss) refl (refl, refl, refl, h)));

@@ -1,0 +1,4 @@
+pub mod Alike
+pub mod AlikeRuns
+pub mod BackFromTrees
+pub mod Preorder
