@@ -1,3 +1,4 @@
 pub mod Added
 pub mod CallList
 pub mod KnownBytes
+pub mod LongFile

@@ -1,6 +1,12 @@
 pub mod Calls
 pub mod Devices
+pub mod Faults
 pub mod Files
 pub mod Kept
+pub mod Moves
+pub mod Plans
+pub mod PlansInCode
+pub mod Says
 pub mod Status
+pub mod Words
 pub mod Written

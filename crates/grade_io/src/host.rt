@@ -1,20 +1,23 @@
 //! The real files and the standard output. What they hold isn't told.
-ghost use Rattle.std.specs.Prelude.{◌≡◌, ◌≢◌, ◌+◌, ◌≤◌, None, IfErr, IfOk, vec_len};
+//!
+//! What is said of a read or a write stands in `whole`, over any reader and writer; here the calls
+//! of the system are made, and what they answered is counted.
+ghost use Rattle.std.specs.Prelude.{◌≡◌, ◌≢◌, ◌≤◌, None, IfErr, IfOk, false, vec_len};
 
 use crate::devices::{FetchError, PutError, Shelf, Sink, StoreError};
-use crate::whole::{read_within, write_some, write_whole};
+use crate::plan::count_fault;
+use crate::whole::{put_piece, read_whole, write_whole};
 use std::alloc::Global;
 use std::rt::Files;
 use std::{fs, io};
 
-/// Reads a file to its end, or one byte past `most`.
+/// Reads a file of at most `most` bytes to its end.
 fn read_file<R: Files>(rt: &R, alloc: Global, name: &str, most: u64) -> Result<Vec<u8>, FetchError>
     requires { most ≤ 1073741824 }
-    ensures read { IfOk result (λ v. vec_len v ≤ most + 1) }
-    ensures not_long { result ≢ Err FetchError.Long }
+    ensures { IfOk result (λ v. vec_len v ≤ most) }
 {
     let mut file = fs::open(rt, name).map_err(|_| FetchError::Failed)?;
-    read_within(&mut file, alloc, most)
+    read_whole(&mut file, alloc, most)
 }
 
 /// Writes all of the bytes to a file, in place of what it held.
@@ -47,34 +50,31 @@ impl<'a, R: Files> HostShelf<'a, R> {
 }
 
 impl<R: Files> Shelf for HostShelf<'_, R> {
-    ghost seen = { λ s. record { holds = λ _. None; calls = None; faults = s.faults; taken = s.taken } };
+    ghost seen = { λ s. record {
+        holds = λ _. None;
+        calls = None;
+        faults = s.faults;
+        taken = s.taken;
+        plan = None;
+        absent = λ _. false } };
 
     fn fetch(&mut self, alloc: Global, name: &str, most: u64) -> Result<Vec<u8>, FetchError> {
-        match read_file(self.rt, alloc, name, most) {
-            Ok(bytes) => {
-                self.taken = bytes.len() as u64;
-                if self.taken > most {
-                    return Err(FetchError::Long);
-                }
-                Ok(bytes)
-            }
-            Err(e) => {
-                if e == FetchError::Failed {
-                    self.faults = self.faults.saturating_add(1);
-                }
-                Err(e)
-            }
+        let fetched = read_file(self.rt, alloc, name, most);
+        match &fetched {
+            Ok(bytes) => self.taken = bytes.len() as u64,
+            Err(FetchError::Long) => self.taken = most + 1,
+            Err(FetchError::Failed) => count_fault(&mut self.faults),
+            Err(FetchError::NoMemory) => {}
         }
+        fetched
     }
 
     fn store(&mut self, name: &str, bytes: &Vec<u8>) -> Result<(), StoreError> {
-        match write_file(self.rt, name, bytes) {
-            Err(StoreError::Failed) => {
-                self.faults = self.faults.saturating_add(1);
-                Err(StoreError::Failed)
-            }
-            other => other,
+        let stored = write_file(self.rt, name, bytes);
+        if stored.is_err() {
+            count_fault(&mut self.faults);
         }
+        stored
     }
 }
 
@@ -95,19 +95,13 @@ impl<'a, R: Print> HostSink<'a, R> {
 }
 
 impl<R: Print> Sink for HostSink<'_, R> {
-    ghost seen = { λ s. record { written = None; faults = s.faults } };
+    ghost seen = { λ s. record { written = None; faults = s.faults; plan = None; share = None } };
 
-    /// A write of no byte is a fault.
     fn put(&mut self, piece: &[u8]) -> Result<usize, PutError> {
-        if piece.is_empty() {
-            return Ok(0);
+        let taken = put_piece(&mut io::writer(self.rt), piece);
+        if taken.is_err() {
+            count_fault(&mut self.faults);
         }
-        match write_some(&mut io::writer(self.rt), piece) {
-            Ok(count) if count > 0 => Ok(count),
-            _ => {
-                self.faults = self.faults.saturating_add(1);
-                Err(PutError::Failed)
-            }
-        }
+        taken
     }
 }

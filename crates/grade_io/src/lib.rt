@@ -1,4 +1,5 @@
-//! The devices that the grader reads from and writes to, how a text is written whole, and the statuses.
+//! The devices that the programs read from and write to, how a text is written whole, the words of
+//! a command line, and the statuses.
 #![tactic(auto)]
 
 mod calls;
@@ -6,14 +7,18 @@ mod devices;
 mod files;
 mod host;
 mod mem;
+mod plan;
 mod status;
 mod sure;
 mod text;
 mod whole;
+mod words;
 
 pub use devices::{FetchError, NoMemory, PutError, Shelf, Sink, StoreError};
 pub use host::{HostShelf, HostSink};
 pub use mem::{MemShelf, MemSink};
-pub use status::{Status, status_number};
+pub use status::{Status, exit_of, status_number};
 pub use sure::{SureShelf, SureSink};
-pub use text::write_text;
+pub use text::{refusal_line, say, write_text};
+pub use whole::{put_piece, read_whole, write_whole};
+pub use words::words_from;

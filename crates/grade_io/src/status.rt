@@ -1,6 +1,9 @@
 //! How a call of the grader ends.
 ghost use Rattle.std.specs.Prelude.{◌≡◌};
+ghost use Rattle.std.specs.Process.{exit_status};
 ghost use Rattle.grade_io.specs.Status.{number_of};
+
+use std::process::ExitCode;
 
 /// How a call of the grader ends. The program ends with the status's number, from 0 in this order.
 #[derive(Clone, Copy, Debug, PartialEq, Eq)]
@@ -34,4 +37,11 @@ pub fn status_number(s: Status) -> u8
     ensures { result ≡ number_of s }
 {
     s as u8
+}
+
+/// How a program ends that has this status: with the status's number.
+pub fn exit_of(status: Status) -> ExitCode
+    ensures { exit_status result ≡ number_of status }
+{
+    ExitCode::from(status_number(status))
 }

@@ -1,5 +1,5 @@
 //! Devices in memory that never fail.
-ghost use Rattle.std.specs.Prelude.{◌≡◌, ℕ, List, [], Some, None, OnOk, OnErr};
+ghost use Rattle.std.specs.Prelude.{◌≡◌, ℕ, List, [], Some, None, OnOk, OnErr, false};
 ghost use Rattle.grade_io.specs.Files.{text_at};
 ghost use Rattle.grade_io.specs.Kept.{OthersKept};
 
@@ -9,8 +9,8 @@ use crate::files::Texts;
 use std::alloc::Global;
 use std::collections::BTreeMap;
 
-/// A shelf whose count of faults is the constant 0. It tells its files but not its calls, and an absent
-/// name holds the empty text.
+/// A shelf whose count of faults is the constant 0. It tells its files but not its calls, and an
+/// absent name holds the empty text.
 #[derive(Drop)]
 pub struct SureShelf {
     texts: Texts,
@@ -23,7 +23,8 @@ impl SureShelf {
 
     /// A shelf on which every name holds the empty text.
     pub fn new(alloc: Global) -> SureShelf
-        ensures files { (name : List ℕ) → (⟦<SureShelf as Shelf>⟧.seen result).holds name ≡ Some [] }
+        ensures files { (name : List ℕ)
+            → (⟦<SureShelf as Shelf>⟧.seen result).holds name ≡ Some [] }
         ensures sure { (shelf : SureShelf) → (⟦<SureShelf as Shelf>⟧.seen shelf).faults ≡ 0 }
     {
         SureShelf {
@@ -35,20 +36,30 @@ impl SureShelf {
 
     /// Makes the name hold these bytes.
     pub fn add(&mut self, name: &str, bytes: &[u8]) -> Result<(), NoMemory>
-        ensures file { OnOk result ((⟦<SureShelf as Shelf>⟧.seen self.new).holds name.now ≡ Some bytes.now) }
-        ensures others { OthersKept name.now (⟦<SureShelf as Shelf>⟧.seen self.old) (⟦<SureShelf as Shelf>⟧.seen self.new) }
+        ensures file { OnOk result ((⟦<SureShelf as Shelf>⟧.seen self.new).holds name.now
+            ≡ Some bytes.now) }
+        ensures others { OthersKept name.now
+            (⟦<SureShelf as Shelf>⟧.seen self.old) (⟦<SureShelf as Shelf>⟧.seen self.new) }
         ensures err { OnErr result ((other : List ℕ)
-            → (⟦<SureShelf as Shelf>⟧.seen self.new).holds other ≡ (⟦<SureShelf as Shelf>⟧.seen self.old).holds other) }
+            → (⟦<SureShelf as Shelf>⟧.seen self.new).holds other
+            ≡ (⟦<SureShelf as Shelf>⟧.seen self.old).holds other) }
         // Nothing but the files changes.
         ensures rest { ⟦<SureShelf as Shelf>⟧.seen self.new
-            ≡ record (⟦<SureShelf as Shelf>⟧.seen self.old) { holds = (⟦<SureShelf as Shelf>⟧.seen self.new).holds } }
+            ≡ record (⟦<SureShelf as Shelf>⟧.seen self.old) { holds =
+                (⟦<SureShelf as Shelf>⟧.seen self.new).holds } }
     {
         files::replace(self.alloc, &mut self.texts, name, bytes)
     }
 }
 
 impl Shelf for SureShelf {
-    ghost seen = { λ s. record { holds = λ name. Some (text_at s.texts name); calls = None; faults = 0; taken = s.taken } };
+    ghost seen = { λ s. record {
+        holds = λ name. Some (text_at s.texts name);
+        calls = None;
+        faults = 0;
+        taken = s.taken;
+        plan = None;
+        absent = λ _. false } };
 
     fn fetch(&mut self, alloc: Global, name: &str, most: u64) -> Result<Vec<u8>, FetchError> {
         let Some(text) = self.texts.get(name) else {
@@ -78,9 +89,10 @@ pub struct SureSink {
 impl SureSink {
     ghost use Rattle.grade_io.specs.declared.sure.SureSink.{SureSink};
 
-    /// A sink to which nothing was written.
+    /// A sink to which nothing was written, and which takes each piece whole.
     pub fn new(alloc: Global) -> SureSink
         ensures written { (⟦<SureSink as Sink>⟧.seen result).written ≡ Some [] }
+        ensures whole { (⟦<SureSink as Sink>⟧.seen result).share ≡ Some (λ n. n) }
         ensures sure { (sink : SureSink) → (⟦<SureSink as Sink>⟧.seen sink).faults ≡ 0 }
     {
         SureSink {
@@ -97,7 +109,11 @@ impl SureSink {
 }
 
 impl Sink for SureSink {
-    ghost seen = { λ s. record { written = Some s.bytes.items; faults = 0 } };
+    ghost seen = { λ s. record {
+        written = Some s.bytes.items;
+        faults = 0;
+        plan = None;
+        share = Some (λ n. n) } };
 
     fn put(&mut self, piece: &[u8]) -> Result<usize, PutError> {
         if piece.is_empty() {

@@ -13,6 +13,7 @@ pub mod Fronts
 pub mod Keeping
 pub mod Leasts
 pub mod OneReading
+pub mod OneRefusal
 pub mod ProgramLaws
 pub mod Ranges
 pub mod RuleNames
@@ -22,4 +23,5 @@ pub mod SelectionLaws
 pub mod SevenItems
 pub mod Sizes
 pub mod Soundness
+pub mod SourcesFetched
 pub mod VerdictLaws

@@ -1,11 +1,11 @@
 -- What is decided for the texts of a request: the first refusal, or the answer.
-use Rattle.std.specs.Prelude.{◌≡◌, ℕ, List}
+use Rattle.std.specs.Prelude.{◌≡◌, ◌⊎◌, ℕ, List}
 use Rattle.mpy_tree.specs.declared.refusal.Cause.{Cause}
 use Rattle.mpy_tree.specs.declared.refusal.Cause.TheVariants as cause
 use Rattle.mpy_tree.specs.declared.refusal.Source.{Source}
 use Rattle.mpy_tree.specs.declared.refusal.Source.TheVariants as source
 use Rattle.mpy_tree.specs.declared.refusal.Refusal.{Refusal}
-use Rattle.grade_top.specs.Texts.{Texts}
+use Rattle.grade_top.specs.Texts.{Texts, AllFit, IsFirstLong}
 use Rattle.grade_top.specs.BoundsForm.{Bounds, IsBounds, HaveNoBounds, IsOutOfRange}
 use Rattle.grade_top.specs.ProgramForm.{Function, IsProgram, IsProgramRefused}
 use Rattle.grade_top.specs.RulesForm.{IsRules, HaveNoRules}
@@ -50,7 +50,8 @@ pub record StopsAsTooLarge (t : Texts) (line : ℕ) : Type 0 where
   pub large : IsTooLarge task
   pub line_is : line ≡ task.submission.line
 
--- the task is read and not too large, and its reference gives a value on no input; the line is that of the reference's `def`
+-- The task is read and not too large, and its reference gives a value on no input; the line is that
+-- of the reference's `def`.
 pub record StopsAsEmpty (t : Texts) (line : ℕ) : Type 0 where
   pub task : Task
   pub read : IsTask t task
@@ -72,9 +73,23 @@ IsFirstCause t _ _ line = ⊥
 abbrev pub IsRefusal : Texts → Refusal → Type 0
 IsRefusal t r = IsFirstCause t r.source r.cause r.line
 
+-- a source is the first that is too long
+pub record IsTooLong (t : Texts) (r : Refusal) : Type 0 where
+  pub long : IsFirstLong t r.source
+  pub cause_is : r.cause ≡ cause.Long
+  pub line_is : r.line ≡ 0
+
+-- the first refusal of the texts: lengths are looked at first, and then what the texts say
+abbrev pub IsFirstRefusal : Texts → Refusal → Type 0
+IsFirstRefusal t r = IsTooLong t r ⊎ (AllFit t × IsRefusal t r)
+
 -- the texts spell this task, nothing refuses it, and this is its answer
 pub record IsAnswered (t : Texts) (k : Task) (a : Answer) : Type 0 where
   pub read : IsTask t k
   pub small : IsTooLarge k → ⊥
   pub ends : EndsSomewhere k.bounds k.reference
   pub answer : IsAnswer k a
+
+-- this is the answer to texts that nothing refuses
+abbrev pub IsGradedAs : Texts → Task → Answer → Type 0
+IsGradedAs t k a = AllFit t × IsAnswered t k a

@@ -3,14 +3,11 @@ pub mod Answers
 pub mod BoundsForm
 pub mod BoundsReading
 pub mod Claims
-pub mod Decided
 pub mod Decisions
 pub mod Ends
-pub mod Fetched
 pub mod FormulaValues
 pub mod Names
-pub mod OneTask
-pub mod Outcomes
+pub mod OneOutcome
 pub mod ProgramForm
 pub mod ProgramReading
 pub mod Reports
@@ -22,6 +19,7 @@ pub mod RulesReading
 pub mod Scanning
 pub mod Searches
 pub mod Selections
+pub mod Stops
 pub mod Tables
 pub mod Texts
 pub mod Verdicts

@@ -1,7 +1,8 @@
 -- The texts of the four sources of a request.
 use Rattle.std.specs.Prelude.{◌≡◌, ℕ, ◌<◌, ◌≤◌, List, length, Some}
 use Rattle.mpy_tree.specs.declared.refusal.Source.{Source}
-use Rattle.mpy_tree.specs.declared.refusal.Source.TheVariants.{Bounds, Reference, Submission, Rules, Cert, Word}
+use Rattle.mpy_tree.specs.declared.refusal.Source.TheVariants.{Bounds, Reference, Submission, Rules}
+use Rattle.mpy_tree.specs.declared.refusal.Source.TheVariants.{Cert, Word}
 
 pub record Texts : Type 0 where
   pub bounds : List ℕ

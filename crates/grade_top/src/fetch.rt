@@ -1,15 +1,15 @@
 //! The four sources of a request, fetched in order.
-ghost use Rattle.std.specs.Prelude.{◌≡◌, ◌+◌, ◌≤◌, ℕ, IfOk, IfErr, IsErrOf};
-ghost use Rattle.grade_io.specs.Devices.{Rose};
-ghost use Rattle.grade_top.specs.Texts.{Texts, IsFirstLong, AllFit, source_limit};
-ghost use Rattle.grade_top.specs.Ends.{CallsInOrder, Tells};
+ghost use Rattle.std.specs.Prelude.{◌≡◌, ◌≤◌, IfErr, IfOk};
+ghost use Rattle.grade_top.specs.Texts.{AllFit};
+ghost use Rattle.grade_top.specs.Ends.{AreHeld, CallsInOrder, FilesKept};
 ghost use Rattle.grade_top.specs.Request.{words_of};
 ghost use Rattle.grade_top.specs.Words.{Grade};
-ghost use Rattle.grade_top.specs.Fetched.{texts_of, stop_of, OnLong};
+ghost use Rattle.grade_top.specs.Stops.{IsLongSource, OnRefused, ReadFaults, stop_of, texts_of};
 
+use crate::stop::{Stop, refused};
 use crate::words::GradeRequest;
 use grade_io::{FetchError, Shelf};
-use mpy_tree::Source;
+use mpy_tree::{Cause, Source};
 use std::alloc::Global;
 
 /// A source may have this many bytes.
@@ -24,22 +24,14 @@ pub(crate) struct Sources {
     pub(crate) rules: Vec<u8>,
 }
 
-/// Why the sources weren't all fetched.
-#[derive(Clone, Copy)]
-pub(crate) enum FetchStop {
-    Failed,
-    Long(Source),
-    NoMemory,
-}
-
 /// What stops at a source whose fetch gave this error.
-fn stop(source: Source, error: FetchError) -> FetchStop
+fn stop(source: Source, error: FetchError) -> Stop
     ensures { result ≡ stop_of source error }
 {
     match error {
-        FetchError::Failed => FetchStop::Failed,
-        FetchError::Long => FetchStop::Long(source),
-        FetchError::NoMemory => FetchStop::NoMemory,
+        FetchError::Failed => Stop::Failed,
+        FetchError::Long => refused(source, Cause::Long, 0),
+        FetchError::NoMemory => Stop::NoMemory,
     }
 }
 
@@ -48,15 +40,16 @@ pub(crate) fn fetch_sources<S: Shelf>(
     alloc: Global,
     request: &GradeRequest<'_>,
     shelf: &mut S,
-) -> Result<Sources, FetchStop>
-    ensures fit { IfOk result (λ sources. AllFit (texts_of sources)) }
-    ensures told { (t : Texts) → Tells (S.seen shelf.old) (words_of request.now) t → IfOk result (λ sources. (texts_of sources ≡ t) × AllFit t) }
-    ensures long { IfErr result (λ stop. OnLong stop (λ _. (S.seen shelf.new).taken ≡ source_limit + 1)) }
-    ensures first { (t : Texts) → Tells (S.seen shelf.old) (words_of request.now) t → IfErr result (λ stop. OnLong stop (IsFirstLong t)) }
-    ensures calls { CallsInOrder (Grade (words_of request.now)) (S.seen shelf.old) (S.seen shelf.new) }
-    ensures files { (S.seen shelf.new).holds ≡ (S.seen shelf.old).holds }
-    ensures later { (S.seen shelf.old).faults ≤ (S.seen shelf.new).faults }
-    ensures failed { IsErrOf result FetchStop.Failed → Rose (S.seen shelf.old).faults (S.seen shelf.new).faults }
+) -> Result<Sources, Stop>
+    ensures fit { IfOk result (λ s. AllFit (texts_of s)) }
+    ensures held { IfOk result
+        (λ s. AreHeld (S.seen shelf.old) (words_of request.now) (texts_of s)) }
+    ensures long { IfErr result (OnRefused (IsLongSource (words_of request.now)
+        (S.seen shelf.old) (S.seen shelf.new))) }
+    ensures calls { CallsInOrder (Grade (words_of request.now)) (S.seen shelf.old)
+        (S.seen shelf.new) }
+    ensures files { FilesKept (S.seen shelf.old) (S.seen shelf.new) }
+    ensures faults { ReadFaults result (S.seen shelf.old) (S.seen shelf.new) }
 {
     let bounds = match shelf.fetch(alloc, request.bounds, SOURCE_LIMIT) {
         Ok(bytes) => bytes,

@@ -1,4 +1,4 @@
-//! What the devices in memory do with ample memory, and which calls of theirs fail: no clause says it.
+//! What the devices in memory do with ample memory.
 use grade_io::{
     FetchError, MemShelf, MemSink, PutError, Shelf, Sink, StoreError, SureShelf, SureSink,
     write_text,

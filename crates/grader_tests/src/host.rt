@@ -15,11 +15,13 @@ fn moves_bytes(rt: HostRuntime) -> Result<(), Fail> {
     shelf.store("short", &bytes)?;
     shelf.store("short", &b"12".to_vec(alloc)?)?;
     shelf.store("kept", &bytes)?;
+    shelf.store(" kept ", &b"with blanks".to_vec(alloc)?)?;
     assert!(rt; fs::read(&rt, "kept")? == bytes, "the file has the bytes");
     fs::create_dir(&rt, "folder")?;
     // Each row: the name, the limit, and what the fetch answers.
-    let fetches: [(&str, u64, Result<&[u8], FetchError>); 5] = [
+    let fetches: [(&str, u64, Result<&[u8], FetchError>); 6] = [
         ("kept", 5000, Ok(bytes.as_slice())),
+        (" kept ", 5000, Ok(b"with blanks")),
         ("kept", 4999, Err(FetchError::Long)),
         ("short", 5000, Ok(b"12")),
         ("absent", 5000, Err(FetchError::Failed)),

@@ -1,4 +1,5 @@
-//! Tests of the grader and its devices: requests over devices in memory, and the real files and output.
+//! Tests of the grader and its devices: requests over devices in memory, and the real files and
+//! output.
 #![tactic(auto)]
 
 #[cfg(test)]
@@ -13,5 +14,7 @@ mod layout;
 mod refusals;
 #[cfg(test)]
 mod requests;
+#[cfg(test)]
+mod slow;
 #[cfg(test)]
 mod words;

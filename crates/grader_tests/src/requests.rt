@@ -116,8 +116,8 @@ fn requests_are_answered(rt: HostRuntime) -> Result<(), Fail> {
     Ok(())
 }
 
-/// Each row: the shelf's call and the sink's put that fail (0: none), the status, and what was written by
-/// puts of at most four bytes.
+/// Each row: the shelf's call and the sink's put that fail (0: none), the status, and what was
+/// written by puts of at most four bytes.
 #[test]
 fn devices_may_fail(rt: HostRuntime) -> Result<(), Fail> {
     let alloc = rt.alloc();

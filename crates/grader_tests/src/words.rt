@@ -5,7 +5,8 @@ use grade_io::{MemShelf, MemSink};
 use grade_top::{Status, grade_top};
 use std::test::Fail;
 
-/// The usage is written for every budget that isn't a number from 1 to 200000, and nothing is fetched.
+/// The usage is written for every budget that isn't a number from 1 to 200000, and nothing is
+/// fetched.
 #[test]
 fn other_words_get_the_usage(rt: HostRuntime) -> Result<(), Fail> {
     let alloc = rt.alloc();

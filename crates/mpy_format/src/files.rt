@@ -2,7 +2,7 @@
 ghost use Rattle.std.specs.Prelude.{◌≡◌, map};
 ghost use Rattle.std.specs.String.{string_bytes};
 ghost use Rattle.grade_io.specs.Devices.{devices};
-ghost use Rattle.mpy_format.specs.Files.{EndInTurn, goes_on, joined};
+ghost use Rattle.mpy_format.specs.Files.{EndInTurn, FetchedInOrder, goes_on, joined};
 
 use crate::page::format_file;
 use grade_io::{Shelf, Sink, Status};
@@ -25,15 +25,21 @@ fn joined(before: Status, said: Status) -> Status
     }
 }
 
-/// Prints the program of each file, or the cause and line for which it is none, up to the first for which a device
-/// failed or memory lacked. No files are a wrong use.
+/// Prints the program of each file, or the cause and line for which it is none, up to the first for
+/// which a device failed or memory lacked. No files are a wrong use.
 pub(crate) fn format_files<S: Shelf, K: Sink>(
     alloc: Global,
     files: &[String],
     shelf: &mut S,
     out: &mut K,
 ) -> Status
-    ensures ends { EndInTurn Status.Usage (map string_bytes files.now) (devices (S.seen shelf.old) (K.seen out.old)) (devices (S.seen shelf.new) (K.seen out.new)) result }
+    ensures ends { EndInTurn Status.Usage (map string_bytes files.now)
+        (devices (S.seen shelf.old) (K.seen out.old))
+            (devices (S.seen shelf.new) (K.seen out.new)) result }
+    // No file is touched: the calls are fetches of the files, in order, each once.
+    ensures files { (S.seen shelf.new).holds ≡ (S.seen shelf.old).holds }
+    ensures fetched { FetchedInOrder (map string_bytes files.now) (S.seen shelf.old)
+        (S.seen shelf.new) }
 {
     let mut status = Status::Usage;
     for i in 0..files.len() {

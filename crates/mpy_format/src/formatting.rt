@@ -15,7 +15,8 @@ use std::alloc::Global;
 /// The first cause for which the bytes spell no program, with its line, and want of memory.
 pub(crate) fn formatted(alloc: Global, bytes: &[u8]) -> Result<Vec<u8>, ReadError>
     requires { length bytes.now ≤ 1073741824 }
-    ensures text { IfOk result (λ v. (rs : List Routine) × (IsProgram bytes.now rs × (v.items ≡ program_text rs))) }
+    ensures text { IfOk result (λ v. (rs : List Routine) × (IsProgram bytes.now rs × (v.items
+        ≡ program_text rs))) }
     ensures refused { IfErr result (IsAnswered bytes.now) }
 {
     let program = read_prog(alloc, bytes)?;

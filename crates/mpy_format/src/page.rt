@@ -1,91 +1,67 @@
-//! What is printed of a file.
-ghost use Rattle.std.specs.Prelude.{◌≡◌, ◌≤◌, List, ℕ, IfOk, IsErrOf, length};
-ghost use Rattle.grade_io.specs.Devices.{Rose, devices};
-ghost use Rattle.mpy_format.specs.Ends.{Ends, IsDue, IsOutcomeOf, IsPage, Outcome, Says, refused_text, status_of, text_of_outcome};
+//! What is printed of one file.
+ghost use Rattle.std.specs.Prelude.{◌≡◌, ◌≤◌, IfErr, IfOk};
+ghost use Rattle.grade_io.specs.Devices.{Fetch, FetchCalls, Fetched, devices};
+ghost use Rattle.grade_io.specs.Faults.{FetchFaults};
+ghost use Rattle.mpy_format.specs.Ends.{Ends, IsFetched};
+ghost use Rattle.mpy_format.specs.Stops.{FoundNoText, FoundText, ReadsTo, stop_of_fetch};
+ghost use Rattle.mpy_format.specs.Stops.{stop_of_read};
 ghost use Rattle.mpy_format.specs.declared.page.Stop.TheVariants as stop;
 
 use crate::formatting::formatted;
-use grade_io::{FetchError, NoMemory, PutError, Shelf, Sink, Status, write_text};
+use grade_io::{FetchError, Shelf, Sink, Status, refusal_line, say};
 use mpy_parser::ReadError;
 use mpy_tree::Cause;
-use std::alloc::{AllocError, Global};
+use std::alloc::Global;
 
 /// How many bytes a file may have.
 const MOST: u64 = 65536;
 
-/// What is said of a file, and the status where all of it is written.
-#[derive(Drop)]
-struct Page {
-    text: Vec<u8>,
-    status: Status,
-}
-
-/// Why nothing is said of a file.
+/// Why no program is printed of a file.
 #[derive(Clone, Copy, Debug, PartialEq, Eq, Drop)]
 enum Stop {
+    /// The first cause for which the file is none, with its line.
+    Refused { cause: Cause, line: u32 },
+    /// The shelf failed.
     Failed,
+    /// Memory lacked.
     NoMemory,
 }
 
-impl From<AllocError> for Stop {
-    ghost from_gives = { λ _ e. e ≡ stop.NoMemory };
+impl From<FetchError> for Stop {
+    ghost from_gives = { λ e s. s ≡ stop_of_fetch e };
 
-    fn from(_error: AllocError) -> Stop {
-        Stop::NoMemory
+    fn from(error: FetchError) -> Stop {
+        match error {
+            FetchError::Failed => Stop::Failed,
+            FetchError::Long => Stop::Refused {
+                cause: Cause::Long,
+                line: 0,
+            },
+            FetchError::NoMemory => Stop::NoMemory,
+        }
     }
 }
 
-/// The line for a refusal of a file.
-fn refused(alloc: Global, file: &str, cause: Cause, line: u32) -> Result<Page, NoMemory>
-    ensures text { IfOk result (λ p. p.text.items ≡ refused_text file.now cause line) }
-    ensures status { IfOk result (λ p. p.status ≡ Status.Refused) }
-{
-    let cause = cause.name();
-    let text = format!(in alloc; "refused {file} line {line}: {cause}\n")?;
-    Ok(Page {
-        text: text.into_bytes(),
-        status: Status::Refused,
-    })
-}
+impl From<ReadError> for Stop {
+    ghost from_gives = { λ e s. s ≡ stop_of_read e };
 
-/// What is said of a file that holds these bytes.
-fn page_of(alloc: Global, file: &str, bytes: &[u8]) -> Result<Page, NoMemory>
-    requires { length bytes.now ≤ 65536 }
-    ensures { IfOk result (λ p. IsPage (IsOutcomeOf bytes.now) file.now p.text.items p.status) }
-{
-    match formatted(alloc, bytes) {
-        Ok(text) => Ok(Page {
-            text,
-            status: Status::Correct,
-        }),
-        Err(ReadError::Fault { cause, line }) => refused(alloc, file, cause, line),
-        Err(ReadError::NoMemory) => Err(AllocError),
+    fn from(error: ReadError) -> Stop {
+        match error {
+            ReadError::Fault { cause, line } => Stop::Refused { cause, line },
+            ReadError::NoMemory => Stop::NoMemory,
+        }
     }
 }
 
-/// What is said of a file.
-fn find_page<S: Shelf>(alloc: Global, file: &str, shelf: &mut S) -> Result<Page, Stop>
-    ensures due { IfOk result (λ p. IsPage (IsDue file.now (S.seen shelf.old)) file.now p.text.items p.status) }
+/// The text of the program of a file.
+fn find_text<S: Shelf>(alloc: Global, file: &str, shelf: &mut S) -> Result<Vec<u8>, Stop>
+    ensures found { IfOk result (λ v. FoundText file.now (S.seen shelf.old) v.items) }
+    ensures stopped { IfErr result (FoundNoText file.now (S.seen shelf.old)) }
     ensures files { (S.seen shelf.new).holds ≡ (S.seen shelf.old).holds }
-    ensures failed { IsErrOf result Stop.Failed → Rose (S.seen shelf.old).faults (S.seen shelf.new).faults }
+    ensures reads { ReadsTo result file.now (S.seen shelf.old) (S.seen shelf.new) }
 {
-    match shelf.fetch(alloc, file, MOST) {
-        Ok(bytes) => Ok(page_of(alloc, file, &bytes)?),
-        Err(FetchError::Long) => Ok(refused(alloc, file, Cause::Long, 0)?),
-        Err(FetchError::Failed) => Err(Stop::Failed),
-        Err(FetchError::NoMemory) => Err(Stop::NoMemory),
-    }
-}
-
-/// Writes what is said, and ends with its status where all of it was written.
-fn say<K: Sink>(text: &[u8], status: Status, out: &mut K) -> Status
-    ensures { (file : List ℕ) (o : Outcome) → text.now ≡ text_of_outcome file o → status ≡ status_of o → Says file o (K.seen out.old) (K.seen out.new) result }
-{
-    match write_text(out, text) {
-        Ok(()) => status,
-        Err(PutError::Failed) => Status::WriteFailed,
-        Err(PutError::NoMemory) => Status::NoMemory,
-    }
+    let bytes = shelf.fetch(alloc, file, MOST)?;
+    Ok(formatted(alloc, &bytes)?)
 }
 
 /// Prints the program of a file, or the cause and line for which it is none.
@@ -96,13 +72,18 @@ pub(crate) fn format_file<S: Shelf, K: Sink>(
     out: &mut K,
 ) -> Status
     // What the status means, and what stands in the output.
-    ensures ends { Ends file.now (devices (S.seen shelf.old) (K.seen out.old)) (devices (S.seen shelf.new) (K.seen out.new)) result }
+    ensures ends { Ends file.now (devices (S.seen shelf.old) (K.seen out.old))
+        (devices (S.seen shelf.new) (K.seen out.new)) result }
     ensures files { (S.seen shelf.new).holds ≡ (S.seen shelf.old).holds }
+    ensures fetched { IsFetched file.now (S.seen shelf.old) (S.seen shelf.new) result }
 {
-    let page = match find_page(alloc, file, shelf) {
-        Ok(page) => page,
-        Err(Stop::Failed) => return Status::ReadFailed,
-        Err(Stop::NoMemory) => return Status::NoMemory,
-    };
-    say(page.text.as_slice(), page.status, out)
+    match find_text(alloc, file, shelf) {
+        Ok(text) => say(out, text.as_slice(), Status::Correct),
+        Err(Stop::Refused { cause, line }) => match refusal_line(alloc, file, line, cause.name()) {
+            Ok(text) => say(out, text.as_slice(), Status::Refused),
+            Err(_) => Status::NoMemory,
+        },
+        Err(Stop::Failed) => Status::ReadFailed,
+        Err(Stop::NoMemory) => Status::NoMemory,
+    }
 }

@@ -1,7 +1,7 @@
 -- the words ask for the command that was read
 use Rattle.grade_top.specs.Words.{Grade}
 use Rattle.grade_top.specs.Request.{words_of}
-use Rattle.grade_top.proofs.Claims.{graded_by}
+use Rattle.grade_top.proofs.Claims.{graded_by, refused_by}
 use Rattle.grade_top.proofs.Endings.{one_command}
 use Rattle.grade_top.proofs.grade_top.Goals as goal
 
@@ -18,3 +18,8 @@ pub returns-in-Some-clause-graded : goal.returns-in-Some-clause-graded
 returns-in-Some-clause-graded g c = λ words t k asks fine sure.
     graded_by (Grade (words_of c.in-Some.request)) words t k _ _ c.grade.result c.grade.ensures.ends
     (one_command _ (Grade (words_of c.in-Some.request)) (Grade words) c.in-Some.ensures.found asks) fine sure
+
+pub returns-in-Some-clause-refused : goal.returns-in-Some-clause-refused
+returns-in-Some-clause-refused g c = λ words t r asks tells first sure.
+    refused_by (Grade (words_of c.in-Some.request)) words t r _ _ c.grade.result c.grade.ensures.ends
+    (one_command _ (Grade (words_of c.in-Some.request)) (Grade words) c.in-Some.ensures.found asks) tells first sure

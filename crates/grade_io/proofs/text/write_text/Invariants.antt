@@ -1,4 +1,4 @@
--- The front that was written so far, with the count; the bytes that are left fall.
+-- The front that was written so far, with no fault; the bytes that are left fall.
 use Rattle.std.proofs.Common.{◌≡◌, ◌-◌, ◌≤◌, length, take}
 use Rattle.grade_io.specs.Devices.{added}
 use Rattle.grade_io.proofs.text.write_text.Given as goal
@@ -6,8 +6,9 @@ use Rattle.grade_io.proofs.text.write_text.Given as goal
 abbrev pub invariant-put : goal.invariant-put
 invariant-put g l = record {
   within : l.done ≤ length l.text;
-  written : (g.K.Sink.seen l.out).written ≡ added (g.K.Sink.seen l.fn.out).written (take l.done l.text);
-  later : (g.K.Sink.seen l.fn.out).faults ≤ (g.K.Sink.seen l.out).faults;
+  written : (g.K.Sink.seen l.out).written
+      ≡ added (g.K.Sink.seen l.fn.out).written (take l.done l.text);
+  still : (g.K.Sink.seen l.out).faults ≡ (g.K.Sink.seen l.fn.out).faults;
 }
 
 abbrev pub decreases-put : goal.decreases-put

@@ -1,6 +1,6 @@
 -- where a text isn't read, all before it are
 use Rattle.std.proofs.Common.{refl}
-use Rattle.grade_top.specs.Fetched.{texts_of}
+use Rattle.grade_top.specs.Stops.{texts_of}
 use Rattle.grade_top.specs.Views.{bounds_of, function_of}
 use Rattle.grade_top.proofs.ProgramLaws.{stops_at_reference, stops_at_submission}
 use Rattle.grade_top.proofs.decide.read_task.Goals as goal
