@@ -11,9 +11,9 @@ use Rattle.clause_base.specs.declared.answer.StepAnswer.TheVariants.{Good}
 use Rattle.clause_base.specs.Formulas.{in_range, clauses_in_range}
 use Rattle.clause_base.specs.Literals.{opposite}
 use Rattle.clause_base.specs.Follows.{answer_of, hinted, is_false, literals_at, open_literals}
-use Rattle.clause_base.specs.Logs.{LogFollows, Refutes, StepFollows}
+use Rattle.clause_base.specs.Logs.{LogFollows, Refutes, StepFollows, known_of}
 use Rattle.sat_plain.specs.declared.trail.Entry.{Entry}
-use Rattle.sat_plain.specs.Trails.{IsImplied, IsLogged, IsOrdered, IsSearch, IsTrail, Path, decided, is_among, known_of, literals_of, standing}
+use Rattle.sat_plain.specs.Trails.{IsImplied, IsLogged, IsOrdered, IsSearch, IsTrail, Path, decided, is_among, literals_of, standing}
 use Rattle.sat_plain.proofs.Covered.{in_range_push}
 use Rattle.sat_plain.proofs.Growth.{literals_front, literals_is}
 use Rattle.sat_plain.proofs.Literals.{among_here, among_there, opposite_back}
@@ -46,14 +46,13 @@ trail_more known more (e ∷ older) trail = (implied_more known more (literals_o
 
 -- one step more
 pub logged_push : (vars : ℕ) (clauses : List Clause) (steps : List Step) (s : Step) → IsLogged vars clauses steps → length clauses + length steps < 2147483647
-    → StepFollows vars (known_of clauses steps) s → length s.hints ≤ 2147483647 → IsLogged vars clauses (steps ++ s ∷ [])
-logged_push vars clauses steps s logged room here few =
+    → StepFollows vars (known_of clauses steps) s → IsLogged vars clauses (steps ++ s ∷ [])
+logged_push vars clauses steps s logged room here =
     let long : length (steps ++ s ∷ []) ≡ length steps + 1 = length_push steps s in
     record {
       follows = follows_push vars clauses steps s logged.follows here;
       in_range = subst (λ (known : List Clause). clauses_in_range vars known ≡ true) (sym (known_push clauses steps s)) (in_range_push vars (known_of clauses steps) s.clause logged.in_range here.within);
       numbered = omega arith;
-      hints_few = All-push (λ (x : Step). length x.hints ≤ 2147483647) steps s logged.hints_few few;
     }
 
 -- the opposites of decisions are false

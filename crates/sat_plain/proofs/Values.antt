@@ -12,7 +12,8 @@ use Rattle.clause_base.specs.Formulas.{in_range, clauses_in_range, satisfies}
 use Rattle.clause_base.specs.Literals.{clause_true, literal_true}
 use Rattle.clause_base.specs.Follows.{is_false, literals_at, open_literals}
 use Rattle.sat_plain.specs.declared.trail.Entry.{Entry}
-use Rattle.sat_plain.specs.Trails.{Grows, IsConflict, IsFull, IsLogged, IsSearch, IsValued, Path, is_among, known_of, literals_of}
+use Rattle.clause_base.specs.Logs.{known_of}
+use Rattle.sat_plain.specs.Trails.{Grows, IsConflict, IsFull, IsLogged, IsSearch, IsValued, Path, is_among, literals_of}
 use Rattle.sat_plain.proofs.Growth.{literals_front}
 use Rattle.sat_plain.proofs.Ordered.{range_parts}
 
@@ -83,7 +84,6 @@ search_start vars clauses steps first new range few none is grows =
       follows = tt;
       in_range = subst (λ (cs : List Clause). clauses_in_range vars cs ≡ true) (sym (append-nil clauses)) range;
       numbered = omega arith;
-      hints_few = All-nil (λ (s : Step). length s.hints ≤ 2147483647);
     } in
     let search : IsSearch vars clauses [] start = record { same_vars = refl; trail = tt; logged = logged; none_empty = All-nil (λ (s : Step). s.clause.lits ≢ []) } in
     subst (λ (ss : List Step). IsSearch vars clauses ss new) (sym none) (search_grown vars clauses [] start new search (subst (λ (p : Path). Grows clauses p new) is grows))

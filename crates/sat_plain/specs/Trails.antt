@@ -9,7 +9,7 @@ use Rattle.clause_base.specs.declared.log.Step.{Step}
 use Rattle.clause_base.specs.Formulas.{in_range, clauses_in_range}
 use Rattle.clause_base.specs.Literals.{same_literal}
 use Rattle.clause_base.specs.Follows.{is_false, literals_at, open_literals}
-use Rattle.clause_base.specs.Logs.{LogFollows}
+use Rattle.clause_base.specs.Logs.{LogFollows, known_of}
 use Rattle.sat_plain.specs.declared.trail.Entry.{Entry}
 use Rattle.sat_plain.specs.declared.trail.Scan.{Scan}
 use Rattle.sat_plain.specs.declared.trail.Scan.TheVariants.{Closed, One, Other}
@@ -57,10 +57,6 @@ pub record IsConflict (known : List Clause) (entries : List Entry) (number : ℕ
   pub within : number ≤ length known
   pub closed : open_literals (literals_of entries) (literals_at known (number - 1)) ≡ []
 
--- the clauses of the formula and then those of the log
-abbrev pub known_of : List Clause → List Step → List Clause
-known_of clauses steps = clauses ++ map (λ s. s.clause) steps
-
 -- literals become true by clauses of the formula, and none stops to be
 pub record Grows (clauses : List Clause) (old new : Path) : Type 0 where
   pub vars : new.vars ≡ old.vars
@@ -102,7 +98,6 @@ pub record IsLogged (vars : ℕ) (clauses : List Clause) (steps : List Step) : T
   pub follows : LogFollows vars clauses steps
   pub in_range : clauses_in_range vars (known_of clauses steps) ≡ true
   pub numbered : length clauses + length steps ≤ 2147483647
-  pub hints_few : All (λ s. length s.hints ≤ 2147483647) steps
 
 -- a search between two conflicts
 pub record IsSearch (vars : ℕ) (clauses : List Clause) (steps : List Step) (path : Path) : Type 0 where

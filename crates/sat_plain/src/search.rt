@@ -3,9 +3,9 @@
 ghost use Rattle.std.specs.Prelude.{◌≡◌, ◌≢◌, ◌≤◌, ◌+◌, true, [], ◌∷◌, List, All, IfOk, IfSome, MatchOption, OnOk, None, length};
 ghost use Rattle.clause_base.specs.declared.clause.Clause.{Clause};
 ghost use Rattle.clause_base.specs.Formulas.{in_range, satisfies};
-ghost use Rattle.clause_base.specs.Logs.{Refutes};
-ghost use Rattle.clause_base.specs.Solving.{IsLog, IfHolds, IfLog, IfRefuted, IfSpent};
-ghost use Rattle.sat_plain.specs.Trails.{Grows, IsConflict, IsFull, IsLogged, IsSearch, IsTrail, decided, known_of, literals_of, standing};
+ghost use Rattle.clause_base.specs.Logs.{Refutes, known_of};
+ghost use Rattle.clause_base.specs.Solving.{IsAnswer, IsLog, IfHolds, IfLog, IfRefuted, IfSpent};
+ghost use Rattle.sat_plain.specs.Trails.{Grows, IsConflict, IsFull, IsLogged, IsSearch, IsTrail, decided, literals_of, standing};
 
 use crate::explain::explanation;
 use crate::occurrences::Occurrences;
@@ -123,12 +123,7 @@ fn search(alloc: Global, f: &Formula, budget: u32) -> Result<Solved, NoMemory>
 /// as the budget has.
 pub fn solve(alloc: Global, f: &Formula, budget: u32) -> Solved
     requires { length f.now.clauses ≤ 2147483647 }
-    ensures log { IfLog result (λ steps. IsLog f.now.vars f.now.clauses budget steps) }
-    ensures many { IfHolds result (λ values. length values ≡ f.now.vars) }
-    ensures holds { IfHolds result (λ values. satisfies values f.now.clauses ≡ true) }
-    ensures refuted { IfRefuted result (λ steps. Refutes steps) }
-    ensures spent { IfSpent result (λ steps. length steps ≡ budget) }
-    ensures none_empty { IfSpent result (λ steps. All (λ s. s.clause.lits ≢ []) steps) }
+    ensures { IsAnswer f.now budget result }
 {
     match search(alloc, f, budget) {
         Ok(solved) => solved,

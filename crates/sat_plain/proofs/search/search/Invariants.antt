@@ -1,6 +1,7 @@
 use Rattle.std.proofs.Common.{◌≡◌, length}
 use Rattle.std.specs.Prelude.{MatchOption}
-use Rattle.sat_plain.specs.Trails.{IsConflict, IsFull, IsSearch, known_of}
+use Rattle.clause_base.specs.Logs.{known_of}
+use Rattle.sat_plain.specs.Trails.{IsConflict, IsFull, IsSearch}
 use Rattle.sat_plain.proofs.search.search.Given as goal
 
 abbrev pub invariant-loop-count : goal.invariant-loop-count
