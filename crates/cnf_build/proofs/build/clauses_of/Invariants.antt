@@ -1,6 +1,6 @@
 use Rattle.std.proofs.Common.{◌≡◌, true, [], ◌∷◌, take}
 use Rattle.cnf_build.specs.Gates.{literals, clauses_from}
-use Rattle.cnf_build.proofs.build.to_formula.Given as goal
+use Rattle.cnf_build.proofs.build.clauses_of.Given as goal
 
 -- the clauses of the gates so far
 abbrev pub invariant-loop-k : goal.invariant-loop-k
