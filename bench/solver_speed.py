@@ -1,5 +1,5 @@
 #!/usr/bin/env python3
-"""Times the formula of a large graph, the checker on a long log over it, and the plain solver beside `minisat`.
+"""Times the formula of a large graph, the checker on a long log over it, the plain solver on it and beside `minisat`.
 
     python3 bench/solver_speed.py [GATES] [STEPS]
 
@@ -83,6 +83,8 @@ def main():
         for count in (steps // 10, steps):
             times, most = built.run(2, gates, count)
             print('log of %s steps with ten hints each: %.2f s, %s of them good, at most %d MB in all' % (format(count, ','), int(times['log'][0]) / 1e6, times['good'][0], most))
+        times, most = built.run(5, gates)
+        print('the plain solver on the formula, with the graph: %.2f s, answer %s, at most %d MB in all' % (int(times['solve'][0]) / 1e6, times['answer'][0], most))
         for variables in (50, 75, 100):
             for seed in (1, 2):
                 draws = round(4.3 * variables / ((1 - 1 / variables) * (1 - 2 / variables)))

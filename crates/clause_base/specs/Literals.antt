@@ -1,5 +1,5 @@
 -- What literals and clauses say under truth values of the variables.
-use Rattle.std.specs.Prelude.{ℕ, ◌-◌, ◌==◌, ◌<◌, ◌≤◌, Bool, true, false, not, ◌&&◌, List, [], ◌∷◌, slice_index_or, if◌then◌else◌, All}
+use Rattle.std.specs.Prelude.{◌≡◌, ◌⊎◌, ℕ, ◌-◌, ◌==◌, ◌<◌, ◌≤◌, Bool, true, false, not, ◌&&◌, List, [], ◌∷◌, slice_index_or, if◌then◌else◌, All}
 use Rattle.std.specs.Bool.{beq}
 use Rattle.std.specs.List.{list_any}
 use Rattle.clause_base.specs.declared.lit.Lit.{Lit}
@@ -28,3 +28,8 @@ has_no_variable_twice (l ∷ lits) = not (list_any (λ k. k.var == l.var) lits) 
 -- each variable is one of the first so many
 pub record IsCovered (vars : ℕ) (lits : List Lit) : Type 0 where
   pub each : All (λ l. (0 < l.var) × (l.var ≤ vars)) lits
+
+-- the greatest variable, or 0 where there is no literal
+pub record IsGreatest (v : ℕ) (lits : List Lit) : Type 0 where
+  pub most : All (λ l. l.var ≤ v) lits
+  pub stands : (v ≡ 0) ⊎ (list_any (λ l. l.var == v) lits ≡ true)

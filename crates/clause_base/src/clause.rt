@@ -1,7 +1,7 @@
 //! A clause: literals, one of which is to be true.
 
-ghost use Rattle.std.specs.Prelude.{◌≡◌, true, IfOk};
-ghost use Rattle.clause_base.specs.Literals.{has_no_variable_twice};
+ghost use Rattle.std.specs.Prelude.{◌≡◌, ◌↔◌, true, IfOk, IsTrue};
+ghost use Rattle.clause_base.specs.Literals.{IsGreatest, has_no_variable_twice};
 
 use crate::NoMemory;
 use crate::lits::Lits;
@@ -28,5 +28,25 @@ impl Clause {
     {
         let lits = self.lits.copy()?;
         Ok(Clause { lits })
+    }
+
+    /// Whether two clauses have the same literals in the same order.
+    pub fn same(&self, other: &Clause) -> bool
+        ensures { IsTrue result ↔ (self.now ≡ other.now) }
+    {
+        self.lits.same(&other.lits)
+    }
+
+    /// The greatest variable, or 0 where there is no literal.
+    pub fn greatest(&self) -> u32
+        ensures { IsGreatest result self.now.lits }
+    {
+        let mut most = 0;
+        for lit in self.lits.as_slice() {
+            if most < lit.var {
+                most = lit.var;
+            }
+        }
+        most
     }
 }

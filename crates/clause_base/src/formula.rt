@@ -1,6 +1,6 @@
 //! Formulas: lists of clauses.
 
-ghost use Rattle.std.specs.Prelude.{◌≡◌, true, ◌<◌, [], ◌∷◌, ◌++◌, OnOk, OnErr, IfOk, length, slice_get, Some};
+ghost use Rattle.std.specs.Prelude.{◌≡◌, ◌↔◌, true, ◌<◌, [], ◌∷◌, ◌++◌, OnOk, OnErr, IfOk, IfSome, IsSome, IsTrue, length, slice_get, Some};
 ghost use Rattle.clause_base.specs.Formulas.{clauses_in_range};
 
 use crate::NoMemory;
@@ -41,6 +41,20 @@ impl Clauses {
         Ok(Clauses { items })
     }
 
+    /// The list of these clauses.
+    pub fn from_vec(items: Vec<Clause>) -> Self
+        ensures { result ≡ items.items }
+    {
+        Clauses { items }
+    }
+
+    /// The clauses.
+    pub fn into_vec(self) -> Vec<Clause>
+        ensures { result.items ≡ self }
+    {
+        self.items
+    }
+
     /// The number of clauses.
     pub fn len(&self) -> usize
         ensures { result ≡ length self.now }
@@ -75,6 +89,30 @@ impl Clauses {
         }
         Ok(Clauses { items })
     }
+
+    /// Whether two lists are equal.
+    pub fn same(&self, other: &Clauses) -> bool
+        ensures { IsTrue result ↔ (self.now ≡ other.now) }
+    {
+        if self.items.len() != other.items.len() {
+            return false;
+        }
+        for i in 0..self.items.len() {
+            if !self.items[i].same(&other.items[i]) {
+                return false;
+            }
+        }
+        true
+    }
+
+    /// Whether each variable is one of those from 1 to `vars`.
+    pub fn are_in_range(&self, vars: u32) -> bool
+        ensures { result ≡ clauses_in_range vars self.now }
+    {
+        self.items
+            .iter()
+            .all(|clause| clause.lits.are_in_range(vars))
+    }
 }
 
 /// A conjunction of clauses over the variables from 1 to `vars`.
@@ -86,6 +124,25 @@ pub struct Formula {
 }
 
 impl Formula {
+    /// The formula of these clauses; none where a variable isn't one of those from 1 to `vars`.
+    pub fn new(vars: u32, clauses: Clauses) -> Option<Formula>
+        ensures vars { IfSome result (λ f. f.vars ≡ vars) }
+        ensures clauses { IfSome result (λ f. f.clauses ≡ clauses) }
+        ensures exact { IsSome result ↔ (clauses_in_range vars clauses ≡ true) }
+    {
+        if !clauses.are_in_range(vars) {
+            return None;
+        }
+        Some(Formula { vars, clauses })
+    }
+
+    /// Whether two formulas have the same variables and the same clauses in the same order.
+    pub fn same(&self, other: &Formula) -> bool
+        ensures { IsTrue result ↔ (self.now ≡ other.now) }
+    {
+        self.vars == other.vars && self.clauses.same(&other.clauses)
+    }
+
     /// An equal formula.
     pub fn copy(&self) -> Result<Formula, NoMemory>
         ensures { IfOk result (λ r. r ≡ self.now) }

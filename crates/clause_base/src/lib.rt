@@ -5,6 +5,7 @@ pub mod answer;
 pub mod clause;
 pub mod formula;
 pub mod hints;
+pub mod laws;
 pub mod lit;
 pub mod lits;
 pub mod log;

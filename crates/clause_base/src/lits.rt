@@ -1,6 +1,8 @@
 //! The literals of a clause.
 
-ghost use Rattle.std.specs.Prelude.{◌≡◌, ◌<◌, ◌≤◌, [], ◌∷◌, ◌++◌, length, OnOk, OnErr, IfOk, IsOk};
+ghost use Rattle.std.specs.Prelude.{◌≡◌, ◌↔◌, ◌<◌, ◌≤◌, [], ◌∷◌, ◌++◌, length, OnOk, OnErr, IfOk, IsOk, IsTrue};
+ghost use Rattle.std.specs.List.{list_all};
+ghost use Rattle.clause_base.specs.Formulas.{in_range};
 
 use crate::NoMemory;
 use crate::lit::Lit;
@@ -71,5 +73,29 @@ impl Lits {
     {
         let items = SmallVec::from_slice(*self.items.allocator(), self.items.as_slice())?;
         Ok(Lits { items })
+    }
+
+    /// Whether two lists are equal.
+    pub fn same(&self, other: &Lits) -> bool
+        ensures { IsTrue result ↔ (self.now ≡ other.now) }
+    {
+        let mine = self.as_slice();
+        let others = other.as_slice();
+        if mine.len() != others.len() {
+            return false;
+        }
+        for i in 0..mine.len() {
+            if mine[i] != others[i] {
+                return false;
+            }
+        }
+        true
+    }
+
+    /// Whether each variable is one of those from 1 to `vars`.
+    pub fn are_in_range(&self, vars: u32) -> bool
+        ensures { result ≡ list_all (in_range vars) self.now }
+    {
+        self.as_slice().iter().all(|lit| lit.is_in_range(vars))
     }
 }

@@ -52,6 +52,20 @@ impl Steps {
         }
     }
 
+    /// The list of these steps.
+    pub fn from_vec(items: Vec<Step>) -> Self
+        ensures { result ≡ items.items }
+    {
+        Steps { items }
+    }
+
+    /// The steps.
+    pub fn into_vec(self) -> Vec<Step>
+        ensures { result.items ≡ self }
+    {
+        self.items
+    }
+
     /// The number of steps.
     pub fn len(&self) -> usize
         ensures { result ≡ length self.now }

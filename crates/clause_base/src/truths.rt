@@ -33,6 +33,20 @@ impl Truths {
         }
     }
 
+    /// The list of these values.
+    pub fn from_vec(items: Vec<bool>) -> Self
+        ensures { result ≡ items.items }
+    {
+        Truths { items }
+    }
+
+    /// The values.
+    pub fn into_vec(self) -> Vec<bool>
+        ensures { result.items ≡ self }
+    {
+        self.items
+    }
+
     /// The number of values.
     pub fn len(&self) -> usize
         ensures { result ≡ length self.now }

@@ -1,18 +1,19 @@
 -- The whole formula: its clauses in order, its variables, and the values that make it true.
-use Rattle.std.proofs.Common.{◌≡◌, ◌≢◌, ◌*◌, All, ℕ, zero, suc, ◌≤◌, ◌+◌, Bool, true, false, ◌&&◌, List, [], ◌∷◌, ◌++◌, take, drop, slice_get, Some, length, refl, sym, ap, ◌∙◌, subst, arith, length-take, length-drop, take-append-drop}
+use Rattle.std.proofs.Common.{◌≡◌, ◌≢◌, ◌*◌, All, ℕ, zero, suc, ◌≤◌, ◌+◌, Bool, true, false, ◌&&◌, List, [], ◌∷◌, ◌++◌, take, drop, slice_get, Some, length, refl, sym, ap, ◌∙◌, subst, arith, length-append, length-take, length-drop, take-append-drop}
 use Rattle.std.specs.List.{list_all}
 use Rattle.std.proofs.lemmas.Bool.{and_from, lt-ltb, le-leb}
 use Rattle.bit_graph.specs.declared.gate.Source.{Source}
 use Rattle.bit_graph.specs.declared.gate.Source.TheVariants.{Constant, Variable, Made}
 use Rattle.bit_graph.specs.declared.gate.GraphBit.{GraphBit}
 use Rattle.bit_graph.specs.declared.gate.Gate.{Gate}
-use Rattle.bit_graph.specs.Gates.{Gates, Owns, AreGates, IsBelow, IsGateAt}
+use Rattle.bit_graph.specs.Gates.{Gates, Owns, AreGates, IsBelow, IsGateAt, reading, values_after}
 use Rattle.clause_base.specs.declared.lit.Lit.{Lit}
 use Rattle.clause_base.specs.declared.clause.Clause.{Clause}
 use Rattle.std.proofs.lemmas.List.Elements.{All-nil, All-cons}
 use Rattle.clause_base.specs.Formulas.{in_range, clauses_in_range, satisfies}
 use Rattle.clause_base.specs.Literals.{clause_true}
-use Rattle.cnf_build.specs.Gates.{number_of, literal_of, opposite_of, gate_clauses, clauses_from, formula_of, literals, AreValues}
+use Rattle.cnf_build.specs.Gates.{number_of, literal_of, opposite_of, gate_clauses, clauses_from, formula_of, literals, AreValues, IsEncoding, States}
+use Rattle.bit_graph.proofs.Growth.{length-values_after}
 use Rattle.cnf_build.proofs.Meaning.{values_of, all_append, formula_from, formula_to}
 
 pub clauses_push : (n at : ℕ) (xs : List Gate) (x : Gate) → clauses_from n at (xs ++ x ∷ []) ≡ clauses_from n at xs ++ gate_clauses n (at + length xs) x
@@ -62,11 +63,11 @@ literals_length : (clauses : List Clause) → length (literals clauses) ≡ leng
 literals_length [] = refl
 literals_length (c ∷ cs) = ap suc (literals_length cs)
 
-pub few_clauses : (n : ℕ) (first : List Lit) (xs : List Gate) (l : Lit) (clauses : List Clause) → literals clauses ≡ first ∷ (clauses_from n 0 xs ++ (l ∷ []) ∷ [])
-    → length xs ≤ 715827881 → length clauses ≤ 2147483647
-few_clauses n first xs l clauses e few =
-    let long : length clauses ≡ suc (length (clauses_from n 0 xs ++ (l ∷ []) ∷ [])) = sym (literals_length clauses) ∙ ap length e in
-    let count : length (clauses_from n 0 xs ++ (l ∷ []) ∷ []) ≡ 3 * length xs + 1 = count_clauses n 0 xs l in
+pub count_all : (g : Gates) (goal : GraphBit) (clauses : List Clause) → literals clauses ≡ formula_of g goal → length clauses ≡ 3 * length g.gates + 2
+count_all g goal clauses e =
+    let l : Lit = literal_of g.variables goal in
+    let long : length clauses ≡ suc (length (clauses_from g.variables 0 g.gates ++ (l ∷ []) ∷ [])) = sym (literals_length clauses) ∙ ap length e in
+    let count : length (clauses_from g.variables 0 g.gates ++ (l ∷ []) ∷ []) ≡ 3 * length g.gates + 1 = count_clauses g.variables 0 g.gates l in
     omega arith
 
 number_in : (n m vars : ℕ) (s : Source) (p : Bool) → m + (n + 1) ≤ vars → IsBelow n m s → in_range vars (record { var = number_of n s; positive = p }) ≡ true
@@ -127,3 +128,39 @@ exact_from g goal (v ∷ rest) all owned long h =
 pub exact_to : (g : Gates) (goal : GraphBit) (values : List Bool) → AreGates g.variables g.gates → Owns g goal → AreValues g goal values → list_all (clause_true values) (formula_of g goal) ≡ true
 unfolding values_of
 exact_to g goal values all owned are = subst (λ (w : List Bool). list_all (clause_true w) (formula_of g goal) ≡ true) (sym are.values_are) (formula_to g goal are.inputs all owned are.many are.holds)
+
+-- the values that satisfy the clauses
+pub encoding : (g : Gates) (goal : GraphBit) (vars : ℕ) (clauses : List Clause) → AreGates g.variables g.gates → Owns g goal → vars ≡ g.variables + 1 + length g.gates → literals clauses ≡ formula_of g goal → IsEncoding g goal vars clauses
+encoding g goal vars clauses all owned e whole values long = (
+  λ h. exact_from g goal values all owned (long ∙ e) (ap (list_all (clause_true values)) (sym whole) ∙ satisfies_literals values clauses ∙ h),
+  λ are. sym (satisfies_literals values clauses) ∙ ap (list_all (clause_true values)) whole ∙ exact_to g goal values all owned are,
+)
+
+take_append : (xs ys : List Bool) → take (length xs) (xs ++ ys) ≡ xs
+take_append [] ys = refl
+take_append (x ∷ xs) ys = ap (λ (zs : List Bool). x ∷ zs) (take_append xs ys)
+
+-- the values of the variables and gates behind those of variable 1
+begins : (values inputs made : List Bool) → values ≡ true ∷ (inputs ++ made) → take (length inputs) (drop 1 values) ≡ inputs
+begins values inputs made is = ap (λ (v : List Bool). take (length inputs) (drop 1 v)) is ∙ take_append inputs made
+
+pub states : (g : Gates) (goal : GraphBit) (vars : ℕ) (clauses : List Clause) → AreGates g.variables g.gates → Owns g goal → vars ≡ g.variables + 1 + length g.gates → literals clauses ≡ formula_of g goal → States g goal vars clauses
+states g goal vars clauses all owned e whole inputs many = (
+  λ extend.
+      let are = (encoding g goal vars clauses all owned e whole extend.values extend.many).0 extend.satisfied in
+      let same : length inputs ≡ length are.inputs = many ∙ sym are.many in
+      let is : inputs ≡ are.inputs = sym extend.begins ∙ ap (λ k. take k (drop 1 extend.values)) same ∙ begins extend.values are.inputs (values_after are.inputs [] g.gates) are.values_are in
+      ap (λ (vs : List Bool). reading g vs goal) is ∙ are.holds,
+  λ holds.
+      let made : List Bool = values_after inputs [] g.gates in
+      let values : List Bool = true ∷ (inputs ++ made) in
+      let long : length made ≡ length g.gates = length-values_after inputs [] g.gates ∙ omega arith in
+      let both : length (inputs ++ made) ≡ length inputs + length made = length-append inputs made in
+      let fits : length values ≡ vars = omega arith in
+      record {
+        values = values;
+        many = fits;
+        begins = begins values inputs made refl;
+        satisfied = (encoding g goal vars clauses all owned e whole values fits).1 (record { inputs = inputs; many = many; values_are = refl; holds = holds });
+      },
+)

@@ -1,9 +1,9 @@
 //! The formula of a graph and a goal.
 
-ghost use Rattle.std.specs.Prelude.{◌≡◌, ◌≢◌, ◌+◌, ◌<◌, ◌≤◌, ◌↔◌, All, Bool, List, true, [], ◌∷◌, ◌++◌, OnOk, IfOk, length};
+ghost use Rattle.std.specs.Prelude.{◌≡◌, ◌≢◌, ◌+◌, ◌*◌, ◌<◌, ◌≤◌, All, [], ◌∷◌, ◌++◌, OnOk, IfOk, length};
 ghost use Rattle.bit_graph.specs.Gates.{IsBelow, IsGateAt, Owns, source_of};
-ghost use Rattle.clause_base.specs.Formulas.{satisfies};
-ghost use Rattle.cnf_build.specs.Gates.{AreValues, formula_of, gate_clauses, literal_of, literals};
+ghost use Rattle.clause_base.specs.Formulas.{IsLedBy};
+ghost use Rattle.cnf_build.specs.Gates.{IsEncoding, States, formula_of, gate_clauses, literal_of, literals};
 
 use bit_graph::gate::{Gate, GraphBit, Source};
 use bit_graph::graph::Graph;
@@ -98,24 +98,14 @@ fn push_gate(
     Ok(())
 }
 
-/// The formula that exactly those values satisfy under which a goal reads true: of variable 1 as
-/// true, of the graph's variables from 2 on, and of its gates in the order of making. The first
-/// clause is that of variable 1, then come three for each gate, and the last is that of the goal.
-/// A formula of more than 2147483647 variables or clauses is answered by want of memory.
-pub fn to_formula(alloc: Global, g: &Graph, goal: GraphBit) -> Result<Formula, NoMemory>
-    requires { Owns g.now goal }
-    ensures clauses { IfOk result (λ f. literals f.clauses ≡ formula_of g.now goal) }
-    ensures vars { IfOk result (λ f. f.vars ≡ g.now.variables + 1 + length g.now.gates) }
-    ensures exact { IfOk result (λ f. (values : List Bool) → length values ≡ f.vars → (satisfies values f.clauses ≡ true) ↔ AreValues g.now goal values) }
-    ensures few { IfOk result (λ f. length f.clauses ≤ 2147483647) }
-    ensures none_empty { IfOk result (λ f. All (λ lits. lits ≢ []) (literals f.clauses)) }
+/// The clauses of variable 1, of the gates in the order of making, and of the goal.
+fn clauses_of(alloc: Global, g: &Graph, goal: GraphBit) -> Result<Clauses, NoMemory>
+    requires owned { Owns g.now goal }
+    requires room { length g.now.gates + (g.now.variables + 2) ≤ 2147483647 }
+    ensures { IfOk result (λ clauses. literals clauses ≡ formula_of g.now goal) }
 {
     let variables = g.variables();
     let count = g.gate_count();
-    // three clauses a gate and two more are to be at most 2147483647
-    if variables > 2147483645 || count > 715827881 || count > 2147483645 - variables as usize {
-        return Err(AllocError);
-    }
     let made = count as u32;
     let mut clauses = Clauses::with_capacity(alloc, 3 * count + 2)?;
     let yes = Lit {
@@ -127,8 +117,33 @@ pub fn to_formula(alloc: Global, g: &Graph, goal: GraphBit) -> Result<Formula, N
         push_gate(alloc, &mut clauses, variables, k, g.gate(k as usize))?;
     }
     push_one(alloc, &mut clauses, literal(variables, made, goal))?;
+    Ok(clauses)
+}
+
+/// The formula that exactly those values satisfy under which a goal reads true: of variable 1 as
+/// true, of the graph's variables from 2 on, and of its gates in the order of making. The first
+/// clause is that of variable 1, then come three for each gate, and the last is that of the goal.
+/// A formula of more than 2147483647 variables or clauses is answered by want of memory.
+pub fn to_formula(alloc: Global, g: &Graph, goal: GraphBit) -> Result<Formula, NoMemory>
+    requires { Owns g.now goal }
+    ensures clauses { IfOk result (λ f. literals f.clauses ≡ formula_of g.now goal) }
+    ensures vars { IfOk result (λ f. f.vars ≡ g.now.variables + 1 + length g.now.gates) }
+    ensures exact { IfOk result (λ f. IsEncoding g.now goal f.vars f.clauses) }
+    ensures states { IfOk result (λ f. States g.now goal f.vars f.clauses) }
+    ensures led { IfOk result (λ f. IsLedBy (g.now.variables + 1) f.vars f.clauses) }
+    ensures size { IfOk result (λ f. length f.clauses ≡ 3 * length g.now.gates + 2) }
+    ensures few { IfOk result (λ f. (f.vars ≤ 2147483647) × (length f.clauses ≤ 2147483647)) }
+    ensures none_empty { IfOk result (λ f. All (λ lits. lits ≢ []) (literals f.clauses)) }
+{
+    let variables = g.variables();
+    let count = g.gate_count();
+    // three clauses a gate and two more are to be at most 2147483647
+    if variables > 2147483645 || count > 715827881 || count > 2147483645 - variables as usize {
+        return Err(AllocError);
+    }
+    let clauses = clauses_of(alloc, g, goal)?;
     Ok(Formula {
-        vars: variables + 1 + made,
+        vars: variables + 1 + count as u32,
         clauses,
     })
 }

@@ -1,6 +1,6 @@
 //! The checker of steps.
 
-ghost use Rattle.std.specs.Prelude.{◌≡◌, ◌≤◌, ◌<◌, ◌-◌, ℕ, true, List, IfOk, All, length};
+ghost use Rattle.std.specs.Prelude.{◌≡◌, ◌≤◌, ◌<◌, true, IfOk, All, length};
 ghost use Rattle.std.specs.List.{list_all};
 ghost use Rattle.clause_base.specs.Follows.{answer_of, hinted};
 ghost use Rattle.clause_base.specs.Formulas.{in_range, clauses_in_range};
@@ -55,7 +55,6 @@ impl Checker {
     pub fn step(&mut self, known: &Clauses, clause: &Clause, hints: &Hints) -> StepAnswer
         requires known { clauses_in_range self.old known.now ≡ true }
         requires covered { list_all (in_range self.old) clause.now.lits ≡ true }
-        requires few { length hints.now ≤ 2147483647 }
         requires named { All (λ h. (0 < h) × (h ≤ length known.now)) hints.now }
         ensures answer { result ≡ answer_of clause.now.lits (hinted known.now hints.now) }
         ensures same { self.new ≡ self.old }

@@ -1,12 +1,15 @@
 -- Clauses whose variables are in range.
-use Rattle.std.proofs.Common.{◌≡◌, ℕ, zero, suc, ◌<◌, ◌≤◌, true, List, [], ◌∷◌, ◌++◌, slice_get, Some, refl}
+use Rattle.std.proofs.Common.{◌≡◌, ℕ, zero, suc, ◌<◌, ◌≤◌, true, List, [], ◌∷◌, ◌++◌, slice_get, Some, refl, ap, ◌∙◌, inl, inr}
 use Rattle.std.specs.List.{list_all}
 use Rattle.std.proofs.lemmas.Bool.{and_parts, and_from}
 use Rattle.std.proofs.lemmas.List.Elements.{All-nil, All-cons}
 use Rattle.clause_base.specs.declared.lit.Lit.{Lit}
 use Rattle.clause_base.specs.declared.clause.Clause.{Clause}
 use Rattle.clause_base.specs.Formulas.{in_range, clauses_in_range}
+use Rattle.clause_base.specs.Follows.{literals_at}
 use Rattle.clause_base.specs.Literals.{IsCovered}
+use Rattle.sat_plain.specs.Trails.{is_among}
+use Rattle.sat_plain.proofs.Literals.{among_cases}
 use Rattle.sat_plain.proofs.Ordered.{range_parts}
 
 pub covered : (vars : ℕ) (lits : List Lit) → list_all (in_range vars) lits ≡ true → IsCovered vars lits
@@ -31,3 +34,17 @@ in_range_push vars [] c h here = and_from (list_all (in_range vars) c.lits) true
 in_range_push vars (d ∷ ds) c h here =
     let parts = and_parts (list_all (in_range vars) d.lits) (clauses_in_range vars ds) h in
     and_from (list_all (in_range vars) d.lits) (clauses_in_range vars (ds ++ c ∷ [])) parts.0 (in_range_push vars ds c parts.1 here)
+
+pub literals_in_range : (vars : ℕ) (clauses : List Clause) (k : ℕ) → clauses_in_range vars clauses ≡ true → list_all (in_range vars) (literals_at clauses k) ≡ true
+literals_in_range vars [] k h = refl
+literals_in_range vars (c ∷ cs) zero h = (and_parts (list_all (in_range vars) c.lits) (clauses_in_range vars cs) h).0
+literals_in_range vars (c ∷ cs) (suc k) h = literals_in_range vars cs k (and_parts (list_all (in_range vars) c.lits) (clauses_in_range vars cs) h).1
+
+pub among_in_range : (vars : ℕ) (lits : List Lit) (l : Lit) → list_all (in_range vars) lits ≡ true → is_among l lits ≡ true → in_range vars l ≡ true
+among_in_range vars [] l h here = cc
+among_in_range vars (k ∷ ks) l h here =
+    let parts = and_parts (in_range vars k) (list_all (in_range vars) ks) h in
+    elim (among_cases l k ks here) [
+      | inl same ↦ ap (in_range vars) same ∙ parts.0
+      | inr later ↦ among_in_range vars ks l parts.1 later
+    ]

@@ -11,8 +11,7 @@ use Rattle.clause_base.specs.Literals.{opposite}
 use Rattle.clause_base.specs.Follows.{answer_of, by_open, follow, hinted, is_false, literals_at, open_literals}
 use Rattle.sat_plain.specs.declared.trail.Entry.{Entry}
 use Rattle.sat_plain.specs.Trails.{IsConflict, IsImplied, IsOrdered, IsTrail, decided, is_among, is_wanted, literals_of}
-use Rattle.sat_plain.proofs.Literals.{among_cases, among_here, among_open, among_there, open_agree, opposites_back}
-use Rattle.sat_plain.proofs.Growth.{literals_is}
+use Rattle.sat_plain.proofs.Literals.{among_cases, among_here, among_open, among_there, literals_is, open_agree, opposites_back}
 use Rattle.sat_plain.proofs.Ordered.{consistent, decided_among, decided_decision}
 
 -- true literals, among them the decisions and the wanted ones of the older entries

@@ -1,7 +1,14 @@
 pub mod Literals
 pub mod Ordered
 pub mod Covered
+pub mod Watching
 pub mod Growth
 pub mod Explaining
+pub mod Fresh
 pub mod Logged
 pub mod Values
+pub mod Taking
+pub mod Undoing
+pub mod Propagating
+pub mod Counting
+pub mod Filling

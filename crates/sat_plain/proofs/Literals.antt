@@ -1,10 +1,12 @@
 -- Literals among others.
-use Rattle.std.proofs.Common.{◌≡◌, ◌<◌, zero, suc, arith, get_or, length, ℕ, Bool, true, false, not, ◌||◌, List, [], ◌∷◌, map, refl, sym, ap, ◌∙◌, eqb, eqb-true, eq-eqb, inl, inr, ◌⊎◌, subst}
+use Rattle.std.proofs.Common.{◌≡◌, ◌<◌, zero, suc, arith, get_or, length, ℕ, Bool, true, false, not, ◌||◌, slice_get, Some, List, [], ◌∷◌, map, refl, sym, ap, ◌∙◌, eqb, eqb-true, eq-eqb, inl, inr, ◌⊎◌, subst}
 use Rattle.std.specs.Bool.{beq}
 use Rattle.std.proofs.lemmas.Bool.{and_parts, cases_Bool}
 use Rattle.clause_base.specs.declared.lit.Lit.{Lit}
 use Rattle.clause_base.specs.Literals.{opposite, same_literal}
-use Rattle.clause_base.specs.Follows.{is_false, open_literals}
+use Rattle.std.specs.Option.{option_map_or}
+use Rattle.clause_base.specs.declared.clause.Clause.{Clause}
+use Rattle.clause_base.specs.Follows.{is_false, literals_at, open_literals}
 use Rattle.sat_plain.specs.Trails.{is_among}
 
 beq_same : (a : Bool) → beq a a ≡ true
@@ -103,3 +105,6 @@ open_read known c i d within up none =
     let stands : is_among (get_or c i d) (open_literals known c) ≡ true = among_open known c (get_or c i d) (among_read c i d within) up in
     let clash : is_among (get_or c i d) [] ≡ true = subst (λ (ls : List Lit). is_among (get_or c i d) ls ≡ true) none stands in
     cc
+
+pub literals_is : (clauses : List Clause) (k : ℕ) (c : Clause) → slice_get clauses k ≡ Some c → literals_at clauses k ≡ c.lits
+literals_is clauses k c here = ap (λ o. option_map_or (λ (d : Clause). d.lits) o []) here

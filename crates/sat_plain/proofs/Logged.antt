@@ -1,9 +1,8 @@
 -- Logs that grow, and what the literals that are true say of the values.
-use Rattle.std.proofs.Common.{◌≡◌, ◌≢◌, ℕ, ◌<◌, ◌≤◌, ◌-◌, ◌+◌, true, false, List, [], ◌∷◌, ◌++◌, map, All, length, Some, None, Option, arith, refl, sym, ap, ◌∙◌, subst, append_assoc, length-append, slice_get}
+use Rattle.std.proofs.Common.{◌≡◌, ℕ, ◌<◌, ◌≤◌, ◌-◌, ◌+◌, true, false, List, [], ◌∷◌, ◌++◌, map, All, length, Some, None, Option, arith, refl, sym, ap, ◌∙◌, subst, length-append, slice_get}
 use Rattle.std.specs.List.{list_all}
 use Rattle.std.specs.Prelude.{IsSomeAnd}
-use Rattle.std.proofs.lemmas.List.{append-nil, map_push, length-map, length_push}
-use Rattle.std.proofs.lemmas.List.Elements.{All-push}
+use Rattle.std.proofs.lemmas.List.{length_push}
 use Rattle.clause_base.specs.declared.lit.Lit.{Lit}
 use Rattle.clause_base.specs.declared.clause.Clause.{Clause}
 use Rattle.clause_base.specs.declared.log.Step.{Step}
@@ -11,25 +10,15 @@ use Rattle.clause_base.specs.declared.answer.StepAnswer.TheVariants.{Good}
 use Rattle.clause_base.specs.Formulas.{in_range, clauses_in_range}
 use Rattle.clause_base.specs.Literals.{opposite}
 use Rattle.clause_base.specs.Follows.{answer_of, hinted, is_false, literals_at, open_literals}
-use Rattle.clause_base.specs.Logs.{LogFollows, Refutes, StepFollows}
+use Rattle.clause_base.specs.Logs.{IsNew, Refutes, StepFollows, known_of}
+use Rattle.clause_base.specs.LogLaws.{FollowsPushed, FreshPushed, KnownPushed}
 use Rattle.sat_plain.specs.declared.trail.Entry.{Entry}
-use Rattle.sat_plain.specs.Trails.{IsImplied, IsLogged, IsOrdered, IsSearch, IsTrail, Path, decided, is_among, known_of, literals_of, standing}
+use Rattle.sat_plain.specs.Trails.{IsImplied, IsOrdered, IsTrail, decided, is_among, literals_of}
+use Rattle.sat_plain.specs.Searching.{IsLogged, NoneEmpty}
 use Rattle.sat_plain.proofs.Covered.{in_range_push}
-use Rattle.sat_plain.proofs.Growth.{literals_front, literals_is}
-use Rattle.sat_plain.proofs.Literals.{among_here, among_there, opposite_back}
-use Rattle.sat_plain.proofs.Ordered.{decided_among, decided_in_range, unset_parts}
-
-pub follows_push : (vars : ℕ) (clauses : List Clause) (steps : List Step) (s : Step) → LogFollows vars clauses steps → StepFollows vars (known_of clauses steps) s → LogFollows vars clauses (steps ++ s ∷ [])
-follows_push vars clauses [] s log here = (subst (λ (known : List Clause). StepFollows vars known s) (append-nil clauses) here, tt)
-follows_push vars clauses (t ∷ steps) s log here =
-    let turn : known_of clauses (t ∷ steps) ≡ known_of (clauses ++ t.clause ∷ []) steps = sym (append_assoc clauses (t.clause ∷ []) (map (λ (x : Step). x.clause) steps)) in
-    (log.0, follows_push vars (clauses ++ t.clause ∷ []) steps s log.1 (subst (λ (known : List Clause). StepFollows vars known s) turn here))
-
-pub known_push : (clauses : List Clause) (steps : List Step) (s : Step) → known_of clauses (steps ++ s ∷ []) ≡ known_of clauses steps ++ s.clause ∷ []
-known_push clauses steps s = ap (λ (cs : List Clause). clauses ++ cs) (map_push (λ (x : Step). x.clause) steps s) ∙ sym (append_assoc clauses (map (λ (x : Step). x.clause) steps) (s.clause ∷ []))
-
-pub length_known : (clauses : List Clause) (steps : List Step) → length (known_of clauses steps) ≡ length clauses + length steps
-length_known clauses steps = length-append clauses (map (λ (x : Step). x.clause) steps) ∙ ap (λ n. length clauses + n) (length-map steps (λ (x : Step). x.clause))
+use Rattle.sat_plain.proofs.Growth.{literals_front}
+use Rattle.sat_plain.proofs.Literals.{among_here, among_there, literals_is, opposite_back}
+use Rattle.sat_plain.proofs.Ordered.{decided_among, decided_in_range}
 
 implied_more : (known more : List Clause) (before : List Lit) (l : Lit) (reason : Option ℕ) → IsImplied known before l reason → IsImplied (known ++ more) before l reason
 implied_more known more before l None h = tt
@@ -45,15 +34,16 @@ trail_more known more [] trail = tt
 trail_more known more (e ∷ older) trail = (implied_more known more (literals_of older) e.lit e.reason trail.0, trail_more known more older trail.1)
 
 -- one step more
-pub logged_push : (vars : ℕ) (clauses : List Clause) (steps : List Step) (s : Step) → IsLogged vars clauses steps → length clauses + length steps < 2147483647
-    → StepFollows vars (known_of clauses steps) s → length s.hints ≤ 2147483647 → IsLogged vars clauses (steps ++ s ∷ [])
-logged_push vars clauses steps s logged room here few =
+pub logged_push : (known : KnownPushed) (follows : FollowsPushed) (fresh : FreshPushed) (vars : ℕ) (clauses : List Clause) (steps : List Step) (s : Step)
+    → IsLogged vars clauses steps → length clauses + length steps < 2147483647 → StepFollows vars (known_of clauses steps) s
+    → (NoneEmpty clauses → IsNew (known_of clauses steps) s.clause) → IsLogged vars clauses (steps ++ s ∷ [])
+logged_push known follows fresh vars clauses steps s logged room here new =
     let long : length (steps ++ s ∷ []) ≡ length steps + 1 = length_push steps s in
     record {
-      follows = follows_push vars clauses steps s logged.follows here;
-      in_range = subst (λ (known : List Clause). clauses_in_range vars known ≡ true) (sym (known_push clauses steps s)) (in_range_push vars (known_of clauses steps) s.clause logged.in_range here.within);
+      follows = (follows vars clauses steps s).1 (logged.follows, here);
+      in_range = subst (λ (cs : List Clause). clauses_in_range vars cs ≡ true) (sym (known clauses steps s)) (in_range_push vars (known_of clauses steps) s.clause logged.in_range here.within);
       numbered = omega arith;
-      hints_few = All-push (λ (x : Step). length x.hints ≤ 2147483647) steps s logged.hints_few few;
+      fresh = λ some. (fresh clauses steps s).1 (logged.fresh some, new some);
     }
 
 -- the opposites of decisions are false
@@ -101,26 +91,5 @@ explains vars known es step hints ordered clause same named good = record {
   good = ap (λ (ls : List Lit). answer_of ls (hinted known step.hints)) clause ∙ ap (λ (hs : List ℕ). answer_of (map opposite (decided es)) (hinted known hs)) same ∙ good;
 }
 
-never_empty : (ls : List Lit) (l : Lit) → [] ≡ l ∷ ls → ⊥
+pub never_empty : (ls : List Lit) (l : Lit) → [] ≡ l ∷ ls → ⊥
 never_empty ls l h = cc
-
--- a search in which a decision was taken back
-pub search_taken : (vars : ℕ) (clauses : List Clause) (steps : List Step) (s : Step) (old undone new : Path) (l : Lit) → IsSearch vars clauses steps old → IsLogged vars clauses (steps ++ s ∷ [])
-    → s.clause.lits ≡ map opposite (decided old.entries) → decided old.entries ≡ l ∷ decided undone.entries → undone.vars ≡ old.vars → IsTrail (known_of clauses steps) undone.entries
-    → standing (literals_of undone.entries) l ≡ None
-    → new ≡ record { vars = undone.vars; entries = (record { lit = opposite l; reason = Some (length clauses + length steps + 1) }) ∷ undone.entries }
-    → IsSearch vars clauses (steps ++ s ∷ []) new
-search_taken vars clauses steps s old undone new l search logged clause decision same trail unset is =
-    let e : Entry = record { lit = opposite l; reason = Some (length clauses + length steps + 1) } in
-    let lits : s.clause.lits ≡ map opposite (l ∷ decided undone.entries) = clause ∙ ap (map opposite) decision in
-    let none = unset_parts (literals_of undone.entries) l unset in
-    let taken = trail_taken (known_of clauses steps) undone.entries s.clause (decided undone.entries) l trail none.0 refl lits in
-    let number : length (known_of clauses steps) + 1 ≡ length clauses + length steps + 1 = ap (λ n. n + 1) (length_known clauses steps) in
-    let turned = subst (λ n. IsTrail (known_of clauses steps ++ s.clause ∷ []) ((record { lit = opposite l; reason = Some n }) ∷ undone.entries)) number taken in
-    let known = subst (λ (cs : List Clause). IsTrail cs (e ∷ undone.entries)) (sym (known_push clauses steps s)) turned in
-    record {
-      same_vars = ap (λ (p : Path). p.vars) is ∙ same ∙ search.same_vars;
-      trail = subst (λ (p : Path). IsTrail (known_of clauses (steps ++ s ∷ [])) p.entries) (sym is) known;
-      logged = logged;
-      none_empty = All-push (λ (x : Step). x.clause.lits ≢ []) steps s search.none_empty (λ (empty : s.clause.lits ≡ []). never_empty (map opposite (decided undone.entries)) (opposite l) (sym empty ∙ lits));
-    }

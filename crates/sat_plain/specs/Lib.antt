@@ -1,2 +1,3 @@
 pub mod Trails
-pub mod Chains
+pub mod Places
+pub mod Searching

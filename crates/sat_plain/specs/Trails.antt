@@ -1,15 +1,13 @@
 -- Trails: the literals that are true, with the newest first, and why.
-use Rattle.std.specs.Prelude.{◌≡◌, ◌≢◌, ℕ, ◌+◌, ◌-◌, ◌<◌, ◌≤◌, Bool, true, false, List, [], ◌∷◌, ◌++◌, length, map, slice_index_or, if◌then◌else◌, Option, Some, None, ◌⊎◌, All}
+use Rattle.std.specs.Prelude.{◌≡◌, ℕ, ◌+◌, ◌-◌, ◌<◌, ◌≤◌, Bool, true, false, List, [], ◌∷◌, length, map, drop, slice_index_or, if◌then◌else◌, Option, Some, None, ◌⊎◌}
 use Rattle.std.specs.Bool.{beq}
 use Rattle.std.specs.Option.{option_map_or}
 use Rattle.std.specs.List.{list_any, sum_by}
 use Rattle.clause_base.specs.declared.lit.Lit.{Lit}
 use Rattle.clause_base.specs.declared.clause.Clause.{Clause}
-use Rattle.clause_base.specs.declared.log.Step.{Step}
-use Rattle.clause_base.specs.Formulas.{in_range, clauses_in_range}
+use Rattle.clause_base.specs.Formulas.{in_range}
 use Rattle.clause_base.specs.Literals.{same_literal}
 use Rattle.clause_base.specs.Follows.{is_false, literals_at, open_literals}
-use Rattle.clause_base.specs.Logs.{LogFollows}
 use Rattle.sat_plain.specs.declared.trail.Entry.{Entry}
 use Rattle.sat_plain.specs.declared.trail.Scan.{Scan}
 use Rattle.sat_plain.specs.declared.trail.Scan.TheVariants.{Closed, One, Other}
@@ -57,26 +55,20 @@ pub record IsConflict (known : List Clause) (entries : List Entry) (number : ℕ
   pub within : number ≤ length known
   pub closed : open_literals (literals_of entries) (literals_at known (number - 1)) ≡ []
 
--- the clauses of the formula and then those of the log
-abbrev pub known_of : List Clause → List Step → List Clause
-known_of clauses steps = clauses ++ map (λ s. s.clause) steps
+-- the oldest so many of a list with the newest first
+abbrev pub oldest : ℕ → List Lit → List Lit
+oldest n lits = drop (length lits - n) lits
 
--- literals become true by clauses of the formula, and none stops to be
-pub record Grows (clauses : List Clause) (old new : Path) : Type 0 where
-  pub vars : new.vars ≡ old.vars
-  pub more : (l : Lit) → is_among l (literals_of old.entries) ≡ true → is_among l (literals_of new.entries) ≡ true
-  pub trail : (logged : List Clause) → IsTrail (clauses ++ logged) old.entries → IsTrail (clauses ++ logged) new.entries
-
--- each variable has a value, and no clause is false
-pub record IsFull (vars : ℕ) (clauses : List Clause) (entries : List Entry) : Type 0 where
-  pub valued : (v : ℕ) → 0 < v → v ≤ vars → IsValued (literals_of entries) v
-  pub none_closed : (k : ℕ) → k < length clauses → open_literals (literals_of entries) (literals_at clauses k) ≢ []
+-- the clause has a true literal, or two that none of the handled ones makes false
+abbrev pub IsWatched : List Lit → List Lit → List Lit → Type 0
+IsWatched known handled lits =
+    (list_any (λ l. is_among l known) lits ≡ true) ⊎ (2 ≤ length (open_literals handled lits))
 
 -- what a look over a clause finds
 abbrev pub IsScan : List Lit → List Lit → Scan → Type 0
 IsScan known lits Closed = open_literals known lits ≡ []
 IsScan known lits (One l) = (open_literals known lits ≡ l ∷ []) × (standing known l ≡ None)
-IsScan known lits Other = open_literals known lits ≢ []
+IsScan known lits Other = IsWatched known known lits
 
 abbrev pub value_at : List (Option Bool) → ℕ → Option Bool
 value_at values v = slice_index_or values (v - 1) None
@@ -96,17 +88,3 @@ pub record AreTrue (values : List (Option Bool)) (entries : List Entry) : Type 0
 
 abbrev pub is_wanted : List Bool → ℕ → Bool
 is_wanted wanted v = slice_index_or wanted (v - 1) false
-
--- a log that follows so far
-pub record IsLogged (vars : ℕ) (clauses : List Clause) (steps : List Step) : Type 0 where
-  pub follows : LogFollows vars clauses steps
-  pub in_range : clauses_in_range vars (known_of clauses steps) ≡ true
-  pub numbered : length clauses + length steps ≤ 2147483647
-  pub hints_few : All (λ s. length s.hints ≤ 2147483647) steps
-
--- a search between two conflicts
-pub record IsSearch (vars : ℕ) (clauses : List Clause) (steps : List Step) (path : Path) : Type 0 where
-  pub same_vars : path.vars ≡ vars
-  pub trail : IsTrail (known_of clauses steps) path.entries
-  pub logged : IsLogged vars clauses steps
-  pub none_empty : All (λ s. s.clause.lits ≢ []) steps

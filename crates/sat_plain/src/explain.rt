@@ -4,10 +4,10 @@ ghost use Rattle.std.specs.Prelude.{◌≡◌, ℕ, ◌+◌, ◌-◌, ◌<◌, �
 ghost use Rattle.clause_base.specs.declared.lit.Lit.{Lit};
 ghost use Rattle.clause_base.specs.Follows.{answer_of, hinted};
 ghost use Rattle.clause_base.specs.declared.answer.StepAnswer.TheVariants.{Good};
-ghost use Rattle.clause_base.specs.Logs.{StepFollows};
+ghost use Rattle.clause_base.specs.Logs.{StepFollows, known_of};
 ghost use Rattle.clause_base.specs.Formulas.{clauses_in_range};
 ghost use Rattle.clause_base.specs.Literals.{IsCovered, opposite};
-ghost use Rattle.sat_plain.specs.Trails.{IsConflict, IsOrdered, IsTrail, is_among, is_wanted, decided, known_of};
+ghost use Rattle.sat_plain.specs.Trails.{IsConflict, IsOrdered, IsTrail, is_among, is_wanted, decided};
 
 use crate::trail::Entry;
 use clause_base::NoMemory;
@@ -17,7 +17,7 @@ use clause_base::hints::Hints;
 use clause_base::lit::Lit;
 use clause_base::lits::Lits;
 use clause_base::log::{Step, Steps};
-use std::alloc::{AllocError, Global};
+use std::alloc::Global;
 
 /// The clause of a number, among those of the formula and then those of the log.
 fn clause_of<'a>(clauses: &'a Clauses, steps: &'a Steps, number: u32) -> &'a Clause
@@ -109,14 +109,10 @@ pub fn explanation(
     requires conflict { IsConflict (known_of clauses.now steps.now) (reverse entries.now) conflict }
     ensures clause { IfOk result (λ step. step.clause.lits ≡ map opposite (decided (reverse entries.now))) }
     ensures follows { IfOk result (λ step. StepFollows vars (known_of clauses.now steps.now) step) }
-    ensures few { IfOk result (λ step. length step.hints ≤ 2147483647) }
 {
     let lits = opposite_decisions(alloc, entries)?;
     let mut wanted = vec![in alloc; false; vars as usize]?;
     let hints = hints_of(alloc, clauses, steps, entries, conflict, &mut wanted)?;
-    if hints.len() > 2147483647 {
-        return Err(AllocError);
-    }
     Ok(Step {
         clause: Clause::new(lits),
         hints: Hints::from_slice(alloc, hints.as_slice())?,

@@ -5,6 +5,7 @@ mod explain;
 mod occurrences;
 mod propagate;
 mod search;
+mod solver;
 mod trail;
 
-pub use search::solve;
+pub use solver::solve;

@@ -1,171 +1,120 @@
-//! Unit propagation.
+//! Unit propagation and decisions.
 
-ghost use Rattle.std.specs.Prelude.{◌≡◌, ◌≢◌, ℕ, ◌+◌, ◌-◌, ◌<◌, ◌≤◌, true, [], List, Some, OnOk, IfOk, IfSome, MatchOption, length, slice_get};
-ghost use Rattle.clause_base.specs.Follows.{open_literals, literals_at};
-ghost use Rattle.sat_plain.specs.Trails.{Grows, IsConflict, IsFull, IsValued, literals_of};
+ghost use Rattle.std.specs.Prelude.{◌≡◌, ℕ, ◌<◌, ◌≤◌, true, false, [], MatchOption, length, slice_get, Some};
+ghost use Rattle.clause_base.specs.declared.clause.Clause.{Clause};
+ghost use Rattle.clause_base.specs.Follows.{literals_at, open_literals};
+ghost use Rattle.clause_base.specs.Formulas.{in_range};
+ghost use Rattle.sat_plain.specs.Searching.{AllWatched, Grows, IsFull, IsSeen};
+ghost use Rattle.sat_plain.specs.Trails.{IsConflict, IsWatched, is_among, literals_of, oldest};
 
-use crate::occurrences::Occurrences;
-use crate::trail::{Entry, Scan, Trail};
-use clause_base::NoMemory;
-use clause_base::formula::{Clauses, Formula};
+use crate::search::Search;
+use crate::trail::Scan;
 use clause_base::lit::Lit;
 
-/// Looks at the clause at a place, counted from 0. One with a single literal that isn't false
-/// makes that literal true. Whether all of its literals are false.
-fn visit(trail: &mut Trail, f: &Formula, place: u32) -> Result<bool, NoMemory>
-    requires vars { trail.old.vars ≡ f.now.vars }
-    requires few { length f.now.clauses ≤ 2147483647 }
-    requires within { place < length f.now.clauses }
-    ensures grows { OnOk result (Grows f.now.clauses trail.old trail.new) }
-    ensures closed { IfOk result (λ closed. closed ≡ true → open_literals (literals_of trail.new.entries) (literals_at f.now.clauses place) ≡ []) }
-{
-    match trail.look_over(f.clauses.at(place as usize).lits.as_slice()) {
-        Scan::Closed => Ok(true),
-        Scan::One(lit) => {
-            trail.push(Entry {
-                lit,
-                reason: Some(place + 1),
-            })?;
-            Ok(false)
+impl<'a> Search<'a> {
+    /// Looks at the clause at a place, counted from 0. One with a single literal that isn't false
+    /// makes that literal true. Whether all of its literals are false.
+    fn visit(&mut self, place: u32) -> bool
+        requires { place < length self.old.clauses }
+        ensures grows { Grows self.old self.new }
+        ensures closed { result ≡ true → open_literals (literals_of self.new.entries) (literals_at self.new.clauses place) ≡ [] }
+        ensures watched { result ≡ false → let known = literals_of self.new.entries in IsWatched known known (literals_at self.new.clauses place) }
+    {
+        let clause = self.f.clauses.at(place as usize);
+        match self.trail.look_over(clause.lits.as_slice()) {
+            Scan::Closed => true,
+            Scan::One(lit) => {
+                self.imply(place, lit);
+                false
+            }
+            Scan::Other => false,
         }
-        Scan::Other => Ok(false),
     }
-}
 
-/// Looks at the clauses in which a literal stands.
-fn visit_chain(
-    trail: &mut Trail,
-    f: &Formula,
-    occurrences: &Occurrences,
-    lit: Lit,
-) -> Result<Option<u32>, NoMemory>
-    requires vars { trail.old.vars ≡ f.now.vars }
-    requires few { length f.now.clauses ≤ 2147483647 }
-    requires chains_vars { occurrences.now.vars ≡ f.now.vars }
-    requires chains_clauses { occurrences.now.clauses ≡ length f.now.clauses }
-    requires some { 0 < lit.var }
-    requires within { lit.var ≤ f.now.vars }
-    ensures grows { OnOk result (Grows f.now.clauses trail.old trail.new) }
-    ensures conflict { IfOk result (λ o. IfSome o (λ number. IsConflict f.now.clauses trail.new.entries number)) }
-{
-    let mut number = occurrences.first(lit);
-    while number > 0 {
-        let link = occurrences.link(number);
-        if visit(trail, f, link.place)? {
-            return Ok(Some(link.place + 1));
+    /// Looks at the clauses in which a literal stands, up to one whose literals are all false.
+    fn visit_clauses(&mut self, lit: Lit) -> Option<u32>
+        requires { in_range self.old.vars lit ≡ true }
+        ensures grows { Grows self.old self.new }
+        ensures answer { MatchOption result (IsSeen self.old self.new lit) (IsConflict self.new.clauses self.new.entries) }
+    {
+        for i in self.occurrences.first(lit)..self.occurrences.end(lit) {
+            let place = self.occurrences.place(i);
+            if self.visit(place) {
+                return Some(place + 1);
+            }
         }
-        number = link.next;
+        None
     }
-    Ok(None)
-}
 
-/// Makes true what follows from the literals from a place on, each in its turn. Gives the number
-/// of a clause whose literals are all false, where it comes upon one.
-fn propagate(
-    trail: &mut Trail,
-    f: &Formula,
-    occurrences: &Occurrences,
-    from: usize,
-) -> Result<Option<u32>, NoMemory>
-    requires vars { trail.old.vars ≡ f.now.vars }
-    requires few { length f.now.clauses ≤ 2147483647 }
-    requires chains_vars { occurrences.now.vars ≡ f.now.vars }
-    requires chains_clauses { occurrences.now.clauses ≡ length f.now.clauses }
-    ensures grows { OnOk result (Grows f.now.clauses trail.old trail.new) }
-    ensures conflict { IfOk result (λ o. IfSome o (λ number. IsConflict f.now.clauses trail.new.entries number)) }
-{
-    let mut next = from;
-    while next < trail.len() {
-        let lit = trail.at(next);
-        if let Some(number) = visit_chain(trail, f, occurrences, lit.opposite())? {
-            return Ok(Some(number));
+    /// Makes true what follows from the literals from a place on, each in its turn. Gives the number
+    /// of a clause whose literals are all false; where there is none, no clause is unit either.
+    fn propagate(&mut self, from: usize) -> Option<u32>
+        requires within { from ≤ length self.old.entries }
+        requires settled { let known = literals_of self.old.entries in AllWatched self.old.clauses known (oldest from known) }
+        ensures grows { Grows self.old self.new }
+        ensures answer { MatchOption result (let known = literals_of self.new.entries in AllWatched self.new.clauses known known) (IsConflict self.new.clauses self.new.entries) }
+    {
+        let mut next = from;
+        while next < self.trail.len() {
+            let lit = self.trail.at(next);
+            if let Some(number) = self.visit_clauses(lit.opposite()) {
+                return Some(number);
+            }
+            next += 1;
         }
-        next += 1;
+        None
     }
-    Ok(None)
-}
 
-/// Looks once at each clause.
-pub fn visit_all(trail: &mut Trail, f: &Formula) -> Result<Option<u32>, NoMemory>
-    requires vars { trail.old.vars ≡ f.now.vars }
-    requires few { length f.now.clauses ≤ 2147483647 }
-    ensures grows { OnOk result (Grows f.now.clauses trail.old trail.new) }
-    ensures conflict { IfOk result (λ o. IfSome o (λ number. IsConflict f.now.clauses trail.new.entries number)) }
-{
-    for place in 0..f.clauses.len() as u32 {
-        if visit(trail, f, place)? {
-            return Ok(Some(place + 1));
+    /// Looks once at each clause.
+    fn visit_all(&mut self) -> Option<u32>
+        ensures grows { Grows self.old self.new }
+        ensures answer { MatchOption result (AllWatched self.new.clauses (literals_of self.new.entries) []) (IsConflict self.new.clauses self.new.entries) }
+    {
+        for place in 0..self.f.clauses.len() as u32 {
+            if self.visit(place) {
+                return Some(place + 1);
+            }
         }
+        None
     }
-    Ok(None)
-}
 
-/// Propagates from a place on, and then decides the least variable that has no value as false, for
-/// as long as there is one.
-fn settle(
-    trail: &mut Trail,
-    f: &Formula,
-    occurrences: &Occurrences,
-    from: usize,
-) -> Result<Option<u32>, NoMemory>
-    requires vars { trail.old.vars ≡ f.now.vars }
-    requires few { length f.now.clauses ≤ 2147483647 }
-    requires chains_vars { occurrences.now.vars ≡ f.now.vars }
-    requires chains_clauses { occurrences.now.clauses ≡ length f.now.clauses }
-    ensures grows { OnOk result (Grows f.now.clauses trail.old trail.new) }
-    ensures answer { IfOk result (λ o. MatchOption o ((v : ℕ) → 0 < v → v ≤ f.now.vars → IsValued (literals_of trail.new.entries) v) (λ number. IsConflict f.now.clauses trail.new.entries number)) }
-{
-    if let Some(number) = propagate(trail, f, occurrences, from)? {
-        return Ok(Some(number));
-    }
-    for above in 0..f.vars {
-        let lit = Lit {
-            var: above + 1,
-            positive: false,
-        };
-        if trail.standing(lit).is_some() {
-            continue;
+    /// Propagates from a place on, and then decides the least variable that has no value as false,
+    /// for as long as there is one. Gives the number of a clause whose literals are all false; where
+    /// there is none, the values satisfy the formula.
+    pub fn next_conflict(&mut self, from: usize) -> Option<u32>
+        requires within { from ≤ length self.old.entries }
+        requires settled { let known = literals_of self.old.entries in AllWatched self.old.clauses known (oldest from known) }
+        ensures grows { Grows self.old self.new }
+        ensures answer { MatchOption result (IsFull self.new) (IsConflict self.new.clauses self.new.entries) }
+    {
+        if let Some(number) = self.propagate(from) {
+            return Some(number);
         }
-        let place = trail.len();
-        trail.push(Entry { lit, reason: None })?;
-        if let Some(number) = propagate(trail, f, occurrences, place)? {
-            return Ok(Some(number));
+        for above in 0..self.f.vars {
+            let lit = Lit {
+                var: above + 1,
+                positive: false,
+            };
+            if self.trail.standing(lit).is_some() {
+                continue;
+            }
+            let place = self.trail.len();
+            self.decide(lit);
+            if let Some(number) = self.propagate(place) {
+                return Some(number);
+            }
         }
+        None
     }
-    Ok(None)
-}
 
-/// The number of the first clause whose literals are all false.
-fn first_closed(trail: &Trail, f: &Formula) -> Option<u32>
-    requires vars { trail.now.vars ≡ f.now.vars }
-    requires few { length f.now.clauses ≤ 2147483647 }
-    ensures { MatchOption result ((k : ℕ) → k < length f.now.clauses → open_literals (literals_of trail.now.entries) (literals_at f.now.clauses k) ≢ []) (λ number. IsConflict f.now.clauses trail.now.entries number) }
-{
-    for place in 0..f.clauses.len() as u32 {
-        if let Scan::Closed = trail.look_over(f.clauses.at(place as usize).lits.as_slice()) {
-            return Some(place + 1);
+    /// As `next_conflict` from the first literal on, after a look at each clause.
+    pub fn first_conflict(&mut self) -> Option<u32>
+        ensures grows { Grows self.old self.new }
+        ensures answer { MatchOption result (IsFull self.new) (IsConflict self.new.clauses self.new.entries) }
+    {
+        if let Some(number) = self.visit_all() {
+            return Some(number);
         }
+        self.next_conflict(0)
     }
-    None
-}
-
-/// Goes on from the literals from a place on until a clause's literals are all false, and gives
-/// its number, or until each variable has a value and the values satisfy the formula.
-pub fn next_conflict(
-    trail: &mut Trail,
-    f: &Formula,
-    occurrences: &Occurrences,
-    from: usize,
-) -> Result<Option<u32>, NoMemory>
-    requires vars { trail.old.vars ≡ f.now.vars }
-    requires few { length f.now.clauses ≤ 2147483647 }
-    requires chains_vars { occurrences.now.vars ≡ f.now.vars }
-    requires chains_clauses { occurrences.now.clauses ≡ length f.now.clauses }
-    ensures grows { OnOk result (Grows f.now.clauses trail.old trail.new) }
-    ensures answer { IfOk result (λ o. MatchOption o (IsFull f.now.vars f.now.clauses trail.new.entries) (λ number. IsConflict f.now.clauses trail.new.entries number)) }
-{
-    if let Some(number) = settle(trail, f, occurrences, from)? {
-        return Ok(Some(number));
-    }
-    Ok(first_closed(trail, f))
 }

@@ -5,7 +5,7 @@ ghost use Rattle.clause_base.specs.declared.lit.Lit.{Lit};
 ghost use Rattle.clause_base.specs.Follows.{is_false};
 ghost use Rattle.clause_base.specs.Formulas.{in_range};
 ghost use Rattle.clause_base.specs.Literals.{literal_true, IsCovered};
-ghost use Rattle.sat_plain.specs.Trails.{IsOrdered, IsScan, is_among, literals_of, standing};
+ghost use Rattle.sat_plain.specs.Trails.{IsOrdered, IsScan, is_among, literals_of, oldest, standing};
 
 use clause_base::NoMemory;
 use clause_base::lit::Lit;
@@ -26,12 +26,12 @@ pub struct Entry {
 pub enum Scan {
     Closed,
     One(Lit),
-    /// One is true, or there are two and more.
+    /// One is true, or two and more aren't false.
     Other,
 }
 
-/// The literals that are true, and the values that they give the variables. Contracts see the
-/// entries with the newest first.
+/// The literals that are true, and the values that they give the variables. There is room for one
+/// entry a variable from the start. Contracts see the entries with the newest first.
 #[derive(Drop)]
 pub struct Trail {
     entries: Vec<Entry>,
@@ -39,14 +39,14 @@ pub struct Trail {
 }
 
 impl Model for Trail {
-    ghost use Rattle.std.specs.Prelude.{length, reverse};
+    ghost use Rattle.std.specs.Prelude.{◌≤◌, length, reverse, vec_capacity};
     ghost use Rattle.sat_plain.specs.Trails.{AreTrue, Path};
 
     ghost Value = { Path };
 
     ghost view = { λ t. record { vars = length t.values.items; entries = reverse t.entries.items } };
 
-    ghost invariant = { λ t. AreTrue t.values.items (reverse t.entries.items) };
+    ghost invariant = { λ t. AreTrue t.values.items (reverse t.entries.items) × (length t.values.items ≤ vec_capacity t.entries) };
 }
 
 impl Trail {
@@ -55,7 +55,7 @@ impl Trail {
         ensures { IfOk result (λ t. t ≡ record { vars = vars; entries = [] }) }
     {
         Ok(Trail {
-            entries: Vec::new(alloc),
+            entries: Vec::with_capacity(alloc, vars as usize)?,
             values: vec![in alloc; None; vars as usize]?,
         })
     }
@@ -71,8 +71,8 @@ impl Trail {
     /// The literal at a place, counted from 0 with the oldest first.
     pub fn at(&self, i: usize) -> Lit
         requires { i < length self.now.entries }
-        ensures some { 0 < result.var }
-        ensures within { result.var ≤ self.now.vars }
+        ensures value { let known = literals_of self.now.entries in oldest (i + 1) known ≡ result ∷ oldest i known }
+        ensures range { in_range self.now.vars result ≡ true }
     {
         self.entries[i].lit
     }
@@ -121,14 +121,13 @@ impl Trail {
     }
 
     /// Makes a literal true that is neither true nor false.
-    pub fn push(&mut self, entry: Entry) -> Result<(), NoMemory>
+    pub fn push(&mut self, entry: Entry)
         requires range { in_range self.old.vars entry.lit ≡ true }
         requires unset { standing (literals_of self.old.entries) entry.lit ≡ None }
-        ensures { OnOk result (self.new ≡ record { vars = self.old.vars; entries = entry ∷ self.old.entries }) }
+        ensures { self.new ≡ record { vars = self.old.vars; entries = entry ∷ self.old.entries } }
     {
-        self.entries.push(entry)?;
+        self.entries.push_reserved(entry);
         self.values[entry.lit.var as usize - 1] = Some(entry.lit.positive);
-        Ok(())
     }
 
     /// Takes the newest entry away.

@@ -20,7 +20,6 @@ use std::test::Fail;
 fn answer(alloc: Global, lits: &[Lit], hints: &[u32]) -> Result<StepAnswer, NoMemory>
     requires distinct { has_no_variable_twice lits.now ≡ true }
     requires covered { list_all (in_range 2) lits.now ≡ true }
-    requires few { length hints.now ≤ 2147483647 }
     requires named { All (λ h. (0 < h) × (h ≤ 4)) hints.now }
 {
     let known = all_signs(alloc)?;

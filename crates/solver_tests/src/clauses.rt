@@ -55,7 +55,11 @@ fn clauses_hold_and_logs_refute(rt: HostRuntime) -> Result<(), Fail> {
     let mut clauses = Clauses::with_capacity(alloc, 1)?;
     clauses.push(clause)?;
     let formula = Formula { vars: 2, clauses };
-    assert_eq!(rt; formula.copy()?.clauses.len(), 1);
+    assert!(rt; formula.same(&formula.copy()?), "a copy is the same");
+    assert!(rt; Formula::new(1, formula.clauses.copy()?).is_none(), "variable 2 is out of range");
+    assert!(rt; Formula::new(2, formula.clauses.copy()?).is_some(), "both are in range");
+    let items = formula.clauses.into_vec();
+    assert_eq!(rt; items[0].greatest(), 2);
 
     let mut steps = Steps::new(alloc);
     let log = Log {

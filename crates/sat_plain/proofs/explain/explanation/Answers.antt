@@ -1,6 +1,6 @@
 use Rattle.std.proofs.Common.{◌∙◌, reverse, ap}
 use Rattle.clause_base.specs.Literals.{has_no_variable_twice}
-use Rattle.sat_plain.specs.Trails.{known_of}
+use Rattle.clause_base.specs.Logs.{known_of}
 use Rattle.sat_plain.proofs.Logged.{explains}
 use Rattle.sat_plain.proofs.Ordered.{decided_distinct}
 use Rattle.sat_plain.proofs.explain.explanation.Goals as goal

@@ -4,7 +4,7 @@ use Rattle.std.proofs.Math.Seq.{take-length}
 use Rattle.std.proofs.lemmas.List.{reverse-append}
 use Rattle.clause_base.specs.declared.clause.Clause.{Clause}
 use Rattle.sat_plain.specs.declared.trail.Entry.{Entry}
-use Rattle.sat_plain.specs.Trails.{known_of}
+use Rattle.clause_base.specs.Logs.{known_of}
 use Rattle.sat_plain.proofs.Covered.{covered_at}
 use Rattle.sat_plain.proofs.Explaining.{IsWalk, older_read, walk_end, walk_hint, walk_skip, walk_start, wanted_at}
 use Rattle.sat_plain.proofs.Ordered.{entry_range}

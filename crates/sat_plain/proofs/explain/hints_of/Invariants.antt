@@ -1,5 +1,5 @@
 use Rattle.std.proofs.Common.{reverse, take}
-use Rattle.sat_plain.specs.Trails.{known_of}
+use Rattle.clause_base.specs.Logs.{known_of}
 use Rattle.sat_plain.proofs.Explaining.{IsWalk}
 use Rattle.sat_plain.proofs.explain.hints_of.Given as goal
 

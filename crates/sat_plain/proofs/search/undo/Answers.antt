@@ -1,17 +1,18 @@
-use Rattle.std.proofs.Common.{◌≡◌, ◌∙◌, sym, ap, subst, not, true}
+use Rattle.std.proofs.Common.{◌≡◌, ◌∙◌, ap, not, true}
 use Rattle.std.specs.Option.{is_some}
-use Rattle.sat_plain.specs.Trails.{IsTrail, decided}
-use Rattle.sat_plain.proofs.Ordered.{decided_implied}
+use Rattle.sat_plain.proofs.Undoing.{popped_more, popped_none, popped_start, undone}
 use Rattle.sat_plain.proofs.search.undo.Goals as goal
 
-pub returns-then-is_none-clause-trail : goal.returns-then-is_none-clause-trail
-returns-then-is_none-clause-trail c known h = (subst (IsTrail known) c.in-Some.ensures.entry (c.loop-entry.invariant.trail known h)).1
+pub loop-entry-init : goal.loop-entry-init
+loop-entry-init c = popped_start c.args.trail.now
 
 pub loop-entry-preserved : goal.loop-entry-preserved
 loop-entry-preserved c =
     let some : is_some c.in-Some.entry.reason ≡ true = c.is_none.ensures ∙ ap not c.if-is_none.false in
-    record {
-      vars = c.in-Some.ensures.vars ∙ c.loop-entry.invariant.vars;
-      decisions = sym (decided_implied c.in-Some.entry c.pop.new.self.entries some) ∙ sym (ap decided c.in-Some.ensures.entry) ∙ c.loop-entry.invariant.decisions;
-      trail = λ known h. (subst (IsTrail known) c.in-Some.ensures.entry (c.loop-entry.invariant.trail known h)).1;
-    }
+    popped_more c.args.trail.now c.loop-entry.trail c.pop.new.self c.in-Some.entry c.loop-entry.invariant c.in-Some.ensures.vars c.in-Some.ensures.entry some
+
+pub returns-then-is_none : goal.returns-then-is_none
+returns-then-is_none c = undone c.args.trail.now c.loop-entry.trail c.pop.new.self c.in-Some.entry c.loop-entry.invariant c.in-Some.ensures.vars c.in-Some.ensures.entry (c.is_none.ensures ∙ ap not c.if-is_none.true) c.in-Some.ensures.range c.in-Some.ensures.unset
+
+pub returns : goal.returns
+returns c = popped_none c.args.trail.now c.loop-entry.trail c.loop-entry.invariant c.in_default.ensures.entry

@@ -1,25 +1,29 @@
-use Rattle.std.proofs.Common.{length, ◌<◌, ◌≤◌, arith, ap}
+use Rattle.std.proofs.Common.{◌≡◌, ◌∙◌, ap, length, ◌<◌, ◌+◌, arith, reverse, subst, sym, true, ◌∷◌}
 use Rattle.std.proofs.lemmas.List.{length-reverse}
-use Rattle.clause_base.specs.declared.lit.Lit.{Lit}
-use Rattle.sat_plain.specs.Trails.{Path}
-use Rattle.sat_plain.proofs.Ordered.{ordered_read, range_parts}
+use Rattle.clause_base.specs.Formulas.{in_range}
+use Rattle.sat_plain.specs.declared.trail.Entry.{Entry}
+use Rattle.sat_plain.specs.Trails.{Path, literals_of, oldest}
+use Rattle.sat_plain.proofs.Ordered.{ordered_read}
+use Rattle.sat_plain.proofs.Watching.{oldest_read}
 use Rattle.sat_plain.proofs.trail.Trail.at.Goals as goal
 
-in_range_here : (c : goal.After-result-1) → (0 < c.index.result.now.lit.var) × (c.index.result.now.lit.var ≤ c.args.self.now.vars)
-in_range_here c =
+inside : (c : goal.After-result-1) → c.args.i < length c.self.inside.entries.items
+inside c =
     let same = ap (λ (p : Path). length p.entries) c.self.view_is in
-    let vars = ap (λ (p : Path). p.vars) c.self.view_is in
     let long = length-reverse c.self.inside.entries.items in
-    let within : c.args.i < length c.self.inside.entries.items = omega arith in
-    let read = ordered_read (length c.self.inside.values.items) c.self.inside.entries.items c.args.i c.index.result.now c.self.invariant.ordered within in
-    let lit : Lit = c.index.result.now.lit in
-    let range = range_parts (length c.self.inside.values.items) lit (rw c.index.ensures read) in
-    let some : 0 < lit.var = range.0 in
-    let most : lit.var ≤ length c.self.inside.values.items = range.1 in
-    (some, omega arith)
+    omega arith
 
-pub returns-clause-some : goal.returns-clause-some
-returns-clause-some c = (in_range_here c).0
+pub returns-clause-value : goal.returns-clause-value
+returns-clause-value c =
+    let items = c.self.inside.entries.items in
+    let i = c.args.i in
+    let e : Entry = c.index.result.now in
+    subst (λ (p : Path). oldest (i + 1) (literals_of p.entries) ≡ e.lit ∷ oldest i (literals_of p.entries)) c.self.view_is
+    (oldest_read items i e (inside c) ∙ ap (λ (x : Entry). x.lit ∷ oldest i (literals_of (reverse items))) (sym c.index.ensures))
 
-pub returns-clause-within : goal.returns-clause-within
-returns-clause-within c = (in_range_here c).1
+pub returns-clause-range : goal.returns-clause-range
+returns-clause-range c =
+    let vars = length c.self.inside.values.items in
+    let e : Entry = c.index.result.now in
+    subst (λ (p : Path). in_range p.vars e.lit ≡ true) c.self.view_is
+    (ap (λ (x : Entry). in_range vars x.lit) c.index.ensures ∙ ordered_read vars c.self.inside.entries.items c.args.i e c.self.invariant.0.ordered (inside c))
