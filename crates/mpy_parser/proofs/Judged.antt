@@ -1,7 +1,6 @@
 -- Each text spells a program within the limits or is refused, as one step after another finds.
-use Rattle.std.proofs.Common.{◌≡◌, ℕ, Bool, true, false, nat_lt, length, if◌then◌else◌, ◌⊎◌, inl, inr, List, [], ◌∷◌, Option, Some, None, option_map, Result, Ok, Err, IfSome, refl, ap, sym, ◌∙◌, subst}
+use Rattle.std.proofs.Common.{◌≡◌, ℕ, Bool, true, false, nat_lt, length, if◌then◌else◌, ◌⊎◌, inl, inr, List, [], ◌∷◌, Option, Some, None, option_map, Result, Ok, Err, IfSome, refl, ap, sym, ◌∙◌}
 use Rattle.std.specs.Option.{option_or}
-use Rattle.mpy_tree.specs.declared.refusal.Cause.{Cause}
 use Rattle.mpy_tree.specs.declared.refusal.Cause.TheVariants as cause
 use Rattle.mpy_tree.specs.Syntax.{Routine}
 use Rattle.mpy_lexer.specs.declared.forms.Form.TheVariants.{Program}
@@ -19,7 +18,7 @@ use Rattle.mpy_parser.specs.Items.{LineItem}
 use Rattle.mpy_parser.specs.ItemReading.{item_at}
 use Rattle.mpy_parser.specs.Nesting.{ItemLine, item_line}
 use Rattle.mpy_parser.specs.Faults.{indent_fault, block_fault}
-use Rattle.mpy_parser.specs.Programs.{IsItem, AreItems, IsFirstUnspelled, HasNoLongLine, Reads, IsProgram, IsRefused, by_lexing, by_columns, by_blocks, by_limits, lexing_cause}
+use Rattle.mpy_parser.specs.Programs.{IsItem, AreItems, IsFirstUnspelled, HasNoLongLine, Reads, by_lexing, by_columns, by_blocks, by_limits, lexing_cause}
 use Rattle.mpy_parser.specs.ProgramLaws.{IsJudged}
 use Rattle.mpy_parser.proofs.LinesSpelled.{spelled_by, not_spelled_by}
 use Rattle.mpy_parser.proofs.Fine.{fine_lines, same_indents}
