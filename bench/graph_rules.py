@@ -8,9 +8,9 @@ NO, YES = (0, False), (0, True)
 
 
 class Graph:
-    def __init__(self, parts=True, shorten=True, choices=True):
+    def __init__(self, parts=True, shorten=True, choices=True, positive=False):
         self.gates, self.numbers, self.variables = [], {}, 0
-        self.use_parts, self.use_shorten, self.use_choices = parts, shorten, choices
+        self.use_parts, self.use_shorten, self.use_choices, self.positive = parts, shorten, choices, positive
 
     def variable(self):
         self.variables += 1
@@ -102,6 +102,9 @@ class Graph:
         return None if both is None or neither is None else self.find(flip(both), flip(neither))
 
     def xor(self, a, b):
+        if self.positive:
+            bit = self.land(flip(self.land((a[0], True), (b[0], True))), self.lor((a[0], True), (b[0], True)))
+            return bit if a[1] == b[1] else flip(bit)
         if self.use_choices:
             for second, turned in ((True, False), (False, True)):
                 bit = self.find_xor((a[0], True), (b[0], second))
@@ -271,7 +274,25 @@ def measure(call, width, free, constant, **rules):
 
 
 CELLS = ((4, 4, -1), (8, 8, -1), (16, 16, -1), (16, 4, -1), (16, 16, 3))
-RULES = {"all rules": {}, "without the rules of choices": {"choices": False}, "without the replaced part": {"shorten": False}, "without parts": {"parts": False, "shorten": False}}
+RULES = {"all rules": {}, "exclusive ors of positive bits": {"positive": True}, "without the rules of choices": {"choices": False}, "without the replaced part": {"shorten": False}, "without parts": {"parts": False, "shorten": False}}
+
+
+def rows(**rules):
+    """Gates of five choices that leave 8 bits alone, and of `equal` after `sub` and `sub` after `equal` on 8 bits."""
+    g = Graph(**rules)
+    local = [g.variable() for _ in range(8)]
+    for _ in range(5):
+        test = g.variable()
+        local = [g.choose(test, x, x) for x in local]
+    counts = [len(g.gates)]
+    for calls in (("sub", "equal"), ("equal", "sub")):
+        g = Graph(**rules)
+        a, b = ([g.variable() for _ in range(8)] for _ in range(2))
+        for call in calls:
+            before = len(g.gates)
+            CALLS[call](g, a, b)
+        counts.append(len(g.gates) - before)
+    return counts
 
 
 def main():
@@ -279,6 +300,7 @@ def main():
         print(title)
         for call in CALLS:
             print("| " + " | ".join([call] + ["%d (%d)" % measure(call, *cell, **rules) for cell in CELLS]) + " |")
+        print("five choices, equal after sub, sub after equal:", *rows(**rules))
 
 
 main()
