@@ -8,9 +8,9 @@ NO, YES = (0, False), (0, True)
 
 
 class Graph:
-    def __init__(self, parts=True, shorten=True):
+    def __init__(self, parts=True, shorten=True, choices=True, positive=False):
         self.gates, self.numbers, self.variables = [], {}, 0
-        self.use_parts, self.use_shorten = parts, shorten
+        self.use_parts, self.use_shorten, self.use_choices, self.positive = parts, shorten, choices, positive
 
     def variable(self):
         self.variables += 1
@@ -52,16 +52,25 @@ class Graph:
             return left
         return b
 
-    def land(self, a, b):
+    def reduced(self, a, b):
+        """The bit that two bits both are, or none and the parts of the gate that it needs."""
         bit = self.simplify(a, b)
         if bit is not None:
-            return bit
+            return bit, None
         right = self.shorten(a, b)
         left = self.shorten(right, a)
-        bit = self.simplify(left, right)
+        return self.simplify(left, right), tuple(sorted((left, right)))
+
+    def find(self, a, b):
+        bit, gate = self.reduced(a, b)
+        if bit is None and gate in self.numbers:
+            return (self.numbers[gate], True)
+        return bit
+
+    def land(self, a, b):
+        bit, gate = self.reduced(a, b)
         if bit is not None:
             return bit
-        gate = tuple(sorted((left, right)))
         if gate not in self.numbers:
             self.gates.append(gate)
             self.numbers[gate] = len(self.gates)
@@ -71,14 +80,41 @@ class Graph:
         return flip(self.land(flip(a), flip(b)))
 
     def choose(self, c, yes, no):
+        if self.use_choices:
+            if not c[1]:
+                c, yes, no = flip(c), no, yes
+            if c[0] == 0:
+                return yes
+            if yes == no:
+                return yes
+            if yes == flip(no):
+                return flip(self.xor(c, yes))
+            for arm, other, sign in ((yes, no, True), (no, yes, False)):
+                if arm[0] in (0, c[0]):
+                    value = arm[1] if arm[0] == 0 else arm[1] == sign
+                    test = (c[0], c[1] == sign)
+                    return self.lor(test, other) if value else self.land(flip(test), other)
         return self.lor(self.land(c, yes), self.land(flip(c), no))
+
+    def find_xor(self, a, b):
+        both = self.find(a, b)
+        neither = self.find(flip(a), flip(b))
+        return None if both is None or neither is None else self.find(flip(both), flip(neither))
+
+    def xor(self, a, b):
+        if self.positive:
+            bit = self.land(flip(self.land((a[0], True), (b[0], True))), self.lor((a[0], True), (b[0], True)))
+            return bit if a[1] == b[1] else flip(bit)
+        if self.use_choices:
+            for second, turned in ((True, False), (False, True)):
+                bit = self.find_xor((a[0], True), (b[0], second))
+                if bit is not None:
+                    return bit if (a[1] != b[1]) == turned else flip(bit)
+        return self.land(flip(self.land(a, b)), self.lor(a, b))
 
     def half(self, a, b):
         both = self.land(a, b)
-        return both, self.land(flip(both), self.lor(a, b))
-
-    def xor(self, a, b):
-        return self.half(a, b)[1]
+        return both, self.xor(a, b)
 
     def full(self, a, b, c):
         both, one = self.half(a, b)
@@ -238,7 +274,25 @@ def measure(call, width, free, constant, **rules):
 
 
 CELLS = ((4, 4, -1), (8, 8, -1), (16, 16, -1), (16, 4, -1), (16, 16, 3))
-RULES = {"all rules": {}, "without the replaced part": {"shorten": False}, "without parts": {"parts": False, "shorten": False}}
+RULES = {"all rules": {}, "exclusive ors of positive bits": {"positive": True}, "without the rules of choices": {"choices": False}, "without the replaced part": {"shorten": False}, "without parts": {"parts": False, "shorten": False}}
+
+
+def rows(**rules):
+    """Gates of five choices that leave 8 bits alone, and of `equal` after `sub` and `sub` after `equal` on 8 bits."""
+    g = Graph(**rules)
+    local = [g.variable() for _ in range(8)]
+    for _ in range(5):
+        test = g.variable()
+        local = [g.choose(test, x, x) for x in local]
+    counts = [len(g.gates)]
+    for calls in (("sub", "equal"), ("equal", "sub")):
+        g = Graph(**rules)
+        a, b = ([g.variable() for _ in range(8)] for _ in range(2))
+        for call in calls:
+            before = len(g.gates)
+            CALLS[call](g, a, b)
+        counts.append(len(g.gates) - before)
+    return counts
 
 
 def main():
@@ -246,6 +300,7 @@ def main():
         print(title)
         for call in CALLS:
             print("| " + " | ".join([call] + ["%d (%d)" % measure(call, *cell, **rules) for cell in CELLS]) + " |")
+        print("five choices, equal after sub, sub after equal:", *rows(**rules))
 
 
 main()

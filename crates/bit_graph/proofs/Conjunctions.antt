@@ -1,8 +1,11 @@
 -- What two bits both are.
-use Rattle.std.proofs.Common.{◌≡◌, ℕ, Bool, true, false, not, ◌&&◌, Option, Some, None, length, refl, sym, ap, ◌∙◌}
-use Rattle.std.specs.Prelude.{IfSome}
+use Rattle.std.proofs.Common.{◌≡◌, Bool, true, false, not, ◌&&◌, Option, Some, None, ℕ, length, refl, sym, ap, ◌∙◌, subst}
 use Rattle.bit_graph.specs.declared.gate.GraphBit.{GraphBit}
-use Rattle.bit_graph.specs.Gates.{Gates, IsBelow, Owns, source_of}
+use Rattle.std.specs.Prelude.{IfSome, if◌then◌else◌}
+use Rattle.bit_words.specs.Bits.{differ}
+use Rattle.bit_graph.specs.declared.gate.Gate.{Gate}
+use Rattle.bit_graph.specs.Gates.{Gates, IsBelow, Owns, source_of, is_positive_bit, opposite_bit, parts_of}
+use Rattle.bit_graph.specs.Rules.{AreNever, IsShortened}
 
 pub and_turned : (a b : Bool) → (a && b) ≡ (b && a)
 and_turned true true = refl
@@ -27,3 +30,68 @@ pub owned_if : (g : Gates) (a b : GraphBit) (o : Option GraphBit) → IfSome o (
     → Owns g a → Owns g b → IfSome o (λ r. Owns g r)
 owned_if g a b None h p q = h
 owned_if g a b (Some r) h p q = record { below = h g.variables (length g.gates) p.below q.below }
+
+-- an exclusive or by three conjunctions, and a choice
+pub xor_is : (a b : Bool) → (not (a && b) && not (not a && not b)) ≡ differ a b
+xor_is true true = refl
+xor_is true false = refl
+xor_is false true = refl
+xor_is false false = refl
+
+pub join_is : (c a b : Bool) → not (not (c && a) && not (not c && b)) ≡ (if c then a else b)
+join_is true true b = refl
+join_is true false b = refl
+join_is false a true = refl
+join_is false a false = refl
+
+-- a negated bit has the negated exclusive or
+pub differ_second : (a b : Bool) → not (differ a (not b)) ≡ differ a b
+differ_second true true = refl
+differ_second true false = refl
+differ_second false true = refl
+differ_second false false = refl
+
+pub alike_is : (c a : Bool) → not (differ c a) ≡ (if c then a else not a)
+alike_is true true = refl
+alike_is true false = refl
+alike_is false a = refl
+
+-- an arm that is known where it is chosen
+pub settled_first : (c a r b : Bool) → (c ≡ true → a ≡ r) → (if c then r else b) ≡ (if c then a else b)
+settled_first true a r b h = sym (h refl)
+settled_first false a r b h = refl
+
+pub settled_second : (c a b r : Bool) → (not c ≡ true → b ≡ r) → (if not c then r else a) ≡ (if c then a else b)
+settled_second true a b r h = refl
+settled_second false a b r h = sym (h refl)
+
+module _ (g : Gates) (a b l r : GraphBit) (x : Gate) (negative : is_positive_bit b ≡ false) (at : parts_of g b ≡ Some x) (left : l ≡ opposite_bit x.left) (right : r ≡ opposite_bit x.right) where
+  same_parts : (y : Gate) → parts_of g b ≡ Some y → x ≡ y
+  same_parts y e = cc
+
+  pub shortened_right : AreNever g a l → IsShortened g a b r
+  shortened_right n = record {
+    positive = λ e. cc;
+    no_gate = λ e. cc;
+    right = λ y d e m. right ∙ ap (λ (z : Gate). opposite_bit z.right) (same_parts y e);
+    left = λ y d e m o. absurd (m (subst (AreNever g a) (left ∙ ap (λ (z : Gate). opposite_bit z.left) (same_parts y e)) n));
+    whole = λ y d e m o. absurd (m (subst (AreNever g a) (left ∙ ap (λ (z : Gate). opposite_bit z.left) (same_parts y e)) n));
+  }
+
+  pub shortened_left : (AreNever g a l → ⊥) → AreNever g a r → IsShortened g a b l
+  shortened_left n k = record {
+    positive = λ e. cc;
+    no_gate = λ e. cc;
+    right = λ y d e m. absurd (n (subst (AreNever g a) (sym (left ∙ ap (λ (z : Gate). opposite_bit z.left) (same_parts y e))) m));
+    left = λ y d e m o. left ∙ ap (λ (z : Gate). opposite_bit z.left) (same_parts y e);
+    whole = λ y d e m o. absurd (o (subst (AreNever g a) (right ∙ ap (λ (z : Gate). opposite_bit z.right) (same_parts y e)) k));
+  }
+
+  pub shortened_whole : (AreNever g a l → ⊥) → (AreNever g a r → ⊥) → IsShortened g a b b
+  shortened_whole n k = record {
+    positive = λ e. refl;
+    no_gate = λ e. refl;
+    right = λ y d e m. absurd (n (subst (AreNever g a) (sym (left ∙ ap (λ (z : Gate). opposite_bit z.left) (same_parts y e))) m));
+    left = λ y d e m o. absurd (k (subst (AreNever g a) (sym (right ∙ ap (λ (z : Gate). opposite_bit z.right) (same_parts y e))) o));
+    whole = λ y d e m o. refl;
+  }

@@ -1,10 +1,10 @@
 //! The bits of a graph and its gates.
 
-ghost use Rattle.std.specs.Prelude.{◌≡◌, ◌⊎◌, Bool, List, IsTrue, not};
-ghost use Rattle.bit_graph.specs.Gates.{bit_reads, is_positive_bit, source_of};
+ghost use Rattle.std.specs.Prelude.{◌≡◌, IsTrue, ◌↔◌};
+ghost use Rattle.bit_graph.specs.Gates.{Precedes, is_positive_bit, source_of};
 
 /// Where a bit comes from.
-#[derive(Clone, Copy, PartialEq, Eq, PartialOrd, Ord, Hash)]
+#[derive(Clone, Copy, PartialEq, Eq, Hash)]
 pub enum Source {
     /// The constant that is true.
     Constant,
@@ -26,6 +26,29 @@ pub struct GraphBit {
 pub struct Gate {
     pub left: GraphBit,
     pub right: GraphBit,
+}
+
+/// A conjunction of two bits: a bit that is there, or a gate that can be made.
+#[derive(Clone, Copy)]
+pub(crate) enum Reduced {
+    Bit(GraphBit),
+    New(Gate),
+}
+
+impl Source {
+    /// Whether one source comes before another: the constant, then the variables, then the gates.
+    pub(crate) fn precedes(self, other: Source) -> bool
+        ensures { IsTrue result ↔ Precedes self other }
+    {
+        match (self, other) {
+            (_, Source::Constant) => false,
+            (Source::Constant, _) => true,
+            (Source::Variable(i), Source::Variable(j)) => i < j,
+            (Source::Variable(_), Source::Made(_)) => true,
+            (Source::Made(_), Source::Variable(_)) => false,
+            (Source::Made(i), Source::Made(j)) => i < j,
+        }
+    }
 }
 
 impl GraphBit {

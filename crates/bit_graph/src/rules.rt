@@ -1,8 +1,8 @@
 //! Rules that look at the parts of a gate.
 
 ghost use Rattle.std.specs.Prelude.{◌≡◌, ◌≢◌, ℕ, Bool, List, false, not, ◌&&◌, IfSome, IfNone, IsTrue, ◌↔◌};
-ghost use Rattle.bit_graph.specs.Gates.{bit_reads, gate_reads, is_positive_bit, source_of, source_reads, IsBelow, IsGateAt};
-ghost use Rattle.bit_graph.specs.Rules.{AreOpposite, AreSame, Contradicts, Exclude, HasPart};
+ghost use Rattle.bit_graph.specs.Gates.{bit_reads, gate_reads, is_positive_bit, source_of, source_reads, IsBelow, IsGateAt, Precedes, gate_of};
+ghost use Rattle.bit_graph.specs.Rules.{AreOpposite, AreSame, Contradicts, Exclude, HasPart, IsFalse, IsOpenBy};
 
 use crate::gate::{Gate, GraphBit, Source};
 
@@ -15,6 +15,14 @@ pub fn never() -> GraphBit
         source: Source::Constant,
         positive: false,
     }
+}
+
+/// Whether a bit is the constant that is never true.
+pub fn is_false(a: GraphBit) -> bool
+    ensures exact { IsTrue result ↔ IsFalse a }
+    ensures value { IsTrue result → (vs made : List Bool) → bit_reads vs made a ≡ false }
+{
+    a.source == Source::Constant && !a.positive
 }
 
 /// Whether two bits are one.
@@ -61,8 +69,7 @@ pub fn exclude(x: Gate, y: Gate) -> bool
 pub fn fold_by_parts(a: GraphBit, x: Gate, b: GraphBit) -> Option<GraphBit>
     ensures value { IfSome result (λ r. (vs made : List Bool) → source_reads vs made (source_of a) ≡ gate_reads vs made x → bit_reads vs made r ≡ (bit_reads vs made a && bit_reads vs made b)) }
     ensures below { IfSome result (λ r. (variables made : ℕ) → IsBelow variables made (source_of a) → IsBelow variables made (source_of b) → IsBelow variables made (source_of r)) }
-    ensures apart { IfNone result (Contradicts x b → ⊥) }
-    ensures no_part { IfNone result (IsTrue (is_positive_bit a) → HasPart x b → ⊥) }
+    ensures open { IfNone result (IsOpenBy a x b) }
 {
     if contradicts(x, b) {
         return Some(if a.positive { never() } else { b });
@@ -77,8 +84,7 @@ pub fn fold_by_parts(a: GraphBit, x: Gate, b: GraphBit) -> Option<GraphBit>
 pub fn fold_by_both(a: GraphBit, x: Gate, b: GraphBit, y: Gate) -> Option<GraphBit>
     ensures value { IfSome result (λ r. (vs made : List Bool) → source_reads vs made (source_of a) ≡ gate_reads vs made x → source_reads vs made (source_of b) ≡ gate_reads vs made y → bit_reads vs made r ≡ (bit_reads vs made a && bit_reads vs made b)) }
     ensures below { IfSome result (λ r. (variables made : ℕ) → IsBelow variables made (source_of a) → IsBelow variables made (source_of b) → IsBelow variables made (source_of r)) }
-    ensures left_open { IfNone result (Exclude x y → is_positive_bit a ≡ false) }
-    ensures right_open { IfNone result (Exclude x y → is_positive_bit b ≡ false) }
+    ensures open { IfNone result (Exclude x y → (is_positive_bit a ≡ false) × (is_positive_bit b ≡ false)) }
 {
     if !exclude(x, y) {
         return None;
@@ -97,10 +103,14 @@ pub fn fold_by_both(a: GraphBit, x: Gate, b: GraphBit, y: Gate) -> Option<GraphB
 
 /// The gate of two bits, the lower source on the left.
 pub fn in_order(a: GraphBit, b: GraphBit) -> Gate
+    requires { source_of a ≢ source_of b }
+    ensures forward { Precedes (source_of a) (source_of b) → result ≡ gate_of a b }
+    ensures turned { Precedes (source_of b) (source_of a) → result ≡ gate_of b a }
+    ensures ordered { Precedes (source_of result.left) (source_of result.right) }
     ensures value { (vs made : List Bool) → gate_reads vs made result ≡ (bit_reads vs made a && bit_reads vs made b) }
-    ensures gate { (variables k : ℕ) → IsBelow variables k (source_of a) → IsBelow variables k (source_of b) → source_of a ≢ Source.Constant → source_of b ≢ Source.Constant → source_of a ≢ source_of b → IsGateAt variables k result }
+    ensures gate { (variables k : ℕ) → IsBelow variables k (source_of a) → IsBelow variables k (source_of b) → source_of a ≢ Source.Constant → source_of b ≢ Source.Constant → IsGateAt variables k result }
 {
-    if a.source < b.source {
+    if a.source.precedes(b.source) {
         Gate { left: a, right: b }
     } else {
         Gate { left: b, right: a }

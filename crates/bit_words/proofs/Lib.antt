@@ -7,4 +7,6 @@ pub mod Products
 pub mod Quotients
 pub mod Floors
 pub mod Powers
+pub mod Constants
+pub mod Decided
 mod WorkedExamples

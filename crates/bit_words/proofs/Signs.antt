@@ -3,6 +3,7 @@ use Rattle.std.proofs.Common.{◌≡◌, ℕ, zero, suc, ◌<◌, ◌≤◌, ◌
 use Rattle.std.specs.Prelude.{ℤ, pos, negsuc, ◌+ℤ◌, ◌*ℤ◌, neg_ℤ}
 use Rattle.std.specs.Int.RustNames.{unsigned_abs}
 use Rattle.std.proofs.lemmas.Int.{ints}
+use Rattle.std.proofs.lemmas.Bool.Decides.{nat_tests}
 use Rattle.bit_words.specs.Bits.{differ}
 use Rattle.bit_words.specs.Words.{bit_value, nat_of, int_of, is_within, is_negative, signed, IsUnsigned}
 use Rattle.bit_words.proofs.Naturals.{power_double}
@@ -163,3 +164,23 @@ product_signed (pos m) (pos n) = refl
 product_signed (pos m) (negsuc n) = refl
 product_signed (negsuc m) (pos n) = refl
 product_signed (negsuc m) (negsuc n) = refl
+
+wider : (p : ℕ) (z : ℤ) → is_within p z ≡ true → is_within (p + p) z ≡ true
+wider p (pos m) h = let lt : m < p = grind (arith, nat_tests) in let more : m < p + p = omega arith in grind (arith, nat_tests)
+wider p (negsuc m) h = let lt : m < p = grind (arith, nat_tests) in let more : m < p + p = omega arith in grind (arith, nat_tests)
+
+-- one bit less of a word whose number may have left its width
+pub narrow_more : (p : ℕ) (z y x : ℤ) (over left : Bool) → over ≡ not (is_within (p + p) z) → (is_within (p + p) z ≡ true → y ≡ z)
+    → left ≡ not (is_within p y) → (is_within p y ≡ true → x ≡ y)
+    → ((over || left) ≡ not (is_within p z)) × (is_within p z ≡ true → x ≡ z)
+narrow_more p z y x over left o v l w = by (is_within (p + p) z) refl (is_within p z) refl
+  where
+    by : (a : Bool) → is_within (p + p) z ≡ a → (b : Bool) → is_within p z ≡ b → ((over || left) ≡ not (is_within p z)) × (is_within p z ≡ true → x ≡ z)
+    by true e b f =
+        let same : y ≡ z = v e in
+        let out : over ≡ false = o ∙ ap not e in
+        (rw out (rw same at l), λ h. w (rw same h) ∙ same)
+    by false e true f = let more = wider p z f in cc
+    by false e false f =
+        let out : over ≡ true = o ∙ ap not e in
+        (rw (out, f) refl, λ (h : is_within p z ≡ true). cc)

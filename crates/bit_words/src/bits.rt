@@ -44,6 +44,13 @@ impl<B: Copy> Bits<B> {
         self.bits
     }
 
+    /// The bits, to be looked at.
+    pub fn as_slice(&self) -> &[B]
+        ensures { result.now ≡ self.now }
+    {
+        &self.bits
+    }
+
     /// The number of bits.
     pub fn len(&self) -> usize
         ensures { result ≡ length self.now }

@@ -5,7 +5,7 @@ ghost use Rattle.bit_words.specs.Bits.{differ};
 ghost use Rattle.bit_words.specs.Logic.{Extends, OwnsAll};
 
 use crate::NoMemory;
-use crate::gates::xor;
+use crate::bits::Bits;
 use crate::logic::Logic;
 use crate::word::Word;
 use std::alloc::Global;
@@ -59,7 +59,7 @@ pub fn flip_where<L: Logic>(
     let mut flipped = Word::new(alloc);
     for i in 0..a.len() {
         let digit = a.at(i);
-        let other = xor(g, test, digit)?;
+        let other = g.xor(test, digit)?;
         flipped.push(other)?;
     }
     Ok(flipped)
@@ -89,6 +89,34 @@ pub fn mask<L: Logic>(
     Ok(masked)
 }
 
+/// One list of bits where a bit is true, and another of its length where it isn't.
+#[tactic(auto, using(crate::proofs::Kept::steps))]
+pub fn choose_bits<L: Logic>(
+    alloc: Global,
+    g: &mut L,
+    test: L::Bit,
+    yes: &[L::Bit],
+    no: &[L::Bit],
+) -> Result<Bits<L::Bit>, NoMemory>
+    requires test { L.owns g.old test }
+    requires alike { length no.now ≡ length yes.now }
+    requires yes { OwnsAll L.owns g.old yes.now }
+    requires no { OwnsAll L.owns g.old no.now }
+    ensures extends { Extends L.owns L.reads L.count g.old g.new }
+    ensures owned { IfOk result (λ r. OwnsAll L.owns g.new r) }
+    ensures width { IfOk result (λ r. length r ≡ length yes.now) }
+    ensures value { IfOk result (λ r. (vs : List Bool) → map (L.reads g.new vs) r ≡ (if L.reads g.old vs test then map (L.reads g.old vs) yes.now else map (L.reads g.old vs) no.now)) }
+{
+    let mut chosen = Bits::new(alloc);
+    for i in 0..yes.len() {
+        let first = yes[i];
+        let second = no[i];
+        let digit = g.choose(test, first, second)?;
+        chosen.push(digit)?;
+    }
+    Ok(chosen)
+}
+
 /// One word where a bit is true, and another of its width where it isn't.
 #[tactic(auto, using(crate::proofs::Kept::steps))]
 pub fn choose_word<L: Logic>(
@@ -107,12 +135,6 @@ pub fn choose_word<L: Logic>(
     ensures width { IfOk result (λ r. length r ≡ length yes.now) }
     ensures value { IfOk result (λ r. (vs : List Bool) → map (L.reads g.new vs) r ≡ (if L.reads g.old vs test then map (L.reads g.old vs) yes.now else map (L.reads g.old vs) no.now)) }
 {
-    let mut chosen = Word::new(alloc);
-    for i in 0..yes.len() {
-        let first = yes.at(i);
-        let second = no.at(i);
-        let digit = g.choose(test, first, second)?;
-        chosen.push(digit)?;
-    }
-    Ok(chosen)
+    let chosen = choose_bits(alloc, g, test, yes.as_slice(), no.as_slice())?;
+    Ok(Word::from_vec(chosen.into_vec()))
 }

@@ -8,7 +8,7 @@ ghost use Rattle.bit_words.specs.Words.{int_read};
 ghost use Rattle.bit_words.specs.Bits.{less_by};
 
 use crate::NoMemory;
-use crate::gates::{or, xor};
+use crate::gates::or;
 use crate::logic::Logic;
 use crate::word::Word;
 use std::alloc::Global;
@@ -33,7 +33,7 @@ pub fn equal<L: Logic>(
     for i in 0..a.len() {
         let left = a.at(i);
         let right = b.at(i);
-        let other = xor(g, left, right)?;
+        let other = g.xor(left, right)?;
         let same = g.not(other);
         alike = g.and(alike, same)?;
     }
@@ -42,7 +42,7 @@ pub fn equal<L: Logic>(
 
 /// Whether one bit is true, or another one isn't and `before` is.
 #[tactic(auto, using(crate::proofs::Kept::steps))]
-fn less_digit<L: Logic>(
+pub fn less_digit<L: Logic>(
     g: &mut L,
     left: L::Bit,
     right: L::Bit,

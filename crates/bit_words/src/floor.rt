@@ -9,7 +9,6 @@ ghost use Rattle.bit_words.specs.Operations.{IsDivided, by_positive, floor_quoti
 
 use crate::NoMemory;
 use crate::bitwise::{flip_where, mask};
-use crate::gates::xor;
 use crate::logic::Logic;
 use crate::magnitude::{magnitude, negate_where, sign_of};
 use crate::narrow::narrow;
@@ -147,7 +146,7 @@ pub fn rem<L: Logic>(
 {
     let divided = divide_folded(alloc, g, a, b)?;
     let below = sign_of(g, b);
-    let turn = xor(g, divided.sign, below)?;
+    let turn = g.xor(divided.sign, below)?;
     let part = mask(alloc, g, divided.sign, b)?;
     let flipped = flip_where(alloc, g, turn, &divided.rest)?;
     let (number, _) = signed_sum(alloc, g, &part, &flipped, below)?;

@@ -23,7 +23,7 @@ pub fn or<L: Logic>(g: &mut L, a: L::Bit, b: L::Bit) -> Result<L::Bit, NoMemory>
 
 /// Whether two bits both hold, and whether one of them does and not both.
 ///
-/// The second is made of the first, so an adder's carry shares a gate with its digit.
+/// An exclusive or has the conjunction among its gates, so an adder's carry shares it with the digit.
 pub fn half_add<L: Logic>(g: &mut L, a: L::Bit, b: L::Bit) -> Result<(L::Bit, L::Bit), NoMemory>
     requires left { L.owns g.old a }
     requires right { L.owns g.old b }
@@ -34,22 +34,8 @@ pub fn half_add<L: Logic>(g: &mut L, a: L::Bit, b: L::Bit) -> Result<(L::Bit, L:
     ensures one { IfOk result (λ r. (vs : List Bool) → L.reads g.new vs r.1 ≡ differ (L.reads g.old vs a) (L.reads g.old vs b)) }
 {
     let both = g.and(a, b)?;
-    let either = or(g, a, b)?;
-    let not_both = g.not(both);
-    let one = g.and(not_both, either)?;
+    let one = g.xor(a, b)?;
     Ok((both, one))
-}
-
-/// One of two bits and not both.
-pub fn xor<L: Logic>(g: &mut L, a: L::Bit, b: L::Bit) -> Result<L::Bit, NoMemory>
-    requires left { L.owns g.old a }
-    requires right { L.owns g.old b }
-    ensures extends { Extends L.owns L.reads L.count g.old g.new }
-    ensures owned { IfOk result (λ r. L.owns g.new r) }
-    ensures value { IfOk result (λ r. (vs : List Bool) → L.reads g.new vs r ≡ differ (L.reads g.old vs a) (L.reads g.old vs b)) }
-{
-    let (_, one) = half_add(g, a, b)?;
-    Ok(one)
 }
 
 /// The sum of three bits, and what is carried.
@@ -69,7 +55,7 @@ pub fn full_add<L: Logic>(
     ensures carried { IfOk result (λ r. (vs : List Bool) → L.reads g.new vs r.1 ≡ most_of (L.reads g.old vs a) (L.reads g.old vs b) (L.reads g.old vs c)) }
 {
     let (both, one) = half_add(g, a, b)?;
-    let sum = xor(g, one, c)?;
+    let sum = g.xor(one, c)?;
     let carry = g.choose(one, c, both)?;
     Ok((sum, carry))
 }

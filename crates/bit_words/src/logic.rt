@@ -1,6 +1,7 @@
 //! What a logic owes to whoever builds bits over it.
 
-ghost use Rattle.std.specs.Prelude.{◌≡◌, ◌+◌, ℕ, Bool, false, List, not, ◌&&◌, if◌then◌else◌, OnOk, IfOk, IfSome, OnErr, slice_index_or};
+ghost use Rattle.std.specs.Prelude.{◌≡◌, ◌+◌, ℕ, Bool, false, List, not, ◌&&◌, if◌then◌else◌, OnOk, IfOk, IfSome, IsTrue, OnErr, slice_index_or};
+ghost use Rattle.bit_words.specs.Bits.{differ};
 ghost use Rattle.bit_words.specs.Logic.{Extends, Keeps};
 
 use crate::NoMemory;
@@ -55,6 +56,34 @@ pub trait Logic {
         let not_second = self.not(second);
         let neither = self.and(not_first, not_second)?;
         Ok(self.not(neither))
+    }
+
+    /// One of two bits and not both.
+    fn xor(&mut self, a: Self::Bit, b: Self::Bit) -> Result<Self::Bit, NoMemory>
+        requires left { owns self.old a }
+        requires right { owns self.old b }
+        ensures extends { Extends owns reads count self.old self.new }
+        ensures owned { IfOk result (λ r. owns self.new r) }
+        ensures value { IfOk result (λ r. (vs : List Bool) → reads self.new vs r ≡ differ (reads self.old vs a) (reads self.old vs b)) }
+    {
+        let both = self.and(a, b)?;
+        let not_a = self.not(a);
+        let not_b = self.not(b);
+        let neither = self.and(not_a, not_b)?;
+        let not_both = self.not(both);
+        let either = self.not(neither);
+        self.and(not_both, either)
+    }
+
+    /// Whether two bits are one, where the logic can tell: then they read alike under all truth
+    /// values, so a join of them needs none of its own.
+    fn same(&self, a: Self::Bit, b: Self::Bit) -> bool
+        requires left { owns self.now a }
+        requires right { owns self.now b }
+        ensures { IsTrue result → (vs : List Bool) → reads self.now vs a ≡ reads self.now vs b }
+    {
+        let _ = (a, b);
+        false
     }
 
     /// What a bit reads as under all truth values, where the logic can tell.

@@ -5,7 +5,6 @@ ghost use Rattle.bit_words.specs.Logic.{Extends, OwnsAll};
 ghost use Rattle.bit_words.specs.Words.{int_read, Holds, OverflowsAs};
 
 use crate::NoMemory;
-use crate::gates::xor;
 use crate::logic::Logic;
 use crate::word::Word;
 
@@ -29,6 +28,6 @@ pub fn narrow<L: Logic>(
     let top = wide.at(width - 1);
     let sign = wide.at(width);
     let low = wide.low_bits(width)?;
-    let over = xor(g, top, sign)?;
+    let over = g.xor(top, sign)?;
     Ok((low, over))
 }

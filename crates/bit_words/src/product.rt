@@ -6,7 +6,7 @@ ghost use Rattle.bit_words.specs.Words.{bit_value, int_read, nat_read, Holds, Is
 
 use crate::NoMemory;
 use crate::bitwise::mask;
-use crate::gates::{or, xor};
+use crate::gates::or;
 use crate::logic::Logic;
 use crate::magnitude::{magnitude, sign_of, signed_result};
 use crate::sums::carry_sum;
@@ -132,7 +132,7 @@ pub fn mul<L: Logic>(
     let left = magnitude(alloc, g, a)?;
     let right = magnitude(alloc, g, b)?;
     let (size, spilled) = product(alloc, g, &left, &right)?;
-    let sign = xor(g, left_sign, right_sign)?;
+    let sign = g.xor(left_sign, right_sign)?;
     let (number, over) = signed_result(alloc, g, sign, &size, spilled)?;
     Ok((number, over))
 }

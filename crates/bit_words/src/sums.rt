@@ -7,7 +7,7 @@ ghost use Rattle.bit_words.specs.Words.{bit_value, nat_read, int_read, Holds, Ov
 
 use crate::NoMemory;
 use crate::bitwise::{flip, zeros};
-use crate::gates::{full_add, xor};
+use crate::gates::full_add;
 use crate::logic::Logic;
 use crate::word::Word;
 use std::alloc::Global;
@@ -64,7 +64,7 @@ fn top_digit<L: Logic>(
     ensures over { IfOk result (λ r. (vs : List Bool) → L.reads g.new vs r.1 ≡ differ (L.reads g.old vs carry) (most_of (L.reads g.old vs left) (L.reads g.old vs right) (L.reads g.old vs carry))) }
 {
     let (digit, out) = full_add(g, left, right, carry)?;
-    let over = xor(g, carry, out)?;
+    let over = g.xor(carry, out)?;
     Ok((digit, over))
 }
 

@@ -10,6 +10,8 @@ mod clauses;
 #[cfg(test)]
 mod graph;
 #[cfg(test)]
+mod numbers;
+#[cfg(test)]
 mod operations;
 #[cfg(test)]
 mod plain;

@@ -39,7 +39,7 @@ fn word_of<L: Logic>(
 
 /// The number that a word reads as, where its bits are known.
 #[tactic(auto, using(bit_words::proofs::Kept::steps))]
-fn number_of<L: Logic>(g: &L, word: &Word<L::Bit>) -> Option<i32>
+pub(crate) fn number_of<L: Logic>(g: &L, word: &Word<L::Bit>) -> Option<i32>
     requires { OwnsAll L.owns g.now word.now }
 {
     let width = word.len();

@@ -19,7 +19,7 @@ loop-i-preserved g c =
           let change = differ (first c.args.test) in
           let test = before.extends.same _ c.requires.test vs in
           let digit = before.extends.same _ (owns_read _ c.requires.word c.at-digit.ensures) vs in
-          push_read (reads c.loop-i.g vs) (reads c.xor.new.g vs) _ _ _ _ _ (reads_kept step before.owned vs) (before.value vs) (rw (test, digit) at (c.in_ok-other.ensures.value vs)) c.in_ok-push.ensures.ok
+          push_read (reads c.loop-i.g vs) (reads c.xor.new.self vs) _ _ _ _ _ (reads_kept step before.owned vs) (before.value vs) (rw (test, digit) at (c.in_ok-other.ensures.value vs)) c.in_ok-push.ensures.ok
           ∙ sym (map_more change first _ _ _ (take_read c.args.a.now c.loop-i.i c.at-digit.result c.at-digit.ensures));
     }
 

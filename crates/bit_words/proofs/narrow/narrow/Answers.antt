@@ -10,11 +10,11 @@ use Rattle.bit_words.proofs.narrow.narrow.Goals as goal
 
 both : (g : given.Over) (c : goal.In_ok-over g) (vs : List Bool) →
     let z = int_read g.L.Logic.reads c.args.g.now vs c.args.wide.now in
-    (g.L.Logic.reads c.xor.new.g vs c.in_ok-over.over ≡ not (is_within (2 ^ (c.args.width - 1)) z))
-    × (is_within (2 ^ (c.args.width - 1)) z ≡ true → int_read g.L.Logic.reads c.xor.new.g vs c.in_ok-low.low ≡ z)
+    (g.L.Logic.reads c.xor.new.self vs c.in_ok-over.over ≡ not (is_within (2 ^ (c.args.width - 1)) z))
+    × (is_within (2 ^ (c.args.width - 1)) z ≡ true → int_read g.L.Logic.reads c.xor.new.self vs c.in_ok-low.low ≡ z)
 both g c vs =
     let first = g.L.Logic.reads c.args.g.now vs in
-    let last = g.L.Logic.reads c.xor.new.g vs in
+    let last = g.L.Logic.reads c.xor.new.self vs in
     let wide = c.args.wide.now in
     let n = c.args.width - 1 in
     let width : c.args.width ≡ n + 1 = omega arith in

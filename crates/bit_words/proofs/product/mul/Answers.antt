@@ -10,7 +10,7 @@ use Rattle.bit_words.proofs.product.mul.Goals as goal
 
 size_is : (g : given.Over) (c : goal.After-drop-left-inside-2 g) (vs : List Bool) →
     IsUnsigned (length c.in_ok-size.size) (unsigned_abs (int_read g.L.Logic.reads c.args.g.now vs c.args.a.now) * unsigned_abs (int_read g.L.Logic.reads c.args.g.now vs c.args.b.now))
-    (nat_read g.L.Logic.reads c.xor.new.g vs c.in_ok-size.size) (g.L.Logic.reads c.xor.new.g vs c.in_ok-size.spilled)
+    (nat_read g.L.Logic.reads c.xor.new.self vs c.in_ok-size.size) (g.L.Logic.reads c.xor.new.self vs c.in_ok-size.spilled)
 size_is g c vs =
     let one = c.magnitude.ensures.extends in
     let two = c.magnitude-2.ensures.extends in
@@ -22,7 +22,7 @@ size_is g c vs =
     rw (kept, spilled, c.in_ok-size.ensures.width) (rw (left, right) at (c.in_ok-size.ensures.value vs))
 
 number_is : (g : given.Over) (c : goal.After-drop-left-inside-2 g) (vs : List Bool) →
-    signed (g.L.Logic.reads c.xor.new.g vs c.in_ok-sign.sign) (unsigned_abs (int_read g.L.Logic.reads c.args.g.now vs c.args.a.now) * unsigned_abs (int_read g.L.Logic.reads c.args.g.now vs c.args.b.now))
+    signed (g.L.Logic.reads c.xor.new.self vs c.in_ok-sign.sign) (unsigned_abs (int_read g.L.Logic.reads c.args.g.now vs c.args.a.now) * unsigned_abs (int_read g.L.Logic.reads c.args.g.now vs c.args.b.now))
     ≡ int_read g.L.Logic.reads c.args.g.now vs c.args.a.now *ℤ int_read g.L.Logic.reads c.args.g.now vs c.args.b.now
 number_is g c vs =
     let steps = extends_trans c.magnitude.ensures.extends (extends_trans c.magnitude-2.ensures.extends c.product.ensures.extends) in

@@ -1,6 +1,6 @@
 use Rattle.std.proofs.Common.{◌≡◌, Bool, List, length, map, take, cond}
 use Rattle.bit_words.specs.Logic.{Extends, OwnsAll}
-use Rattle.bit_words.proofs.bitwise.choose_word.Given as goal
+use Rattle.bit_words.proofs.bitwise.choose_bits.Given as goal
 
 abbrev pub invariant-loop-i : goal.invariant-loop-i
 invariant-loop-i g l =

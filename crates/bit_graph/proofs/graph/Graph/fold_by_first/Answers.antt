@@ -1,0 +1,5 @@
+use Rattle.bit_graph.proofs.Conjunctions.{owned_if}
+use Rattle.bit_graph.proofs.graph.Graph.fold_by_first.Goals as goal
+
+pub returns-clause-owned : goal.returns-clause-owned
+returns-clause-owned c = owned_if c.args.self.now c.args.a c.args.b c.fold_by_parts.result c.fold_by_parts.ensures.below c.requires.left c.requires.right
