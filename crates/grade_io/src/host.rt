@@ -51,12 +51,13 @@ impl<'a, R: Files> HostShelf<'a, R> {
 
 impl<R: Files> Shelf for HostShelf<'_, R> {
     ghost seen = { λ s. record {
-        holds = λ _. None;
-        calls = None;
-        faults = s.faults;
-        taken = s.taken;
-        plan = None;
-        absent = λ _. false } };
+      holds = λ _. None;
+      calls = None;
+      faults = s.faults;
+      taken = s.taken;
+      plan = None;
+      absent = λ _. false;
+    } };
 
     fn fetch(&mut self, alloc: Global, name: &str, most: u64) -> Result<Vec<u8>, FetchError> {
         let fetched = read_file(self.rt, alloc, name, most);

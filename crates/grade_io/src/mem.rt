@@ -63,8 +63,9 @@ impl MemShelf {
         // Nothing but the files changes.
         ensures rest { ⟦<MemShelf as Shelf>⟧.seen self.new
             ≡ record (⟦<MemShelf as Shelf>⟧.seen self.old) {
-                holds = (⟦<MemShelf as Shelf>⟧.seen self.new).holds;
-                absent = (⟦<MemShelf as Shelf>⟧.seen self.new).absent } }
+              holds = (⟦<MemShelf as Shelf>⟧.seen self.new).holds;
+              absent = (⟦<MemShelf as Shelf>⟧.seen self.new).absent;
+            } }
     {
         files::replace(self.alloc, &mut self.texts, name, bytes)
     }
@@ -72,12 +73,13 @@ impl MemShelf {
 
 impl Shelf for MemShelf {
     ghost seen = { λ s. record {
-        holds = λ name. Some (text_at s.texts name);
-        calls = Some (map call_of s.made.items);
-        faults = s.faults;
-        taken = s.taken;
-        plan = Some (plan_of s.plan);
-        absent = λ name. is_none (get_by_text s.texts name) } };
+      holds = λ name. Some (text_at s.texts name);
+      calls = Some (map call_of s.made.items);
+      faults = s.faults;
+      taken = s.taken;
+      plan = Some (plan_of s.plan);
+      absent = λ name. is_none (get_by_text s.texts name);
+    } };
 
     fn fetch(&mut self, alloc: Global, name: &str, most: u64) -> Result<Vec<u8>, FetchError> {
         let is_to_fail = next_fails(&mut self.plan);
@@ -151,10 +153,11 @@ impl MemSink {
 
 impl Sink for MemSink {
     ghost seen = { λ s. record {
-        written = Some s.bytes.items;
-        faults = s.faults;
-        plan = Some (plan_of s.plan);
-        share = Some (min s.most) } };
+      written = Some s.bytes.items;
+      faults = s.faults;
+      plan = Some (plan_of s.plan);
+      share = Some (min s.most);
+    } };
 
     fn put(&mut self, piece: &[u8]) -> Result<usize, PutError> {
         if piece.is_empty() {

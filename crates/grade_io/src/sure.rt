@@ -45,8 +45,10 @@ impl SureShelf {
             ≡ (⟦<SureShelf as Shelf>⟧.seen self.old).holds other) }
         // Nothing but the files changes.
         ensures rest { ⟦<SureShelf as Shelf>⟧.seen self.new
-            ≡ record (⟦<SureShelf as Shelf>⟧.seen self.old) { holds =
-                (⟦<SureShelf as Shelf>⟧.seen self.new).holds } }
+            ≡ record (⟦<SureShelf as Shelf>⟧.seen self.old) {
+              holds =
+                  (⟦<SureShelf as Shelf>⟧.seen self.new).holds;
+            } }
     {
         files::replace(self.alloc, &mut self.texts, name, bytes)
     }
@@ -54,12 +56,13 @@ impl SureShelf {
 
 impl Shelf for SureShelf {
     ghost seen = { λ s. record {
-        holds = λ name. Some (text_at s.texts name);
-        calls = None;
-        faults = 0;
-        taken = s.taken;
-        plan = None;
-        absent = λ _. false } };
+      holds = λ name. Some (text_at s.texts name);
+      calls = None;
+      faults = 0;
+      taken = s.taken;
+      plan = None;
+      absent = λ _. false;
+    } };
 
     fn fetch(&mut self, alloc: Global, name: &str, most: u64) -> Result<Vec<u8>, FetchError> {
         let Some(text) = self.texts.get(name) else {
@@ -110,10 +113,11 @@ impl SureSink {
 
 impl Sink for SureSink {
     ghost seen = { λ s. record {
-        written = Some s.bytes.items;
-        faults = 0;
-        plan = None;
-        share = Some (λ n. n) } };
+      written = Some s.bytes.items;
+      faults = 0;
+      plan = None;
+      share = Some (λ n. n);
+    } };
 
     fn put(&mut self, piece: &[u8]) -> Result<usize, PutError> {
         if piece.is_empty() {

@@ -89,11 +89,7 @@ fn read_within<F: Read>(file: &mut F, alloc: Global, most: u64) -> Result<Vec<u8
 /// # Errors
 ///
 /// `Failed` where a read failed, `Long` where the file goes on behind `most` bytes.
-pub fn read_whole<F: Read>(
-    file: &mut F,
-    alloc: Global,
-    most: u64,
-) -> Result<Vec<u8>, FetchError>
+pub fn read_whole<F: Read>(file: &mut F, alloc: Global, most: u64) -> Result<Vec<u8>, FetchError>
     requires { most ≤ 1073741824 }
     ensures short { IfOk result (λ v. vec_len v ≤ most) }
     // All that the reader had, or, exactly where that is more than `most`, one byte more than

@@ -70,7 +70,11 @@ pub(crate) fn decide(alloc: Global, sources: &Sources) -> Result<Graded, Stop>
             Err(refused(Source::Submission, Cause::TooLarge, task.submission.line))
         }
         Verdict::EmptyReference => {
-            Err(refused(Source::Reference, Cause::EmptyReference, task.reference.line))
+            Err(refused(
+                Source::Reference,
+                Cause::EmptyReference,
+                task.reference.line,
+            ))
         }
         Verdict::Answered(answer) => Ok(Graded { task, answer }),
     }

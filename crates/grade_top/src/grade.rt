@@ -109,7 +109,7 @@ pub(crate) fn grade<S: Shelf, K: Sink>(
 ) -> Status
     ensures ends { Ends (Grade (words_of request.now))
         (devices (S.seen shelf.old) (K.seen out.old))
-            (devices (S.seen shelf.new) (K.seen out.new)) result }
+        (devices (S.seen shelf.new) (K.seen out.new)) result }
     ensures calls { CallsInOrder (Grade (words_of request.now)) (S.seen shelf.old)
         (S.seen shelf.new) }
 {

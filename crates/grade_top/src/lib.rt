@@ -55,7 +55,7 @@ pub fn grade_top<S: Shelf, K: Sink>(
     // What the status means, and what stands in the output and in the files.
     ensures ends { (c : Command) → Asks (map string_bytes words.now.items) c
         → Ends c (devices (S.seen shelf.old) (K.seen out.old))
-            (devices (S.seen shelf.new) (K.seen out.new)) result }
+        (devices (S.seen shelf.new) (K.seen out.new)) result }
     // The calls of the command's words, in order, each once, up to some point.
     ensures calls { (c : Command) → Asks (map string_bytes words.now.items) c
         → CallsInOrder c (S.seen shelf.old) (S.seen shelf.new) }
@@ -70,7 +70,7 @@ pub fn grade_top<S: Shelf, K: Sink>(
         → AsksGrade (map string_bytes words.now.items) g
         → IsUnrefused (devices (S.seen shelf.old) (K.seen out.old)) g t k
         → NoFault (devices (S.seen shelf.old) (K.seen out.old))
-            (devices (S.seen shelf.new) (K.seen out.new))
+        (devices (S.seen shelf.new) (K.seen out.new))
         → IsGraded k result }
     // Where a refusal is the first, it is answered and its line written, unless a device failed or
     // memory lacked; by `ends` a refusal is answered for texts for which it is the first alone.
@@ -78,7 +78,7 @@ pub fn grade_top<S: Shelf, K: Sink>(
         → AsksGrade (map string_bytes words.now.items) g
         → Tells (S.seen shelf.old) g t → IsFirstRefusal t r
         → NoFault (devices (S.seen shelf.old) (K.seen out.old))
-            (devices (S.seen shelf.new) (K.seen out.new))
+        (devices (S.seen shelf.new) (K.seen out.new))
         → IsRefusedSo g r (K.seen out.old) (K.seen out.new) result }
 {
     match words::read_words(words) {

@@ -102,7 +102,11 @@ fn writes_one_byte_a_call(rt: HostRuntime) -> Result<(), Fail> {
             number: 0,
             fails,
         };
-        assert_eq!(rt; write_whole(&mut file, b"12345"), wanted, "with call {fails} failing");
+        assert_eq!(rt;
+            write_whole(&mut file, b"12345"),
+            wanted,
+            "with call {fails} failing"
+        );
         assert!(rt; file.bytes.as_slice() == written);
     }
     Ok(())
@@ -126,7 +130,11 @@ fn puts_one_byte_a_call(rt: HostRuntime) -> Result<(), Fail> {
             number: 0,
             fails,
         };
-        assert_eq!(rt; put_piece(&mut out, piece), wanted, "with call {fails} failing");
+        assert_eq!(rt;
+            put_piece(&mut out, piece),
+            wanted,
+            "with call {fails} failing"
+        );
     }
     Ok(())
 }

@@ -1,8 +1,8 @@
 //! Texts that are refused, by a separate model of the rules, and how far an expression reaches.
 
 use crate::programs::read;
-use mpy_lexer::{Form, lines};
 use mpy_expressions::{ExprError, read_expr};
+use mpy_lexer::{Form, lines};
 use mpy_tree::Cause;
 use std::alloc::Global;
 use std::test::Fail;

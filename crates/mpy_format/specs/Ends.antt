@@ -76,7 +76,7 @@ Ends file before after status.ReadFailed =
     Rose before.shelf.faults after.shelf.faults × EndsInSilence before after
 Ends file before after status.NoMemory =
     ReadWell before after
-        × (EndsInSilence before after ⊎ EndsBySaying file before after status.NoMemory)
+    × (EndsInSilence before after ⊎ EndsBySaying file before after status.NoMemory)
 Ends file before after s = ReadWell before after × EndsBySaying file before after s
 
 -- the file was fetched once, and no other call was made; one that found no memory may be left out

@@ -35,7 +35,7 @@ pub(crate) fn format_files<S: Shelf, K: Sink>(
 ) -> Status
     ensures ends { EndInTurn Status.Usage (map string_bytes files.now)
         (devices (S.seen shelf.old) (K.seen out.old))
-            (devices (S.seen shelf.new) (K.seen out.new)) result }
+        (devices (S.seen shelf.new) (K.seen out.new)) result }
     // No file is touched: the calls are fetches of the files, in order, each once.
     ensures files { (S.seen shelf.new).holds ≡ (S.seen shelf.old).holds }
     ensures fetched { FetchedInOrder (map string_bytes files.now) (S.seen shelf.old)

@@ -88,7 +88,7 @@ module _ (l : Limits) (c d : Calls) (calls : AlikeCalls c d) where
           then_alike _ _ _ _ (value_alike a) (λ v. then_alike _ _ _ _ (value_alike k) (λ w. on_lines (index v w) i j))
       value_alike (ast.Slice a from to) =
           then_alike _ _ _ _ (value_alike a)
-            (λ v. then_alike _ _ _ _ (maybe_alike from) (λ x. then_alike _ _ _ _ (maybe_alike to) (λ y. on_lines (slice_of v x y) i j)))
+          (λ v. then_alike _ _ _ _ (maybe_alike from) (λ x. then_alike _ _ _ _ (maybe_alike to) (λ y. on_lines (slice_of v x y) i j)))
       value_alike (ast.Call f es) =
           then_alike _ _ _ _ (values_alike es) (λ vs. called_alike (builtin_of f) f vs i j)
 

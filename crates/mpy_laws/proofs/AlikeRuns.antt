@@ -79,15 +79,15 @@ module _ (l : Limits) (c d : Calls) (calls : AlikeCalls c d) where
   set_at_alike : (x : List ℕ) (k e : Term) (s : State) (i j : ℕ) → Alike (set_at l c s i x k e) (set_at l d s j x k e)
   set_at_alike x k e s i j =
       then_alike _ _ _ _ (at_alike e s i j)
-        (λ w. then_alike _ _ _ _ (local_alike x s i j) (λ v. then_alike _ _ _ _ (at_alike k s i j) (λ n. on_lines (put v n w) i j)))
+      (λ w. then_alike _ _ _ _ (local_alike x s i j) (λ v. then_alike _ _ _ _ (at_alike k s i j) (λ n. on_lines (put v n w) i j)))
 
   set_at_by_alike : (x : List ℕ) (k : Term) (op : Value → Value → Result Value Halt) (e : Term) (s : State) (i j : ℕ) → Alike (set_at_by l c s i x k op e) (set_at_by l d s j x k op e)
   set_at_by_alike x k op e s i j =
       then_alike _ _ _ _ (local_alike x s i j)
-        (λ v. then_alike _ _ _ _ (at_alike k s i j)
-          (λ n. then_alike _ _ _ _ (on_lines (index v n) i j)
-            (λ old. then_alike _ _ _ _ (at_alike e s i j)
-              (λ w. then_alike _ _ _ _ (on_lines (op old w) i j) (λ new. on_lines (put v n new) i j)))))
+      (λ v. then_alike _ _ _ _ (at_alike k s i j)
+      (λ n. then_alike _ _ _ _ (on_lines (index v n) i j)
+      (λ old. then_alike _ _ _ _ (at_alike e s i j)
+      (λ w. then_alike _ _ _ _ (on_lines (op old w) i j) (λ new. on_lines (put v n new) i j)))))
 
   give_alike : (e : MaybeTerm) (s : State) (i j : ℕ) → AlikeRan (give l c s i e) (give l d s j e)
   give_alike no_term s i j = failed _ _ refl
@@ -114,7 +114,7 @@ module _ (l : Limits) (c d : Calls) (calls : AlikeCalls c d) where
         while_alike l.turns _ _ _ _ i j (λ t. at_alike e t i j) (λ t. block_alike body t) s
     action_alike (ast.For x e body) i j s =
         given_alike _ _ _ _ (then_alike _ _ _ _ (at_alike e s i j) (λ v. on_lines (members v) i j))
-          (λ vs. for_alike vs l.turns x _ _ i j (λ t. block_alike body t) s)
+        (λ vs. for_alike vs l.turns x _ _ i j (λ t. block_alike body t) s)
 
     arms_alike : (arms : Branches) (r q : Ran) → AlikeRan r q → (s : State) → AlikeRan (run_arms l c arms r s) (run_arms l d (arms_without_lines arms) q s)
     arms_alike no_arms r q h s = h
@@ -157,8 +157,8 @@ calls_alike : (l : Limits) (p : List Routine) (n : ℕ) → AlikeCalls (calls_be
 calls_alike l p zero f vs i j = halted _ _ refl
 calls_alike l p (suc n) f vs i j =
     subst (λ o. Alike (enter l (calls_below l p n) (found p f) vs i) (enter l (calls_below l (map without_lines p) n) o vs j))
-      (sym (found_bare p f))
-      (enter_alike l (calls_below l p n) (calls_below l (map without_lines p) n) (calls_alike l p n) (found p f) vs i j)
+    (sym (found_bare p f))
+    (enter_alike l (calls_below l p n) (calls_below l (map without_lines p) n) (calls_alike l p n) (found p f) vs i j)
 
 outcome_alike : (r q : Result Value Halted) → Alike r q → AreAlike (outcome_of r) (outcome_of q)
 outcome_alike _ _ (given v) = refl

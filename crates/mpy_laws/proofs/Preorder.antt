@@ -141,7 +141,7 @@ mutual
   arms_terms no_arms ts = refl
   arms_terms (arm_and (arm line e body) rest) ts =
       let collected : terms_in (arms_shapes (arm_and (arm line e body) rest) ts) ≡ map shape (nodes e) ++ (nodes_in (sites body) ++ (nodes_in (in_arms rest) ++ terms_in ts)) =
-        simp (flat_append terms_at, terms_of e, body_terms body, arms_terms rest ts, append-nil, append_assoc) in
+      simp (flat_append terms_at, terms_of e, body_terms body, arms_terms rest ts, append-nil, append_assoc) in
       collected ∙ sym (asked_first line e (sites body) (in_arms rest) (terms_in ts))
 
   last_terms : (last : MaybeBlock) → terms_in (last_shapes last) ≡ nodes_in (in_last last)
@@ -177,7 +177,7 @@ mutual
   arms_lines no_arms ts = refl
   arms_lines (arm_and (arm line e body) rest) ts =
       let collected : lines_in (arms_shapes (arm_and (arm line e body) rest) ts) ≡ line ∷ (map line_of (sites body) ++ (map line_of (in_arms rest) ++ lines_in ts)) =
-        simp (flat_append lines_at, lines_of e, body_lines body, arms_lines rest ts, append-nil, append_assoc) in
+      simp (flat_append lines_at, lines_of e, body_lines body, arms_lines rest ts, append-nil, append_assoc) in
       collected
       ∙ sym (ap (λ l. l ++ lines_in ts) (map-append line_of (asks line e ∷ sites body) (in_arms rest))
       ∙ append_assoc (line ∷ map line_of (sites body)) (map line_of (in_arms rest)) (lines_in ts))

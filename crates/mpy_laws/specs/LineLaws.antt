@@ -18,5 +18,5 @@ AreAlike _ _ = ⊥
 abbrev pub LinesDoNotMatter : Type 0
 LinesDoNotMatter =
     (l : Limits) (p q : List Routine) (entry : List ℕ) (vs : List Value)
-      → map without_lines p ≡ map without_lines q
-      → AreAlike (run_outcome l p entry vs) (run_outcome l q entry vs)
+    → map without_lines p ≡ map without_lines q
+    → AreAlike (run_outcome l p entry vs) (run_outcome l q entry vs)

@@ -67,7 +67,7 @@ pub record ListsFollowTheTrees : Type 0 where
   pub of_terms : (e : Term) → subtrees (shape e) ≡ map shape (nodes e)
   -- the nodes of the expressions of a body's statements are the subtrees of expressions
   pub of_bodies : (b : Block) →
-    flat_map terms_at (subtrees (block_shape b)) ≡ map shape (flat_map site_nodes (sites b))
+      flat_map terms_at (subtrees (block_shape b)) ≡ map shape (flat_map site_nodes (sites b))
   -- the lines of a body's statements are those of its subtrees
   pub of_lines : (b : Block) →
-    flat_map lines_at (subtrees (block_shape b)) ≡ map line_of (sites b)
+      flat_map lines_at (subtrees (block_shape b)) ≡ map line_of (sites b)

@@ -22,4 +22,4 @@ IsParenthesized xs e =
 abbrev pub ParenthesizedAboveItsLevel : Type 0
 ParenthesizedAboveItsLevel =
     (k : Level) (xs : List Terminal) (e : Term) → Spells k xs e
-      → (rank k ≤ rank (level_of e)) ⊎ IsParenthesized xs e
+    → (rank k ≤ rank (level_of e)) ⊎ IsParenthesized xs e

@@ -27,7 +27,7 @@ abbrev mutual
   shape (ast.Index v i) = node kind.Index (two (shape v) (shape i))
   shape (ast.Slice v from to) =
       node (kind.Slice (is_there from) (is_there to))
-        (tree_and (shape v) (shape_and from (shape_and to no_trees)))
+      (tree_and (shape v) (shape_and from (shape_and to no_trees)))
   shape (ast.Call f es) = node (kind.Call f) (shapes es)
 
   pub shapes : Terms → Trees

@@ -56,8 +56,14 @@ fn clauses_hold_and_logs_refute(rt: HostRuntime) -> Result<(), Fail> {
     clauses.push(clause)?;
     let formula = Formula { vars: 2, clauses };
     assert!(rt; formula.same(&formula.copy()?), "a copy is the same");
-    assert!(rt; Formula::new(1, formula.clauses.copy()?).is_none(), "variable 2 is out of range");
-    assert!(rt; Formula::new(2, formula.clauses.copy()?).is_some(), "both are in range");
+    assert!(rt;
+        Formula::new(1, formula.clauses.copy()?).is_none(),
+        "variable 2 is out of range"
+    );
+    assert!(rt;
+        Formula::new(2, formula.clauses.copy()?).is_some(),
+        "both are in range"
+    );
     let items = formula.clauses.into_vec();
     assert_eq!(rt; items[0].greatest(), 2);
 

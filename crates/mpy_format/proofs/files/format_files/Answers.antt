@@ -13,7 +13,8 @@ returns-then-not-goes_on g c =
     let before = devices (g.S.Shelf.seen c.loop-i.shelf) (g.K.Sink.seen c.loop-i.out) in
     let after = devices (g.S.Shelf.seen c.format_file-said.new.shelf) (g.K.Sink.seen c.format_file-said.new.out) in
     let within : c.loop-i.i < length c.args.files.now = grind (arith, common_steps) in
-    record { ends = c.loop-i.invariant.ends after c.joined-status.result (stops_with string_bytes c.args.files.now c.loop-i.i c.loop-i.status before c.index-files-i.result c.as_str.result.now c.format_file-said.result c.joined-status.result after within c.index-files-i.is c.as_str.ensures.value c.format_file-said.ensures.ends (sym c.goes_on.ensures ∙ c.if-not-goes_on.true) c.joined-status.ensures);
+    record {
+      ends = c.loop-i.invariant.ends after c.joined-status.result (stops_with string_bytes c.args.files.now c.loop-i.i c.loop-i.status before c.index-files-i.result c.as_str.result.now c.format_file-said.result c.joined-status.result after within c.index-files-i.is c.as_str.ensures.value c.format_file-said.ensures.ends (sym c.goes_on.ensures ∙ c.if-not-goes_on.true) c.joined-status.ensures);
       files = c.format_file-said.ensures.files ∙ c.loop-i.invariant.files;
       fetched = fetched_last string_bytes c.args.files.now c.loop-i.i c.index-files-i.result c.as_str.result.now (g.S.Shelf.seen c.args.shelf.now) (g.S.Shelf.seen c.loop-i.shelf) (g.S.Shelf.seen c.format_file-said.new.shelf) within c.index-files-i.is c.as_str.ensures.value c.loop-i.invariant.fetched c.format_file-said.result c.format_file-said.ensures.fetched;
     }

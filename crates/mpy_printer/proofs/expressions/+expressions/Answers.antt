@@ -51,7 +51,7 @@ write_expr-returns-in_ok-write_to-in-Slice t c =
     let from = end_text (end_by (λ b. term_of b.value) c.in-Slice.from) in
     let to = end_text (end_by (λ b. term_of b.value) c.in-Slice.to) in
     let one : c.write_part-in-Slice.new.out.items ≡ c.args.out.now.items ++ part =
-      c.in_ok-write_part-in-Slice.ensures ∙ ap (λ x. c.args.out.now.items ++ at_level level.Postfix (term_of x) (text_of (term_of x))) c.deref-in-Slice.ensures in
+    c.in_ok-write_part-in-Slice.ensures ∙ ap (λ x. c.args.out.now.items ++ at_level level.Postfix (term_of x) (text_of (term_of x))) c.deref-in-Slice.ensures in
     let two : c.write_from.new.out.items ≡ c.write_part-in-Slice.new.out.items ++ (codes "[" ++ from ++ codes ":") = c.in_ok-write_from-in-Slice.ensures in
     let three : c.write_to.new.out.items ≡ c.write_from.new.out.items ++ (to ++ codes "]") = c.in_ok-write_to-in-Slice.ensures in
     let is : text_of (term_of c.args.e.now) ≡ part ++ codes "[" ++ from ++ codes ":" ++ to ++ codes "]" = ap text_of (ap term_of c.in-Slice.is ∙ slice_is c.in-Slice.v c.in-Slice.from c.in-Slice.to) in
