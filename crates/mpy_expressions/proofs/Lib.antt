@@ -4,5 +4,4 @@ pub mod Sound
 pub mod Elements
 pub mod Stopping
 pub mod Complete
-pub mod Characters
 pub mod Between

@@ -1,14 +1,14 @@
 -- What the grammar sees of tokens.
-use Rattle.std.specs.Prelude.{ℕ, Bool, false, not, ◌&&◌, ◌||◌, ◌==◌, nat_le, nat_eq, List, [], ◌∷◌}
-use Rattle.std.specs.Prelude.{map, length, Option, Some, None, option_map, if◌then◌else◌, codes}
+use Rattle.std.specs.Prelude.{ℕ, Bool, false, not, ◌&&◌, ◌||◌, ◌==◌, nat_eq, List, [], ◌∷◌}
+use Rattle.std.specs.Prelude.{map, length, Option, Some, None, if◌then◌else◌, codes}
 use Rattle.std.specs.Char.{is_ascii_digit}
 use Rattle.std.specs.Cmp.Lexicographic.{pointwise}
 use Rattle.std.specs.List.{list_all}
 use Rattle.mpy_lexer.specs.declared.forms.Kind.{Kind}
 use Rattle.mpy_lexer.specs.declared.forms.Kind.TheVariants as kind
 use Rattle.mpy_lexer.specs.declared.token.Token.{Token}
-use Rattle.mpy_lexer.specs.Bytes.{is_quote}
 use Rattle.mpy_lexer.specs.Pieces.{number_of}
+use Rattle.mpy_lexer.specs.TextLiterals.{literal_characters}
 use Rattle.mpy_expressions.specs.declared.words.Word.{Word}
 use Rattle.mpy_expressions.specs.declared.words.Word.TheVariants as word
 use Rattle.mpy_expressions.specs.declared.terminals.Terminal.{Terminal}
@@ -60,52 +60,13 @@ abbrev pub number_terminal : List ℕ → Terminal
 number_terminal digits =
     if is_numeral digits then number_terminal_of (number_of digits) else terminal.Other
 
-abbrev pub is_printable : ℕ → Bool
-is_printable c = nat_le 32 c && nat_le c 126
-
--- a backslash, a single or a double quote
-abbrev pub is_escapable : ℕ → Bool
-is_escapable c = c == 92 || is_quote c
-
--- The next character of a literal, and what stands behind it: a backslash stands before a backslash
--- or a quote, each other printable character for itself. Nothing where the last byte is reached, at
--- a closing quote, and at what no literal has.
-abbrev pub character_at : ℕ → List ℕ → Option (ℕ × List ℕ)
-character_at quote [] = None
-character_at quote (c ∷ []) = None
-character_at quote (c ∷ d ∷ rest) =
-    if c == quote then None
-    else if c == 92 then (if is_escapable d then Some (d, rest) else None)
-    else if is_printable c then Some (c, d ∷ rest)
-    else None
-
-abbrev pub with_character : ℕ → Option (List ℕ) → Option (List ℕ)
-with_character c cs = option_map (λ rest. c ∷ rest) cs
-
--- the closing quote alone
-abbrev pub is_last : ℕ → List ℕ → Bool
-is_last quote (c ∷ []) = c == quote
-is_last quote _ = false
-
--- the characters up to the closing quote, which is the last byte
-unfoldable pub characters : ℕ → List ℕ → Option (List ℕ)
-characters quote [] = None
-characters quote (c ∷ []) = if c == quote then Some [] else None
-characters quote (c ∷ d ∷ rest) =
-    if c == quote then None
-    else if c == 92 then (if is_escapable d then with_character d (characters quote rest) else None)
-    else if is_printable c then with_character c (characters quote (d ∷ rest))
-    else None
-
 abbrev pub text_terminal_of : Option (List ℕ) → Terminal
 text_terminal_of None = terminal.Other
 text_terminal_of (Some cs) = terminal.Text cs
 
 -- a literal in single or double quotes
 abbrev pub text_terminal : List ℕ → Terminal
-text_terminal [] = terminal.Other
-text_terminal (q ∷ rest) =
-    if is_quote q then text_terminal_of (characters q rest) else terminal.Other
+text_terminal bytes = text_terminal_of (literal_characters bytes)
 
 abbrev pub terminal_by : Kind → List ℕ → Terminal
 terminal_by kind.Name text = terminal.Name text

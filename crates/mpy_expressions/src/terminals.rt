@@ -1,16 +1,13 @@
 //! What the grammar sees of tokens.
-ghost use Rattle.std.specs.Prelude.{◌≡◌, ◌<◌, ◌≤◌, length, map, option_map, IfOk, IfSome};
-ghost use Rattle.mpy_tree.specs.Printable.{ArePrintable};
+ghost use Rattle.std.specs.Prelude.{◌≡◌, map, IfOk};
 ghost use Rattle.std.specs.Char.{is_ascii_digit};
 ghost use Rattle.std.specs.List.{list_all};
 ghost use Rattle.mpy_expressions.specs.Terminals.{terminal_of, terminals, word_terminal, word_of};
-ghost use Rattle.mpy_expressions.specs.Terminals.{number_terminal, text_terminal, character_at};
-ghost use Rattle.mpy_expressions.specs.Terminals.{characters, is_last, is_numeral, is_printable};
-ghost use Rattle.mpy_expressions.specs.Terminals.{is_escapable};
+ghost use Rattle.mpy_expressions.specs.Terminals.{number_terminal, text_terminal, is_numeral};
 
 use crate::NoMemory;
 use crate::words::{Word, word_of};
-use mpy_lexer::{Kind, Token, number_of};
+use mpy_lexer::{Kind, Token, literal_characters, number_of};
 use mpy_tree::{Chars, Name};
 use std::alloc::Global;
 
@@ -27,18 +24,6 @@ pub enum Terminal {
     Word(Word),
     /// a token that no expression and no line has
     Other,
-}
-
-fn is_printable(byte: u8) -> bool
-    ensures { result ≡ is_printable byte }
-{
-    (32..=126).contains(&byte)
-}
-
-fn is_escapable(byte: u8) -> bool
-    ensures { result ≡ is_escapable byte }
-{
-    byte == b'\\' || byte == b'\'' || byte == b'"'
 }
 
 fn are_digits(bytes: &[u8]) -> bool
@@ -77,73 +62,10 @@ fn number_terminal(bytes: &[u8]) -> Terminal
     }
 }
 
-// The next character of a literal and what stands behind it, where neither the closing quote nor an
-// error stands there.
-fn character_at(quote: u8, bytes: &[u8]) -> Option<(u8, &[u8])>
-    ensures same { option_map (λ x. (x.0, x.1.now)) result ≡ character_at quote bytes.now }
-    ensures shorter { IfSome result (λ x. length x.1.now < length bytes.now) }
-    ensures printable { IfSome result (λ x. (32 ≤ x.0) × (x.0 ≤ 126)) }
-{
-    let [first, behind @ ..] = bytes else {
-        return None;
-    };
-    let [taken, next @ ..] = behind else {
-        return None;
-    };
-    if *first == quote {
-        None
-    } else if *first == b'\\' {
-        if is_escapable(*taken) {
-            Some((*taken, next))
-        } else {
-            None
-        }
-    } else if is_printable(*first) {
-        Some((*first, behind))
-    } else {
-        None
-    }
-}
-
-// Whether the closing quote is all that is left.
-fn is_last(quote: u8, bytes: &[u8]) -> bool
-    ensures { result ≡ is_last quote bytes.now }
-{
-    match bytes {
-        [last] => *last == quote,
-        _ => false,
-    }
-}
-
-// The characters of a literal behind its opening quote, if it is one.
-#[tactic(auto, using(crate::proofs::Characters::characters_step, crate::proofs::Characters::all_found, crate::proofs::Characters::not_closed))]
-fn characters(alloc: Global, quote: u8, bytes: &[u8]) -> Result<Option<Vec<u8>>, NoMemory>
-    ensures same { IfOk result (λ o. option_map (λ v. v.items) o ≡ characters quote bytes.now) }
-    ensures printable { IfOk result (λ o. IfSome o (λ v. ArePrintable v.items)) }
-{
-    let mut found = Vec::new(alloc);
-    let mut rest = bytes;
-    while let Some((character, behind)) = character_at(quote, rest) {
-        found.push(character)?;
-        rest = behind;
-    }
-    if is_last(quote, rest) {
-        Ok(Some(found))
-    } else {
-        Ok(None)
-    }
-}
-
 fn text_terminal(alloc: Global, bytes: &[u8]) -> Result<Terminal, NoMemory>
     ensures { IfOk result (λ t. t ≡ text_terminal bytes.now) }
 {
-    let [quote, rest @ ..] = bytes else {
-        return Ok(Terminal::Other);
-    };
-    if *quote != b'\'' && *quote != b'"' {
-        return Ok(Terminal::Other);
-    }
-    match characters(alloc, *quote, rest)? {
+    match literal_characters(alloc, bytes)? {
         None => Ok(Terminal::Other),
         Some(found) => Ok(Terminal::Text(Chars::from_vec(found))),
     }

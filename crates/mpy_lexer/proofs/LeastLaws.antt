@@ -5,17 +5,8 @@ use Rattle.mpy_lexer.specs.declared.brackets.Bracket.{Bracket}
 use Rattle.mpy_lexer.specs.declared.rows.Row.{Row}
 use Rattle.mpy_lexer.specs.Brackets.{open_after, has_unmatched}
 use Rattle.mpy_tree.specs.Leasts.{lesser, least}
+use Rattle.mpy_tree.proofs.Leasts.{lesser_assoc}
 use Rattle.mpy_lexer.specs.Lexing.{faulty_lines}
-
-pub lesser-none : (a : Option ℕ) → lesser a None ≡ a
-lesser-none None = refl
-lesser-none (Some a) = refl
-
-pub lesser_assoc : (a b c : Option ℕ) → lesser (lesser a b) c ≡ lesser a (lesser b c)
-lesser_assoc None b c = refl
-lesser_assoc (Some a) None c = refl
-lesser_assoc (Some a) (Some b) None = refl
-lesser_assoc (Some a) (Some b) (Some c) = let e : min (min a b) c ≡ min a (min b c) = omega arith in ap (λ n. Some n) e
 
 least-cons : (n : ℕ) (ns : List ℕ) → least (n ∷ ns) ≡ lesser (Some n) (least ns)
 unfolding least

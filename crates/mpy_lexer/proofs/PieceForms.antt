@@ -29,7 +29,7 @@ run_case test x xs true e more = rw (one-add, e) more
 run_case test x xs false e more = refl
 
 -- the front of a list that passes
-run_passes : (test : ℕ → Bool) (xs : List ℕ) → list_all test (take (prefix_len test xs) xs) ≡ true
+pub run_passes : (test : ℕ → Bool) (xs : List ℕ) → list_all test (take (prefix_len test xs) xs) ≡ true
 run_passes test [] = refl
 run_passes test (x ∷ xs) = run_case test x xs (test x) refl (run_passes test xs)
 

@@ -80,7 +80,7 @@ concat_cut true c rest e = ap (λ xs. c ∷ xs) e
 concat_cut false c rest e = concat-with_byte c (physical_lines rest) ∙ ap (λ xs. c ∷ xs) e
 
 -- the physical lines are the text
-concat-lines : (text : List ℕ) → concat (physical_lines text) ≡ text
+pub concat-lines : (text : List ℕ) → concat (physical_lines text) ≡ text
 unfolding physical_lines
 concat-lines [] = refl
 concat-lines (c ∷ rest) = concat_cut (eqb c 10) c rest (concat-lines rest)

@@ -1,9 +1,12 @@
 pub mod Bytes
 pub mod Words
+pub mod Metavariables
 pub mod Pieces
 pub mod PhysicalLines
 pub mod Brackets
 pub mod Lexing
 pub mod Seen
 pub mod Spans
+pub mod TextLiterals
 pub mod TokenForms
+pub mod TokenLaws

@@ -3,6 +3,7 @@ ghost use Rattle.std.specs.Prelude.{◌≡◌, ◌≤◌, ◌||◌, if◌then◌
 ghost use Rattle.mpy_tree.specs.Leasts.{lesser, least};
 ghost use Rattle.mpy_lexer.specs.Lexing.{byte_fault, faulty_lines, logical_lines, length_fault, lex, IsAnswered};
 ghost use Rattle.mpy_lexer.specs.Seen.{with_more};
+ghost use Rattle.mpy_lexer.specs.TokenLaws.{TokensCoverTheirSource};
 ghost use Rattle.mpy_lexer.specs.Spans.{IsLineOf, LinesAreOfTheirSource};
 
 use crate::NoMemory;
@@ -132,4 +133,10 @@ pub fn lines(alloc: Global, bytes: &[u8], form: Form) -> Result<Vec<Line>, LexEr
 /// The logical lines of a text are of it, and each of their tokens has the form of its kind.
 pub fn lines_of_their_source()
     ensures holds { LinesAreOfTheirSource }
+{}
+
+/// The tokens of a text that has logical lines cover it: with white space and comments between them
+/// they are the whole text, in order, and each is the longest form at its place.
+pub fn tokens_cover_their_source()
+    ensures holds { TokensCoverTheirSource }
 {}

@@ -11,7 +11,7 @@ use Rattle.mpy_lexer.specs.Bytes.{is_name_byte}
 use Rattle.mpy_lexer.specs.Words.{mark_len}
 use Rattle.mpy_lexer.specs.Brackets.{first_of_mark, is_closing, closes, open_behind}
 use Rattle.mpy_lexer.specs.TokenForms.{has_form}
-use Rattle.mpy_expressions.specs.Terminals.{is_printable}
+use Rattle.mpy_lexer.specs.TextLiterals.{is_printable}
 
 -- the type of a value, where no name of it can be cited here
 abbrev pub type_of : {A : Type 0} → A → Type 0

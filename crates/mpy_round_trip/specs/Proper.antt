@@ -8,7 +8,7 @@ use Rattle.mpy_tree.specs.Syntax as ast
 use Rattle.mpy_lexer.specs.declared.forms.Form.TheVariants.{Program}
 use Rattle.mpy_lexer.specs.declared.forms.Kind.TheVariants as kind
 use Rattle.mpy_lexer.specs.TokenForms.{has_form}
-use Rattle.mpy_expressions.specs.Terminals.{is_printable}
+use Rattle.mpy_lexer.specs.TextLiterals.{is_printable}
 use Rattle.mpy_parser.specs.Nesting.{MayStand}
 
 -- a name token, so no reserved word

@@ -6,7 +6,7 @@ pub lesser-none : (a : Option ℕ) → lesser a None ≡ a
 lesser-none None = refl
 lesser-none (Some a) = refl
 
-lesser_assoc : (a b c : Option ℕ) → lesser (lesser a b) c ≡ lesser a (lesser b c)
+pub lesser_assoc : (a b c : Option ℕ) → lesser (lesser a b) c ≡ lesser a (lesser b c)
 lesser_assoc None b c = refl
 lesser_assoc (Some a) None c = refl
 lesser_assoc (Some a) (Some b) None = refl

@@ -10,7 +10,7 @@ use Rattle.mpy_lexer.specs.declared.forms.Form.TheVariants.{Program}
 use Rattle.mpy_lexer.specs.Bytes.{is_blank, is_white}
 use Rattle.mpy_lexer.specs.Pieces.{piece_at}
 use Rattle.mpy_lexer.specs.PhysicalLines.{byte_order_mark_len, physical_lines, is_solid, begins_with_tab, column_of}
-use Rattle.mpy_expressions.specs.Terminals.{is_printable}
+use Rattle.mpy_lexer.specs.TextLiterals.{is_printable}
 use Rattle.mpy_round_trip.proofs.Scraps.{Scrap, gap, word, bytes_of, AreApart, words_in}
 use Rattle.mpy_round_trip.proofs.lexing.PrintedParts.{line_of}
 

@@ -11,7 +11,7 @@ use Rattle.mpy_lexer.specs.Bytes.{is_white}
 use Rattle.mpy_lexer.specs.Pieces.{Part, piece_at, parts}
 use Rattle.mpy_lexer.specs.PhysicalLines.{is_wrong, is_foreign, token_in, tokens_of, has_foreign_byte}
 use Rattle.mpy_lexer.specs.TokenForms.{has_form}
-use Rattle.mpy_expressions.specs.Terminals.{is_printable}
+use Rattle.mpy_lexer.specs.TextLiterals.{is_printable}
 use Rattle.mpy_round_trip.proofs.Scraps.{Scrap, gap, word, bytes_of, next_byte, AreApart, scrap_of, words_in}
 use Rattle.mpy_round_trip.proofs.lexing.TokenPieces.{Piece, IsToken, neither, token_piece}
 

@@ -6,7 +6,7 @@ use Rattle.std.proofs.lemmas.List.Elements.{All-head, All-tail}
 use Rattle.mpy_lexer.specs.declared.forms.Form.TheVariants.{Program}
 use Rattle.mpy_lexer.specs.declared.forms.Kind.{Kind}
 use Rattle.mpy_lexer.specs.PhysicalLines.{byte_order_mark_len, physical_lines, column_of, row_of, rows_of, rows}
-use Rattle.mpy_expressions.specs.Terminals.{is_printable}
+use Rattle.mpy_lexer.specs.TextLiterals.{is_printable}
 use Rattle.mpy_round_trip.proofs.Scraps.{type_of, Scrap, word, bytes_of, next_byte, AreApart, Printed, IsFine, Begins, empty, token, line_text, text_of_lines, scrap_of, words_in}
 use Rattle.mpy_round_trip.proofs.lexing.TokenPieces.{token_piece}
 use Rattle.mpy_round_trip.proofs.lexing.PrintedParts.{line_of, line_begins, empty_form, line_words}

@@ -1,8 +1,7 @@
 -- The piece at a token's front is the token, where the byte behind it ends it.
-use Rattle.std.proofs.Common.{◌≡◌, ℕ, suc, ◌+◌, Bool, true, false, not, ◌&&◌, ◌||◌, cond, List, [], ◌∷◌, ◌++◌, length, take, drop, Option, Some, None, option_map, refl, sym, ap, ◌∙◌, subst, arith, rules, eqb, one-add}
-use Rattle.std.specs.Prelude.{nat_eq, nat_le}
-use Rattle.std.specs.List.{prefix_len, list_all, list_any, AllByRecursion}
-use Rattle.std.specs.Cmp.Lexicographic.{pointwise, same_text}
+use Rattle.std.proofs.Common.{◌≡◌, ℕ, suc, ◌+◌, Bool, true, false, not, ◌&&◌, ◌||◌, cond, List, [], ◌∷◌, ◌++◌, length, take, drop, Option, Some, None, option_map, refl, ap, ◌∙◌, arith, rules, eqb, one-add}
+use Rattle.std.specs.Prelude.{nat_le}
+use Rattle.std.specs.List.{prefix_len, list_all}
 use Rattle.std.specs.Char.{is_ascii_digit}
 use Rattle.std.proofs.Math.Seq.{take-append_seam, drop-append_seam}
 use Rattle.std.proofs.lemmas.Bool.{and_parts, and_from, eqb-true}
@@ -11,10 +10,11 @@ use Rattle.mpy_lexer.specs.declared.forms.Form.TheVariants.{Program}
 use Rattle.mpy_lexer.specs.declared.forms.Kind.{Kind}
 use Rattle.mpy_lexer.specs.declared.forms.Kind.TheVariants.{Name, Reserved, Number, Text, Mark, Meta}
 use Rattle.mpy_lexer.specs.Bytes.{is_white, is_quote, is_name_start, is_name_byte}
-use Rattle.mpy_lexer.specs.Words.{is_reserved, mark_len, reserved_words, program_marks}
+use Rattle.mpy_lexer.specs.Words.{is_reserved, mark_len, program_marks}
 use Rattle.mpy_lexer.specs.Pieces.{piece_at, name_at, number_at, closing, text_to, has_wrong_escape, sign_at, number_value, digits_len}
 use Rattle.mpy_lexer.specs.PhysicalLines.{is_solid, is_wrong, is_foreign, token_in, has_foreign_byte}
 use Rattle.mpy_lexer.specs.TokenForms.{has_form, is_name, is_number, is_none_behind, is_one_of, is_text, is_length}
+use Rattle.mpy_lexer.proofs.WordLaws.{one_of, each_passes, reserved_is_name}
 use Rattle.mpy_round_trip.proofs.Scraps.{type_of, ends_before}
 
 abbrev pub Piece : Type 0
@@ -36,33 +36,12 @@ pub neither : (a b : Bool) → a || b ≡ false → (a ≡ false) × (b ≡ fals
 neither true b e = absurd cc
 neither false b e = (refl, e)
 
-other_one : (a b : Bool) → a ≡ false → a || b ≡ true → b ≡ true
-other_one true b e h = absurd cc
-other_one false b e h = h
-
 -- a run of bytes that pass ends at one that doesn't
 run_ends : (test : ℕ → Bool) (xs : List ℕ) (c : ℕ) (rest : List ℕ) → list_all test xs ≡ true → test c ≡ false → prefix_len test (xs ++ c ∷ rest) ≡ length xs
 run_ends test [] c rest all ends = rw ends refl
 run_ends test (x ∷ xs) c rest all ends =
     let parts = and_parts (test x) (list_all test xs) all in
     rw (parts.0, run_ends test xs c rest parts.1, one-add) refl
-
--- what holds of each of some words holds of one of them
-
-among_case : (P : List ℕ → Type 0) (w word : List ℕ) (b : Bool) → (b ≡ true → word ≡ w) → P w → (b ≡ false → P word) → P word
-among_case P w word true same here others = subst P (sym (same refl)) here
-among_case P w word false same here others = others refl
-
-among : (P : List ℕ → Type 0) (same : List ℕ → Bool) (ws : List (List ℕ)) (word : List ℕ) → ((w : List ℕ) → same w ≡ true → word ≡ w) → AllByRecursion P ws → list_any same ws ≡ true → P word
-among P same [] word told all e = absurd cc
-among P same (w ∷ ws) word told all e = among_case P w word (same w) (told w) all.0 (λ other. among P same ws word told all.1 (other_one (same w) (list_any same ws) other e))
-
-one_of : (P : List ℕ → Type 0) (ws : List (List ℕ)) (word : List ℕ) → AllByRecursion P ws → is_one_of ws word ≡ true → P word
-one_of P ws word all e = among P (λ w. pointwise nat_eq w word) ws word (λ w same. sym (same_text w word (sym same))) all e
-
-each_passes : (test : List ℕ → Bool) (ws : List (List ℕ)) → list_all test ws ≡ true → AllByRecursion (λ w. test w ≡ true) ws
-each_passes test [] e = tt
-each_passes test (w ∷ ws) e = let parts = and_parts (test w) (list_all test ws) e in (parts.0, each_passes test ws parts.1)
 
 -- names and reserved words
 
@@ -97,10 +76,6 @@ name_piece : (word : List ℕ) (c : ℕ) (rest : List ℕ) → has_form Program 
 name_piece word c rest form ends =
     let parts = and_parts (is_name word) (not (is_reserved word)) form in
     word_piece word c rest false parts.0 ends (not_false (is_reserved word) parts.1)
-
-reserved_is_name : (word : List ℕ) → is_reserved word ≡ true → is_name word ≡ true
-unfolding is_reserved
-reserved_is_name word e = among (λ w. is_name w ≡ true) (pointwise nat_eq word) reserved_words word (λ w same. same_text word w (sym same)) (each_passes is_name reserved_words refl) e
 
 reserved_piece : (word : List ℕ) (c : ℕ) (rest : List ℕ) → is_reserved word ≡ true → is_name_byte c ≡ false → IsToken Reserved (length word) (piece_at Program (word ++ c ∷ rest))
 reserved_piece word c rest e ends = word_piece word c rest true (reserved_is_name word e) ends e

@@ -9,7 +9,7 @@ use Rattle.mpy_lexer.specs.Bytes.{is_name_byte}
 use Rattle.mpy_lexer.specs.declared.forms.Kind.{Kind}
 use Rattle.mpy_lexer.specs.declared.forms.Kind.TheVariants as kind
 use Rattle.mpy_lexer.specs.Words.{is_reserved, mark_len}
-use Rattle.mpy_expressions.specs.Terminals.{is_printable}
+use Rattle.mpy_lexer.specs.TextLiterals.{is_printable}
 use Rattle.std.specs.List.{list_all}
 use Rattle.mpy_round_trip.specs.Proper.{IsName, IsProperTerm, IsProperBlock, IsProperAction, AreProperArms, IsProperElse, IsProperRoutine, IsProper, MayAugment}
 use Rattle.mpy_round_trip.proofs.Scraps.{Scrap, gap, word, Printed, next_byte, AreApart, IsFine, empty, token as begins_with}

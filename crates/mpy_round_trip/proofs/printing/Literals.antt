@@ -8,7 +8,8 @@ use Rattle.mpy_lexer.specs.declared.forms.Kind.TheVariants as kind
 use Rattle.mpy_lexer.specs.Pieces.{closing, has_wrong_escape}
 use Rattle.mpy_lexer.specs.TokenForms.{is_length, has_form}
 use Rattle.mpy_expressions.specs.declared.terminals.Terminal.TheVariants as terminal
-use Rattle.mpy_expressions.specs.Terminals.{is_printable, characters, with_character, text_terminal, text_terminal_of}
+use Rattle.mpy_expressions.specs.Terminals.{text_terminal, text_terminal_of}
+use Rattle.mpy_lexer.specs.TextLiterals.{is_printable, characters, with_character}
 
 -- the bytes behind an opening single quote: the characters, and the closing quote
 record IsBody (cs bytes : List ℕ) : Type 0 where

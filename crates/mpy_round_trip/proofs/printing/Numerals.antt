@@ -11,7 +11,8 @@ use Rattle.mpy_lexer.specs.declared.forms.Kind.TheVariants as kind
 use Rattle.mpy_lexer.specs.Pieces.{number_value}
 use Rattle.mpy_lexer.specs.TokenForms.{has_form}
 use Rattle.mpy_expressions.specs.declared.terminals.Terminal.TheVariants as terminal
-use Rattle.mpy_expressions.specs.Terminals.{number_terminal, is_printable}
+use Rattle.mpy_expressions.specs.Terminals.{number_terminal}
+use Rattle.mpy_lexer.specs.TextLiterals.{is_printable}
 
 abbrev value_from : ℕ → List ℕ → ℕ
 value_from n ds = fold (λ n c. n * 10 + (c - 48)) n ds

@@ -17,7 +17,7 @@ use Rattle.mpy_lexer.specs.declared.forms.Kind.TheVariants as kind
 use Rattle.mpy_lexer.specs.Bytes.{is_name_start, is_name_byte}
 use Rattle.mpy_lexer.specs.Words.{is_reserved, mark_len}
 use Rattle.mpy_lexer.specs.TokenForms.{is_name}
-use Rattle.mpy_expressions.specs.Terminals.{is_printable}
+use Rattle.mpy_lexer.specs.TextLiterals.{is_printable}
 use Rattle.mpy_round_trip.specs.Proper.{IsName, IsProperTerm, AreProperTerms, IsProperEnd, MayAugment}
 use Rattle.mpy_round_trip.proofs.Scraps.{Scrap, gap, word, next_byte, ends_before, AreApart}
 use Rattle.mpy_round_trip.proofs.printing.ProgramLines.{name, mark, reserved, part_scraps, compare_scraps, term_scraps, list_scraps, rest_scraps, end_scraps}

@@ -15,7 +15,8 @@ use Rattle.mpy_lexer.specs.Spans.{IsIn}
 use Rattle.mpy_expressions.specs.declared.words.Word.{Word}
 use Rattle.mpy_expressions.specs.declared.terminals.Terminal.{Terminal}
 use Rattle.mpy_expressions.specs.declared.terminals.Terminal.TheVariants as terminal
-use Rattle.mpy_expressions.specs.Terminals.{word_terminal, word_of, is_numeral, number_terminal_of, is_printable, is_escapable, with_character, characters, text_terminal, text_terminal_of, terminal_by, terminals}
+use Rattle.mpy_expressions.specs.Terminals.{word_terminal, word_of, is_numeral, number_terminal_of, text_terminal, text_terminal_of, terminal_by, terminals}
+use Rattle.mpy_lexer.specs.TextLiterals.{is_printable, is_escapable, with_character, characters}
 use Rattle.mpy_round_trip.specs.Proper.{IsName}
 
 -- a terminal of which proper terms are made
@@ -82,7 +83,7 @@ proper_characters : (o : Option (List ℕ)) → ArePrintableIfSome o → IsPrope
 proper_characters None h = tt
 proper_characters (Some cs) h = h
 
-proper_quoted : (o : Option (List ℕ)) (opened : Bool) → ArePrintableIfSome o → IsProperTerminal (cond opened (text_terminal_of o) terminal.Other)
+proper_quoted : (o : Option (List ℕ)) (opened : Bool) → ArePrintableIfSome o → IsProperTerminal (text_terminal_of (cond opened o None))
 proper_quoted o true h = proper_characters o h
 proper_quoted o false h = tt
 

@@ -1,6 +1,7 @@
 use Rattle.std.proofs.Common.{◌≡◌, None, sym, ap, ◌∙◌}
 use Rattle.mpy_tree.specs.Leasts.{lesser, least}
-use Rattle.mpy_lexer.proofs.LeastLaws.{faulty_more, faulty_end, lesser-none, open_lines}
+use Rattle.mpy_lexer.proofs.LeastLaws.{faulty_more, faulty_end, open_lines}
+use Rattle.mpy_tree.proofs.Leasts.{lesser-none}
 use Rattle.mpy_lexer.proofs.lexing.faulty_line.Goals as goal
 
 pub loop-row-preserved : goal.loop-row-preserved

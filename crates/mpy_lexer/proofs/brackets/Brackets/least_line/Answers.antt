@@ -1,7 +1,8 @@
 use Rattle.std.proofs.Common.{◌≡◌, [], sym, ap, ◌∙◌, arith}
 use Rattle.std.proofs.lemmas.List.{nil_from_length}
 use Rattle.mpy_tree.specs.Leasts.{lesser}
-use Rattle.mpy_lexer.proofs.LeastLaws.{open_less, least-nil, lesser-none}
+use Rattle.mpy_lexer.proofs.LeastLaws.{open_less, least-nil}
+use Rattle.mpy_tree.proofs.Leasts.{lesser-none}
 use Rattle.mpy_lexer.proofs.brackets.Brackets.least_line.Goals as goal
 
 pub loop-bracket-preserved : goal.loop-bracket-preserved

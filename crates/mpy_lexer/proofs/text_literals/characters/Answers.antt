@@ -1,9 +1,9 @@
 use Rattle.std.proofs.Common.{sym, ◌∙◌, ap, subst, ◌≤◌, [], ◌∷◌, ◌++◌, option_map, IfSome}
 use Rattle.std.proofs.lemmas.List.Elements.{All-append, All-cons, All-nil}
 use Rattle.mpy_tree.specs.Printable.{ArePrintable}
-use Rattle.mpy_expressions.specs.Terminals.{characters}
-use Rattle.mpy_expressions.proofs.Characters.{one_more, all_found}
-use Rattle.mpy_expressions.proofs.terminals.characters.Goals as goal
+use Rattle.mpy_lexer.specs.TextLiterals.{characters}
+use Rattle.mpy_lexer.proofs.Characters.{one_more, all_found}
+use Rattle.mpy_lexer.proofs.text_literals.characters.Goals as goal
 
 pub loop-character-preserved : goal.loop-character-preserved
 loop-character-preserved c = record {

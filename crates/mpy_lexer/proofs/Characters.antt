@@ -1,6 +1,6 @@
 -- The characters of a text literal, one after another.
 use Rattle.std.proofs.Common.{◌≡◌, ℕ, Bool, true, false, ◌==◌, cond, List, [], ◌∷◌, ◌++◌, Option, Some, None, option_map, refl, ap, sym, ◌∙◌, append_assoc, append-nil}
-use Rattle.mpy_expressions.specs.Terminals.{character_at, characters, with_character, is_last, is_escapable, is_printable}
+use Rattle.mpy_lexer.specs.TextLiterals.{character_at, characters, with_character, is_last, is_escapable, is_printable}
 
 -- what is left where no character follows: the closing quote, or what is wrong
 abbrev pub closed_by : ℕ → List ℕ → Option (List ℕ)

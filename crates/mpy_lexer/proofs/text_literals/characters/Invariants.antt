@@ -1,7 +1,7 @@
 use Rattle.std.proofs.Common.{◌≡◌, ◌++◌, length, option_map}
 use Rattle.mpy_tree.specs.Printable.{ArePrintable}
-use Rattle.mpy_expressions.specs.Terminals.{characters}
-use Rattle.mpy_expressions.proofs.terminals.characters.Given as goal
+use Rattle.mpy_lexer.specs.TextLiterals.{characters}
+use Rattle.mpy_lexer.proofs.text_literals.characters.Given as goal
 
 -- the characters so far, and then those of the rest
 abbrev pub invariant-loop-character : goal.invariant-loop-character
