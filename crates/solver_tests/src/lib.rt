@@ -8,6 +8,8 @@ mod checking;
 #[cfg(test)]
 mod clauses;
 #[cfg(test)]
+mod folding;
+#[cfg(test)]
 mod graph;
 #[cfg(test)]
 mod numbers;
