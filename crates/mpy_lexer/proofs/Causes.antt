@@ -7,7 +7,7 @@ use Rattle.mpy_lexer.specs.declared.line.LexError.{LexError}
 use Rattle.mpy_lexer.specs.declared.line.LexError.TheVariants.{Fault, NoMemory}
 use Rattle.mpy_lexer.specs.declared.rows.Row.{Row}
 use Rattle.mpy_lexer.specs.PhysicalLines.{rows}
-use Rattle.mpy_lexer.specs.Leasts.{least}
+use Rattle.mpy_tree.specs.Leasts.{least}
 use Rattle.mpy_lexer.specs.Lexing.{byte_fault, faulty_lines, logical_lines, length_fault, lex, IsAnswered}
 
 answered : (form : Form) (bytes : List ℕ) (e : LexError) → lex form bytes ≡ Err e → IsAnswered form bytes e

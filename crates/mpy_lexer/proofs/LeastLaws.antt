@@ -4,7 +4,7 @@ use Rattle.std.proofs.lemmas.List.{reverse-append, at_drop_more, at_drop_all}
 use Rattle.mpy_lexer.specs.declared.brackets.Bracket.{Bracket}
 use Rattle.mpy_lexer.specs.declared.rows.Row.{Row}
 use Rattle.mpy_lexer.specs.Brackets.{open_after, has_unmatched}
-use Rattle.mpy_lexer.specs.Leasts.{lesser, least}
+use Rattle.mpy_tree.specs.Leasts.{lesser, least}
 use Rattle.mpy_lexer.specs.Lexing.{faulty_lines}
 
 pub lesser-none : (a : Option ℕ) → lesser a None ≡ a

@@ -11,7 +11,7 @@ use Rattle.mpy_lexer.specs.Words.{is_reserved, mark_len}
 use Rattle.mpy_lexer.specs.Pieces.{closing, has_wrong_escape, name_at, number_at, sign_at, piece_at, parts}
 use Rattle.mpy_lexer.specs.PhysicalLines.{byte_order_mark_len, physical_lines, has_foreign_byte, begins_with_tab, column_of, row_of, rows_of, rows}
 use Rattle.mpy_lexer.specs.Brackets.{open_after, has_unmatched}
-use Rattle.mpy_lexer.specs.Leasts.{least}
+use Rattle.mpy_tree.specs.Leasts.{least}
 use Rattle.mpy_lexer.specs.TokenForms.{has_form}
 use Rattle.mpy_lexer.specs.Lexing.{byte_fault, faulty_lines, continued, logical_lines, length_fault, lex}
 

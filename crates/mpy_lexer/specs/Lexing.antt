@@ -10,7 +10,7 @@ use Rattle.mpy_lexer.specs.declared.line.LexError.{LexError}
 use Rattle.mpy_lexer.specs.declared.line.LexError.TheVariants.{Fault, NoMemory}
 use Rattle.mpy_lexer.specs.declared.brackets.Bracket.{Bracket}
 use Rattle.mpy_lexer.specs.declared.rows.Row.{Row}
-use Rattle.mpy_lexer.specs.Leasts.{least}
+use Rattle.mpy_tree.specs.Leasts.{least}
 use Rattle.mpy_lexer.specs.Brackets.{is_empty, open_after, has_unmatched}
 use Rattle.mpy_lexer.specs.PhysicalLines.{rows}
 

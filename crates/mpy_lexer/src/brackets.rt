@@ -1,7 +1,7 @@
 //! The brackets that are open at a place.
 ghost use Rattle.std.specs.Prelude.{◌≡◌, ◌||◌, [], map, OnOk, IfOk, length};
 ghost use Rattle.mpy_lexer.specs.Brackets.{first_of_mark, mark_of, is_opening, is_closing, are_partners, is_empty, closes, open_behind, open_after, has_unmatched};
-ghost use Rattle.mpy_lexer.specs.Leasts.{lesser, least};
+ghost use Rattle.mpy_tree.specs.Leasts.{lesser, least};
 
 use crate::NoMemory;
 use crate::forms::Kind;

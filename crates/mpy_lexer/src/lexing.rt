@@ -1,6 +1,6 @@
 //! The logical lines of a text.
 ghost use Rattle.std.specs.Prelude.{◌≡◌, ◌≤◌, ◌||◌, if◌then◌else◌, [], length, All, OnOk, IfOk, IfErr};
-ghost use Rattle.mpy_lexer.specs.Leasts.{lesser, least};
+ghost use Rattle.mpy_tree.specs.Leasts.{lesser, least};
 ghost use Rattle.mpy_lexer.specs.Lexing.{byte_fault, faulty_lines, logical_lines, length_fault, lex, IsAnswered};
 ghost use Rattle.mpy_lexer.specs.Seen.{with_more};
 ghost use Rattle.mpy_lexer.specs.Spans.{IsLineOf, LinesAreOfTheirSource};

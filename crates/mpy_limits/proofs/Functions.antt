@@ -3,11 +3,11 @@ use Rattle.std.proofs.Common.{◌≡◌, ℕ, zero, suc, ◌+◌, ◌<◌, ◌�
 use Rattle.std.proofs.lemmas.List.{at_drop_more, at_drop_all}
 use Rattle.std.proofs.lemmas.List.Concat.{flat_map-cons}
 use Rattle.std.specs.List.{flat_map}
-use Rattle.mpy_lexer.specs.Leasts.{lesser, least}
+use Rattle.mpy_tree.specs.Leasts.{lesser, least}
 use Rattle.mpy_tree.specs.declared.tree.Func.{Func}
 use Rattle.mpy_tree.specs.View.{block_of, routine_of}
 use Rattle.mpy_limits.specs.Limits.{limit_lines, nth_or_left, routine_lines, statements}
-use Rattle.mpy_limits.proofs.Leasts.{lesser_of_nil, lesser_of_append}
+use Rattle.mpy_tree.proofs.Leasts.{lesser_of_nil, lesser_of_append}
 use Rattle.mpy_limits.proofs.Lines.{two_pieces}
 use Rattle.mpy_limits.proofs.StatementPlaces.{behind_first, found_in_first}
 

@@ -1,5 +1,4 @@
 pub mod Depths
-pub mod Leasts
 pub mod StatementPlaces
 pub mod Actions
 pub mod Lines

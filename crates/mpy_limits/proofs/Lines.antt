@@ -1,7 +1,7 @@
 -- The least line of a block, found statement by statement.
 use Rattle.std.proofs.Common.{◌≡◌, ℕ, ◌+◌, ◌<◌, ◌≤◌, nat_lt, slice_get, Bool, List, [], ◌∷◌, ◌++◌, length, map, drop, get_or, Option, None, Some, ◌⊎◌, inl, inr, sym, ap, ◌∙◌, append_assoc}
 use Rattle.std.proofs.lemmas.List.{at_drop_more, at_drop_all}
-use Rattle.mpy_lexer.specs.Leasts.{lesser, least}
+use Rattle.mpy_tree.specs.Leasts.{lesser, least}
 use Rattle.mpy_tree.specs.declared.tree.Stmts.{Stmts, out-Stmts}
 use Rattle.mpy_tree.specs.declared.tree.Stmt.{Stmt, out-Stmt}
 use Rattle.mpy_tree.specs.declared.tree.Arm.{Arm, out-Arm}
@@ -11,7 +11,7 @@ use Rattle.mpy_tree.specs.Syntax.{Action, Block, Statement, Branch, step, arm_an
 use Rattle.mpy_tree.specs.View.{term_of, action_of, block, block_of, block_or_none, branch_of, branches, branches_of, statement_of}
 use Rattle.mpy_limits.specs.Limits.{action_lines, arms_lines, block_lines, deeper, is_large, last_lines, line_if, too_deep}
 use Rattle.mpy_limits.proofs.Actions.{if_is, pass_is, break_is, continue_is, statement_is, branch_is, block_is}
-use Rattle.mpy_limits.proofs.Leasts.{lesser_of_nil, lesser_of_append}
+use Rattle.mpy_tree.proofs.Leasts.{lesser_of_nil, lesser_of_append}
 
 -- the least of two pieces, each found by its step
 pub two_pieces : (o p r : Option ℕ) (xs ys : List ℕ) → p ≡ lesser o (least xs) → r ≡ lesser p (least ys) → r ≡ lesser o (least (xs ++ ys))

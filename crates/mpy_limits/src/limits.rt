@@ -1,7 +1,7 @@
 //! How large a program may be, and the first line on which one is larger.
 ghost use Rattle.std.specs.Prelude.{◌≡◌, ◌++◌, ◌∷◌, Some, drop, length, map, nat_lt, take};
 ghost use Rattle.std.specs.List.{flat_map, list_any};
-ghost use Rattle.mpy_lexer.specs.Leasts.{lesser, least};
+ghost use Rattle.mpy_tree.specs.Leasts.{lesser, least};
 ghost use Rattle.mpy_tree.specs.View.{action_of, block_of, block_or_none, branch_of, branches_of};
 ghost use Rattle.mpy_tree.specs.View.{end_by, maybe_term, routine_of, routines_of, statement_of};
 ghost use Rattle.mpy_tree.specs.View.{term_of, terms_of};

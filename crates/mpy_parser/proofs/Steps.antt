@@ -7,7 +7,7 @@ use Rattle.mpy_tree.specs.Syntax.{Routine}
 use Rattle.mpy_tree.specs.View.{routines_of}
 use Rattle.mpy_lexer.specs.declared.forms.Form.TheVariants.{Program}
 use Rattle.mpy_lexer.specs.declared.line.Line.{Line}
-use Rattle.mpy_lexer.specs.Leasts.{least, lesser}
+use Rattle.mpy_tree.specs.Leasts.{least, lesser}
 use Rattle.mpy_lexer.specs.Lexing.{lex}
 use Rattle.mpy_parser.specs.declared.read_error.ReadError.{ReadError}
 use Rattle.mpy_parser.specs.declared.read_error.ReadError.TheVariants as read_error

@@ -12,7 +12,7 @@ use Rattle.mpy_lexer.specs.declared.line.Line.{Line}
 use Rattle.mpy_lexer.specs.declared.line.LexCause.{LexCause}
 use Rattle.mpy_lexer.specs.declared.line.LexCause.TheVariants as lex_cause
 use Rattle.mpy_lexer.specs.declared.line.LexError.TheVariants as lex_error
-use Rattle.mpy_lexer.specs.Leasts.{least}
+use Rattle.mpy_tree.specs.Leasts.{least}
 use Rattle.mpy_lexer.specs.Lexing.{lex, byte_fault, token_fault, length_fault, logical_lines}
 use Rattle.mpy_lexer.specs.PhysicalLines.{rows}
 use Rattle.mpy_expressions.specs.Terminals.{terminals}

@@ -1,5 +1,6 @@
 pub mod Copies
 pub mod Division
+pub mod Leasts
 pub mod ListTests
 pub mod Opening
 pub mod Progressions

@@ -2,6 +2,7 @@ pub mod Builtins
 pub mod Comparing
 pub mod Equality
 pub mod Expressions
+pub mod Leasts
 pub mod Levels
 pub mod Locals
 pub mod Operations

@@ -5,7 +5,7 @@ use Rattle.std.proofs.lemmas.List.Elements.{All-head, All-tail}
 use Rattle.mpy_lexer.specs.declared.forms.Form.TheVariants.{Program}
 use Rattle.mpy_lexer.specs.declared.token.Token.{Token}
 use Rattle.mpy_lexer.specs.Brackets.{open_after}
-use Rattle.mpy_lexer.specs.Leasts.{least}
+use Rattle.mpy_tree.specs.Leasts.{least}
 use Rattle.mpy_lexer.specs.PhysicalLines.{rows}
 use Rattle.mpy_lexer.specs.Lexing.{byte_fault, faulty_lines, token_fault, continued, logical_lines}
 use Rattle.mpy_round_trip.proofs.Scraps.{Scrap, word, Printed, Begins, empty, token, IsFine, text_of_lines, scrap_of, words_in, AreLinesOf, no_lines, an_empty_line, a_line}

@@ -1,5 +1,5 @@
 use Rattle.std.proofs.Common.{◌≡◌, None, sym, ap, ◌∙◌}
-use Rattle.mpy_lexer.specs.Leasts.{lesser, least}
+use Rattle.mpy_tree.specs.Leasts.{lesser, least}
 use Rattle.mpy_lexer.proofs.LeastLaws.{faulty_more, faulty_end, lesser-none, open_lines}
 use Rattle.mpy_lexer.proofs.lexing.faulty_line.Goals as goal
 

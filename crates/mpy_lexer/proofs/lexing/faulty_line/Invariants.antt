@@ -1,5 +1,5 @@
 use Rattle.std.proofs.Common.{◌≡◌, drop, []}
-use Rattle.mpy_lexer.specs.Leasts.{lesser, least}
+use Rattle.mpy_tree.specs.Leasts.{lesser, least}
 use Rattle.mpy_lexer.specs.Lexing.{faulty_lines}
 use Rattle.mpy_lexer.proofs.lexing.faulty_line.Given as goal
 

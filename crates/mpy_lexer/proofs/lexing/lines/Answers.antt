@@ -1,5 +1,5 @@
 use Rattle.std.proofs.Common.{◌≡◌, [], None, Some, Ok, sym, ◌∙◌}
-use Rattle.mpy_lexer.specs.Leasts.{least}
+use Rattle.mpy_tree.specs.Leasts.{least}
 use Rattle.mpy_lexer.specs.Lexing.{byte_fault, faulty_lines, length_fault, lex}
 use Rattle.mpy_lexer.proofs.Causes.{by_bytes, by_tokens, by_length, by_lines}
 use Rattle.mpy_lexer.proofs.TokenSpans.{spans}

@@ -1,7 +1,7 @@
 use Rattle.std.proofs.Common.{◌≡◌, ◌<◌, ◌≤◌, length, arith, sym, ap, ◌∙◌}
 use Rattle.std.proofs.lemmas.Grind.{common_steps}
 use Rattle.std.specs.Option.{option_copied}
-use Rattle.mpy_lexer.specs.Leasts.{lesser, least}
+use Rattle.mpy_tree.specs.Leasts.{lesser, least}
 use Rattle.mpy_tree.specs.View.{block_of}
 use Rattle.mpy_limits.specs.Limits.{block_lines, line_if, too_deep}
 use Rattle.mpy_limits.proofs.Lines.{arms_end, arms_more, block_end, block_more, begins_with, begins_with_none, headed, if_lines, no_last, two_pieces}

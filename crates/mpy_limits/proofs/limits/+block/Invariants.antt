@@ -1,5 +1,5 @@
 use Rattle.std.proofs.Common.{◌≡◌, map, drop}
-use Rattle.mpy_lexer.specs.Leasts.{lesser, least}
+use Rattle.mpy_tree.specs.Leasts.{lesser, least}
 use Rattle.mpy_tree.specs.View.{statement_of, branch_of, block, branches, block_of, branches_of}
 use Rattle.mpy_limits.specs.Limits.{block_lines, arms_lines}
 use Rattle.mpy_limits.proofs.limits.+block.Given as goal

@@ -1,5 +1,5 @@
 use Rattle.std.proofs.Common.{ap, ◌∙◌}
-use Rattle.mpy_lexer.specs.Leasts.{lesser, least}
+use Rattle.mpy_tree.specs.Leasts.{lesser, least}
 use Rattle.mpy_tree.specs.View.{block_of, routine_of}
 use Rattle.mpy_limits.specs.Limits.{block_lines, is_large_header, line_if}
 use Rattle.mpy_limits.proofs.Lines.{two_pieces}

@@ -1,6 +1,6 @@
 use Rattle.std.proofs.Common.{◌≡◌, map, drop}
 use Rattle.std.specs.List.{flat_map}
-use Rattle.mpy_lexer.specs.Leasts.{lesser, least}
+use Rattle.mpy_tree.specs.Leasts.{lesser, least}
 use Rattle.mpy_tree.specs.View.{routine_of}
 use Rattle.mpy_limits.specs.Limits.{routine_lines}
 use Rattle.mpy_limits.proofs.limits.functions_limit.Given as goal

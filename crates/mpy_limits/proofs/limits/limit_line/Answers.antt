@@ -1,5 +1,5 @@
 use Rattle.std.proofs.Common.{map, ap, ◌∙◌}
-use Rattle.mpy_lexer.specs.Leasts.{least}
+use Rattle.mpy_tree.specs.Leasts.{least}
 use Rattle.mpy_tree.specs.View.{routine_of}
 use Rattle.mpy_limits.specs.Limits.{limit_lines}
 use Rattle.mpy_limits.proofs.Functions.{all_limits}

@@ -1,10 +1,10 @@
 use Rattle.std.proofs.Common.{map, sym, ap, ◌∙◌}
 use Rattle.std.specs.List.{flat_map}
-use Rattle.mpy_lexer.specs.Leasts.{lesser, least}
+use Rattle.mpy_tree.specs.Leasts.{lesser, least}
 use Rattle.mpy_tree.specs.View.{routine_of}
 use Rattle.mpy_limits.specs.Limits.{statements}
 use Rattle.mpy_limits.proofs.Functions.{member_at, no_member_at}
-use Rattle.mpy_limits.proofs.Leasts.{lesser_of_nil}
+use Rattle.mpy_tree.proofs.Leasts.{lesser_of_nil}
 use Rattle.mpy_limits.proofs.limits.statement_too_many.Goals as goal
 
 pub returns-in-Ok : goal.returns-in-Ok

@@ -1,6 +1,6 @@
 use Rattle.std.proofs.Common.{rules}
-use Rattle.mpy_lexer.specs.Leasts.{least}
-use Rattle.mpy_limits.proofs.Leasts.{lesser-none}
+use Rattle.mpy_tree.specs.Leasts.{least}
+use Rattle.mpy_tree.proofs.Leasts.{lesser-none}
 use Rattle.mpy_limits.proofs.limits.with_line.Goals as goal
 
 pub returns-then-not-is_large : goal.returns-then-not-is_large

@@ -1,6 +1,6 @@
 use Rattle.std.proofs.Common.{◌≡◌, [], sym, ap, ◌∙◌, arith}
 use Rattle.std.proofs.lemmas.List.{nil_from_length}
-use Rattle.mpy_lexer.specs.Leasts.{lesser}
+use Rattle.mpy_tree.specs.Leasts.{lesser}
 use Rattle.mpy_lexer.proofs.LeastLaws.{open_less, least-nil, lesser-none}
 use Rattle.mpy_lexer.proofs.brackets.Brackets.least_line.Goals as goal
 

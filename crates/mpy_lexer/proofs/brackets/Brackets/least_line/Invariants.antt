@@ -1,5 +1,5 @@
 use Rattle.std.proofs.Common.{◌≡◌, reverse, vec_len}
-use Rattle.mpy_lexer.specs.Leasts.{lesser, least}
+use Rattle.mpy_tree.specs.Leasts.{lesser, least}
 use Rattle.mpy_lexer.proofs.LeastLaws.{open_lines}
 use Rattle.mpy_lexer.proofs.brackets.Brackets.least_line.Given as goal
 

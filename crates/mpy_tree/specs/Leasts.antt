@@ -1,4 +1,4 @@
--- The least of some numbers.
+-- The least of some numbers: the first of some lines.
 use Rattle.std.specs.Prelude.{ℕ, min, List, [], ◌∷◌, Option, None, Some}
 
 -- the lesser of two numbers, each of which may be missing

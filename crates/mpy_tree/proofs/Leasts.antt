@@ -1,6 +1,6 @@
 -- The least line, found piece by piece.
 use Rattle.std.proofs.Common.{◌≡◌, ℕ, min, List, [], ◌∷◌, ◌++◌, Option, None, Some, refl, sym, ap, ◌∙◌, arith}
-use Rattle.mpy_lexer.specs.Leasts.{lesser, least}
+use Rattle.mpy_tree.specs.Leasts.{lesser, least}
 
 pub lesser-none : (a : Option ℕ) → lesser a None ≡ a
 lesser-none None = refl
