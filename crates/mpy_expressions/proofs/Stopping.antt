@@ -2,7 +2,7 @@
 use Rattle.std.proofs.Common.{◌≡◌, ℕ, zero, suc, ◌<◌, ◌≤◌, List, [], ◌∷◌, length, Option, Some, None, IfSome, refl, ap, sym, ◌∙◌, arith}
 use Rattle.mpy_tree.specs.declared.levels.Level.{Level}
 use Rattle.mpy_tree.specs.declared.levels.Level.TheVariants as level
-use Rattle.mpy_expressions.specs.Trees.{Trees}
+use Rattle.mpy_expressions.specs.Forms.{Forms}
 use Rattle.mpy_expressions.specs.declared.words.Word.{Word}
 use Rattle.mpy_expressions.specs.declared.words.Word.TheVariants as word
 use Rattle.mpy_expressions.specs.declared.terminals.Terminal.{Terminal}
@@ -144,30 +144,30 @@ no_joint_at level.Sum w h = no_sum w h
 no_joint_at level.Product w h = no_product w h
 no_joint_at _ w h = refl
 
-no_joint_before : {X T : Type 0} (trees : Trees X T) → (k : Level) (w : Word) (ts : List (Terminal X)) → joint_at k w ≡ None → joint_before trees k (terminal.Word w ∷ ts) ≡ None
-no_joint_before trees k w ts h = rw h
+no_joint_before : {X T : Type 0} (forms : Forms X T) → (k : Level) (w : Word) (ts : List (Terminal X)) → joint_at k w ≡ None → joint_before forms k (terminal.Word w ∷ ts) ≡ None
+no_joint_before forms k w ts h = rw h
 
-no_operator : {X T : Type 0} (trees : Trees X T) → (k : Level) (x : X) (ts : List (Terminal X)) → levels_above k < levels_above level.Sum → operator_at trees k x ts ≡ None
-no_operator trees level.Sum x ts h = absurd (omega arith)
-no_operator trees _ x ts h = refl
+no_operator : {X T : Type 0} (forms : Forms X T) → (k : Level) (x : X) (ts : List (Terminal X)) → levels_above k < levels_above level.Sum → operator_at forms k x ts ≡ None
+no_operator forms level.Sum x ts h = absurd (omega arith)
+no_operator forms _ x ts h = refl
 
-no_joint_tail : {X T : Type 0} (trees : Trees X T) → (k : Level) (ts : List (Terminal X)) → joint_before trees k ts ≡ None → joint_tail trees (reading trees) k ts ≡ None
-no_joint_tail trees k ts h = rw h
+no_joint_tail : {X T : Type 0} (forms : Forms X T) → (k : Level) (ts : List (Terminal X)) → joint_before forms k ts ≡ None → joint_tail forms (reading forms) k ts ≡ None
+no_joint_tail forms k ts h = rw h
 
-no_joint : {X T : Type 0} (trees : Trees X T) → (k : Level) (ts : List (Terminal X)) → Stops k ts → joint_tail trees (reading trees) k ts ≡ None
-no_joint trees k (terminal.Word w ∷ ts) h = no_joint_tail trees k (terminal.Word w ∷ ts) (no_joint_before trees k w ts (no_joint_at k w h))
-no_joint trees k [] h = refl
-no_joint trees k (terminal.Name x ∷ ts) h = refl
-no_joint trees k (terminal.Number n ∷ ts) h = refl
-no_joint trees k (terminal.Text cs ∷ ts) h = refl
-no_joint trees k (terminal.Other ∷ ts) h = refl
-no_joint trees k (terminal.Special x ∷ ts) h = refl
-no_joint trees k (terminal.Operator x ∷ ts) h = no_joint_tail trees k (terminal.Operator x ∷ ts) (no_operator trees k x ts h)
-no_joint trees k (terminal.Comparator x ∷ ts) h = refl
+no_joint : {X T : Type 0} (forms : Forms X T) → (k : Level) (ts : List (Terminal X)) → Stops k ts → joint_tail forms (reading forms) k ts ≡ None
+no_joint forms k (terminal.Word w ∷ ts) h = no_joint_tail forms k (terminal.Word w ∷ ts) (no_joint_before forms k w ts (no_joint_at k w h))
+no_joint forms k [] h = refl
+no_joint forms k (terminal.Name x ∷ ts) h = refl
+no_joint forms k (terminal.Number n ∷ ts) h = refl
+no_joint forms k (terminal.Text cs ∷ ts) h = refl
+no_joint forms k (terminal.Other ∷ ts) h = refl
+no_joint forms k (terminal.Special x ∷ ts) h = refl
+no_joint forms k (terminal.Operator x ∷ ts) h = no_joint_tail forms k (terminal.Operator x ∷ ts) (no_operator forms k x ts h)
+no_joint forms k (terminal.Comparator x ∷ ts) h = refl
 
-pub no_more_joints : {X T : Type 0} (trees : Trees X T) → (k : Level) (n : ℕ) (e : T) (ts : List (Terminal X)) → Stops k ts → with_joints trees (reading trees) k n (e, ts) ≡ (e, ts)
-no_more_joints trees k zero e ts h = refl
-no_more_joints trees k (suc n) e ts h = ap (λ o. or_else (o >>= λ j. Some (with_joints trees (reading trees) k n (j.0 e j.1, j.2))) (e, ts)) (no_joint trees k ts h)
+pub no_more_joints : {X T : Type 0} (forms : Forms X T) → (k : Level) (n : ℕ) (e : T) (ts : List (Terminal X)) → Stops k ts → with_joints forms (reading forms) k n (e, ts) ≡ (e, ts)
+no_more_joints forms k zero e ts h = refl
+no_more_joints forms k (suc n) e ts h = ap (λ o. or_else (o >>= λ j. Some (with_joints forms (reading forms) k n (j.0 e j.1, j.2))) (e, ts)) (no_joint forms k ts h)
 
 no_comparison : {X : Type 0} → (ts : List (Terminal X)) → Stops level.Comparison ts → comparison_at ts ≡ None
 no_comparison (terminal.Word word.Equal ∷ ts) h = absurd (omega arith)
@@ -180,105 +180,105 @@ no_comparison (terminal.Word word.In ∷ ts) h = absurd (omega arith)
 no_comparison (terminal.Word word.Not ∷ ts) h = absurd (omega arith)
 no_comparison _ h = refl
 
-no_comparator_word : {X T : Type 0} (trees : Trees X T) → (w : Word) (ts : List (Terminal X)) → comparison_at (terminal.Word w ∷ ts) ≡ None → comparator_at trees (terminal.Word w ∷ ts) ≡ None
-no_comparator_word trees w ts h = ap (λ o. o >>= λ c. Some (trees.Cmp c.0, c.1)) h
+no_comparator_word : {X T : Type 0} (forms : Forms X T) → (w : Word) (ts : List (Terminal X)) → comparison_at (terminal.Word w ∷ ts) ≡ None → comparator_at forms (terminal.Word w ∷ ts) ≡ None
+no_comparator_word forms w ts h = ap (λ o. o >>= λ c. Some (forms.Cmp c.0, c.1)) h
 
-pub no_comparator : {X T : Type 0} (trees : Trees X T) → (ts : List (Terminal X)) → Stops level.Comparison ts → comparator_at trees ts ≡ None
-no_comparator trees (terminal.Comparator x ∷ ts) h = absurd (omega arith)
-no_comparator trees (terminal.Word w ∷ ts) h = no_comparator_word trees w ts (no_comparison (terminal.Word w ∷ ts) h)
-no_comparator trees [] h = refl
-no_comparator trees (terminal.Name x ∷ ts) h = refl
-no_comparator trees (terminal.Number n ∷ ts) h = refl
-no_comparator trees (terminal.Text cs ∷ ts) h = refl
-no_comparator trees (terminal.Special x ∷ ts) h = refl
-no_comparator trees (terminal.Operator x ∷ ts) h = refl
-no_comparator trees (terminal.Other ∷ ts) h = refl
+pub no_comparator : {X T : Type 0} (forms : Forms X T) → (ts : List (Terminal X)) → Stops level.Comparison ts → comparator_at forms ts ≡ None
+no_comparator forms (terminal.Comparator x ∷ ts) h = absurd (omega arith)
+no_comparator forms (terminal.Word w ∷ ts) h = no_comparator_word forms w ts (no_comparison (terminal.Word w ∷ ts) h)
+no_comparator forms [] h = refl
+no_comparator forms (terminal.Name x ∷ ts) h = refl
+no_comparator forms (terminal.Number n ∷ ts) h = refl
+no_comparator forms (terminal.Text cs ∷ ts) h = refl
+no_comparator forms (terminal.Special x ∷ ts) h = refl
+no_comparator forms (terminal.Operator x ∷ ts) h = refl
+no_comparator forms (terminal.Other ∷ ts) h = refl
 
 pub no_power : {X : Type 0} → (ts : List (Terminal X)) → Stops level.Power ts → behind_power ts ≡ None
 no_power (terminal.Word word.DoubleStar ∷ ts) h = absurd (omega arith)
 no_power _ h = refl
 
-no_suffix : {X T : Type 0} (trees : Trees X T) → (ts : List (Terminal X)) → Stops level.Postfix ts → suffix_at (reading trees) ts ≡ None
-no_suffix trees (terminal.Word word.LeftBracket ∷ ts) h = absurd (omega arith)
-no_suffix trees _ h = refl
+no_suffix : {X T : Type 0} (forms : Forms X T) → (ts : List (Terminal X)) → Stops level.Postfix ts → suffix_at (reading forms) ts ≡ None
+no_suffix forms (terminal.Word word.LeftBracket ∷ ts) h = absurd (omega arith)
+no_suffix forms _ h = refl
 
-pub no_more_suffixes : {X T : Type 0} (trees : Trees X T) → (n : ℕ) (e : T) (ts : List (Terminal X)) → Stops level.Postfix ts → with_suffixes trees (reading trees) n (e, ts) ≡ (e, ts)
-no_more_suffixes trees zero e ts h = refl
-no_more_suffixes trees (suc n) e ts h = ap (λ o. or_else (o >>= λ s. Some (with_suffixes trees (reading trees) n (suffixed trees e s.0, s.1))) (e, ts)) (no_suffix trees ts h)
+pub no_more_suffixes : {X T : Type 0} (forms : Forms X T) → (n : ℕ) (e : T) (ts : List (Terminal X)) → Stops level.Postfix ts → with_suffixes forms (reading forms) n (e, ts) ≡ (e, ts)
+no_more_suffixes forms zero e ts h = refl
+no_more_suffixes forms (suc n) e ts h = ap (λ o. or_else (o >>= λ s. Some (with_suffixes forms (reading forms) n (suffixed forms e s.0, s.1))) (e, ts)) (no_suffix forms ts h)
 
-pub no_arguments : {X T : Type 0} (trees : Trees X T) → (ts : List (Terminal X)) → Stops level.Atom ts → arguments (reading trees) ts ≡ None
-no_arguments trees (terminal.Word word.LeftParen ∷ ts) h = absurd (omega arith)
-no_arguments trees _ h = refl
+pub no_arguments : {X T : Type 0} (forms : Forms X T) → (ts : List (Terminal X)) → Stops level.Atom ts → arguments (reading forms) ts ≡ None
+no_arguments forms (terminal.Word word.LeftParen ∷ ts) h = absurd (omega arith)
+no_arguments forms _ h = refl
 
 -- A word with which no expression begins: nothing is read at a level above Negation where it is `not`, above Unary where it is a minus, and at no level where it is another.
-abbrev no_atom : {X T : Type 0} (trees : Trees X T) → Word → Type 0
-no_atom {X} {T} trees w = (ts : List (Terminal X)) → atom trees (reading trees) (terminal.Word w ∷ ts) ≡ None
+abbrev no_atom : {X T : Type 0} (forms : Forms X T) → Word → Type 0
+no_atom {X} {T} forms w = (ts : List (Terminal X)) → atom forms (reading forms) (terminal.Word w ∷ ts) ≡ None
 
-no_atom_reading : {X T : Type 0} (trees : Trees X T) → (w : Word) → no_atom trees w → (ts : List (Terminal X)) → reading trees level.Atom (terminal.Word w ∷ ts) ≡ None
-no_atom_reading trees w h ts = reading_step trees level.Atom (terminal.Word w ∷ ts) ∙ h ts
+no_atom_reading : {X T : Type 0} (forms : Forms X T) → (w : Word) → no_atom forms w → (ts : List (Terminal X)) → reading forms level.Atom (terminal.Word w ∷ ts) ≡ None
+no_atom_reading forms w h ts = reading_step forms level.Atom (terminal.Word w ∷ ts) ∙ h ts
 
-no_postfix_reading : {X T : Type 0} (trees : Trees X T) → (w : Word) → no_atom trees w → (ts : List (Terminal X)) → reading trees level.Postfix (terminal.Word w ∷ ts) ≡ None
-no_postfix_reading trees w h ts = reading_step trees level.Postfix (terminal.Word w ∷ ts) ∙ ap (λ o. o >>= λ a. Some (with_suffixes trees (reading trees) (length a.1) a)) (no_atom_reading trees w h ts)
+no_postfix_reading : {X T : Type 0} (forms : Forms X T) → (w : Word) → no_atom forms w → (ts : List (Terminal X)) → reading forms level.Postfix (terminal.Word w ∷ ts) ≡ None
+no_postfix_reading forms w h ts = reading_step forms level.Postfix (terminal.Word w ∷ ts) ∙ ap (λ o. o >>= λ a. Some (with_suffixes forms (reading forms) (length a.1) a)) (no_atom_reading forms w h ts)
 
-no_power_reading : {X T : Type 0} (trees : Trees X T) → (w : Word) → no_atom trees w → (ts : List (Terminal X)) → reading trees level.Power (terminal.Word w ∷ ts) ≡ None
-no_power_reading trees w h ts = reading_step trees level.Power (terminal.Word w ∷ ts) ∙ ap (λ o. o >>= λ a. Some (with_power trees (reading trees) a)) (no_postfix_reading trees w h ts)
+no_power_reading : {X T : Type 0} (forms : Forms X T) → (w : Word) → no_atom forms w → (ts : List (Terminal X)) → reading forms level.Power (terminal.Word w ∷ ts) ≡ None
+no_power_reading forms w h ts = reading_step forms level.Power (terminal.Word w ∷ ts) ∙ ap (λ o. o >>= λ a. Some (with_power forms (reading forms) a)) (no_postfix_reading forms w h ts)
 
-no_unary_reading : {X T : Type 0} (trees : Trees X T) → (w : Word) → no_atom trees w → ((ts : List (Terminal X)) → behind_minus (terminal.Word w ∷ ts) ≡ None) → (ts : List (Terminal X)) → reading trees level.Unary (terminal.Word w ∷ ts) ≡ None
-no_unary_reading {X} {T} trees w h m ts = reading_step trees level.Unary (terminal.Word w ∷ ts)
-    ∙ ap (λ o. elim o as (λ _. Option (T × List (Terminal X))) [ Some rest ↦ (reading trees level.Unary rest >>= λ e. Some (trees.Neg e.0, e.1)) | None ↦ reading trees level.Power (terminal.Word w ∷ ts) ]) (m ts)
-    ∙ no_power_reading trees w h ts
+no_unary_reading : {X T : Type 0} (forms : Forms X T) → (w : Word) → no_atom forms w → ((ts : List (Terminal X)) → behind_minus (terminal.Word w ∷ ts) ≡ None) → (ts : List (Terminal X)) → reading forms level.Unary (terminal.Word w ∷ ts) ≡ None
+no_unary_reading {X} {T} forms w h m ts = reading_step forms level.Unary (terminal.Word w ∷ ts)
+    ∙ ap (λ o. elim o as (λ _. Option (T × List (Terminal X))) [ Some rest ↦ (reading forms level.Unary rest >>= λ e. Some (forms.Neg e.0, e.1)) | None ↦ reading forms level.Power (terminal.Word w ∷ ts) ]) (m ts)
+    ∙ no_power_reading forms w h ts
 
-no_product_reading : {X T : Type 0} (trees : Trees X T) → (w : Word) → no_atom trees w → ((ts : List (Terminal X)) → behind_minus (terminal.Word w ∷ ts) ≡ None) → (ts : List (Terminal X)) → reading trees level.Product (terminal.Word w ∷ ts) ≡ None
-no_product_reading trees w h m ts = reading_step trees level.Product (terminal.Word w ∷ ts) ∙ ap (λ o. o >>= λ a. Some (with_joints trees (reading trees) level.Product (length a.1) a)) (no_unary_reading trees w h m ts)
+no_product_reading : {X T : Type 0} (forms : Forms X T) → (w : Word) → no_atom forms w → ((ts : List (Terminal X)) → behind_minus (terminal.Word w ∷ ts) ≡ None) → (ts : List (Terminal X)) → reading forms level.Product (terminal.Word w ∷ ts) ≡ None
+no_product_reading forms w h m ts = reading_step forms level.Product (terminal.Word w ∷ ts) ∙ ap (λ o. o >>= λ a. Some (with_joints forms (reading forms) level.Product (length a.1) a)) (no_unary_reading forms w h m ts)
 
-no_sum_reading : {X T : Type 0} (trees : Trees X T) → (w : Word) → no_atom trees w → ((ts : List (Terminal X)) → behind_minus (terminal.Word w ∷ ts) ≡ None) → (ts : List (Terminal X)) → reading trees level.Sum (terminal.Word w ∷ ts) ≡ None
-no_sum_reading trees w h m ts = reading_step trees level.Sum (terminal.Word w ∷ ts) ∙ ap (λ o. o >>= λ a. Some (with_joints trees (reading trees) level.Sum (length a.1) a)) (no_product_reading trees w h m ts)
+no_sum_reading : {X T : Type 0} (forms : Forms X T) → (w : Word) → no_atom forms w → ((ts : List (Terminal X)) → behind_minus (terminal.Word w ∷ ts) ≡ None) → (ts : List (Terminal X)) → reading forms level.Sum (terminal.Word w ∷ ts) ≡ None
+no_sum_reading forms w h m ts = reading_step forms level.Sum (terminal.Word w ∷ ts) ∙ ap (λ o. o >>= λ a. Some (with_joints forms (reading forms) level.Sum (length a.1) a)) (no_product_reading forms w h m ts)
 
-no_comparison_reading : {X T : Type 0} (trees : Trees X T) → (w : Word) → no_atom trees w → ((ts : List (Terminal X)) → behind_minus (terminal.Word w ∷ ts) ≡ None) → (ts : List (Terminal X)) → reading trees level.Comparison (terminal.Word w ∷ ts) ≡ None
-no_comparison_reading trees w h m ts = reading_step trees level.Comparison (terminal.Word w ∷ ts) ∙ ap (λ o. o >>= λ a. Some (with_comparison trees (reading trees) a)) (no_sum_reading trees w h m ts)
+no_comparison_reading : {X T : Type 0} (forms : Forms X T) → (w : Word) → no_atom forms w → ((ts : List (Terminal X)) → behind_minus (terminal.Word w ∷ ts) ≡ None) → (ts : List (Terminal X)) → reading forms level.Comparison (terminal.Word w ∷ ts) ≡ None
+no_comparison_reading forms w h m ts = reading_step forms level.Comparison (terminal.Word w ∷ ts) ∙ ap (λ o. o >>= λ a. Some (with_comparison forms (reading forms) a)) (no_sum_reading forms w h m ts)
 
-no_reading : {X T : Type 0} (trees : Trees X T) → (w : Word) → no_atom trees w → ((ts : List (Terminal X)) → behind_minus (terminal.Word w ∷ ts) ≡ None) → ((ts : List (Terminal X)) → behind_not (terminal.Word w ∷ ts) ≡ None) → (ts : List (Terminal X)) → reading trees level.Conditional (terminal.Word w ∷ ts) ≡ None
-no_reading {X} {T} trees w h m n ts =
-    (reading_step trees) level.Conditional (terminal.Word w ∷ ts) ∙ ap (λ o. o >>= λ a. Some (with_conditional_tail trees (reading trees) a))
-    (reading_step trees level.Disjunction (terminal.Word w ∷ ts) ∙ ap (λ o. o >>= λ a. Some (with_joints trees (reading trees) level.Disjunction (length a.1) a))
-    (reading_step trees level.Conjunction (terminal.Word w ∷ ts) ∙ ap (λ o. o >>= λ a. Some (with_joints trees (reading trees) level.Conjunction (length a.1) a))
-    (reading_step trees level.Negation (terminal.Word w ∷ ts)
-    ∙ ap (λ o. elim o as (λ _. Option (T × List (Terminal X))) [ Some rest ↦ (reading trees level.Negation rest >>= λ e. Some (trees.Not e.0, e.1)) | None ↦ reading trees level.Comparison (terminal.Word w ∷ ts) ]) (n ts)
-    ∙ no_comparison_reading trees w h m ts)))
+no_reading : {X T : Type 0} (forms : Forms X T) → (w : Word) → no_atom forms w → ((ts : List (Terminal X)) → behind_minus (terminal.Word w ∷ ts) ≡ None) → ((ts : List (Terminal X)) → behind_not (terminal.Word w ∷ ts) ≡ None) → (ts : List (Terminal X)) → reading forms level.Conditional (terminal.Word w ∷ ts) ≡ None
+no_reading {X} {T} forms w h m n ts =
+    (reading_step forms) level.Conditional (terminal.Word w ∷ ts) ∙ ap (λ o. o >>= λ a. Some (with_conditional_tail forms (reading forms) a))
+    (reading_step forms level.Disjunction (terminal.Word w ∷ ts) ∙ ap (λ o. o >>= λ a. Some (with_joints forms (reading forms) level.Disjunction (length a.1) a))
+    (reading_step forms level.Conjunction (terminal.Word w ∷ ts) ∙ ap (λ o. o >>= λ a. Some (with_joints forms (reading forms) level.Conjunction (length a.1) a))
+    (reading_step forms level.Negation (terminal.Word w ∷ ts)
+    ∙ ap (λ o. elim o as (λ _. Option (T × List (Terminal X))) [ Some rest ↦ (reading forms level.Negation rest >>= λ e. Some (forms.Not e.0, e.1)) | None ↦ reading forms level.Comparison (terminal.Word w ∷ ts) ]) (n ts)
+    ∙ no_comparison_reading forms w h m ts)))
 
 -- what is read doesn't begin with such a word
-pub not_first : {X T : Type 0} (trees : Trees X T) → (b : List (Terminal X) → Option (List (Terminal X))) (k : Level) (ts : List (Terminal X)) (x : T × List (Terminal X)) → IfSome (b ts) (λ rest. reading trees k ts ≡ None) → reading trees k ts ≡ Some x → b ts ≡ None
-not_first {X} {T} trees b k ts x h e = by (b ts) refl h
+pub not_first : {X T : Type 0} (forms : Forms X T) → (b : List (Terminal X) → Option (List (Terminal X))) (k : Level) (ts : List (Terminal X)) (x : T × List (Terminal X)) → IfSome (b ts) (λ rest. reading forms k ts ≡ None) → reading forms k ts ≡ Some x → b ts ≡ None
+not_first {X} {T} forms b k ts x h e = by (b ts) refl h
   where
-    by : (o : Option (List (Terminal X))) → b ts ≡ o → IfSome o (λ rest. reading trees k ts ≡ None) → b ts ≡ None
+    by : (o : Option (List (Terminal X))) → b ts ≡ o → IfSome o (λ rest. reading forms k ts ≡ None) → b ts ≡ None
     by None p q = p
     by (Some rest) p q = absurd (let z : None ≡ Some x = sym q ∙ e in cc)
 
-pub never_not : {X T : Type 0} (trees : Trees X T) → (ts : List (Terminal X)) → IfSome (behind_not ts) (λ rest. reading trees level.Comparison ts ≡ None)
-never_not trees (terminal.Word word.Not ∷ ts) = no_comparison_reading trees word.Not (λ us. refl) (λ us. refl) ts
-never_not trees _ = tt
+pub never_not : {X T : Type 0} (forms : Forms X T) → (ts : List (Terminal X)) → IfSome (behind_not ts) (λ rest. reading forms level.Comparison ts ≡ None)
+never_not forms (terminal.Word word.Not ∷ ts) = no_comparison_reading forms word.Not (λ us. refl) (λ us. refl) ts
+never_not forms _ = tt
 
-pub never_minus : {X T : Type 0} (trees : Trees X T) → (ts : List (Terminal X)) → IfSome (behind_minus ts) (λ rest. reading trees level.Power ts ≡ None)
-never_minus trees (terminal.Word word.Minus ∷ ts) = no_power_reading trees word.Minus (λ us. refl) ts
-never_minus trees _ = tt
+pub never_minus : {X T : Type 0} (forms : Forms X T) → (ts : List (Terminal X)) → IfSome (behind_minus ts) (λ rest. reading forms level.Power ts ≡ None)
+never_minus forms (terminal.Word word.Minus ∷ ts) = no_power_reading forms word.Minus (λ us. refl) ts
+never_minus forms _ = tt
 
-pub never_colon : {X T : Type 0} (trees : Trees X T) → (ts : List (Terminal X)) → IfSome (behind_colon ts) (λ rest. reading trees level.Conditional ts ≡ None)
-never_colon trees (terminal.Word word.Colon ∷ ts) = no_reading trees word.Colon (λ us. refl) (λ us. refl) (λ us. refl) ts
-never_colon trees _ = tt
+pub never_colon : {X T : Type 0} (forms : Forms X T) → (ts : List (Terminal X)) → IfSome (behind_colon ts) (λ rest. reading forms level.Conditional ts ≡ None)
+never_colon forms (terminal.Word word.Colon ∷ ts) = no_reading forms word.Colon (λ us. refl) (λ us. refl) (λ us. refl) ts
+never_colon forms _ = tt
 
-pub never_closing_bracket : {X T : Type 0} (trees : Trees X T) → (ts : List (Terminal X)) → IfSome (behind_closing_bracket ts) (λ rest. reading trees level.Conditional ts ≡ None)
-never_closing_bracket trees (terminal.Word word.RightBracket ∷ ts) = no_reading trees word.RightBracket (λ us. refl) (λ us. refl) (λ us. refl) ts
-never_closing_bracket trees _ = tt
+pub never_closing_bracket : {X T : Type 0} (forms : Forms X T) → (ts : List (Terminal X)) → IfSome (behind_closing_bracket ts) (λ rest. reading forms level.Conditional ts ≡ None)
+never_closing_bracket forms (terminal.Word word.RightBracket ∷ ts) = no_reading forms word.RightBracket (λ us. refl) (λ us. refl) (λ us. refl) ts
+never_closing_bracket forms _ = tt
 
-never_closing_paren : {X T : Type 0} (trees : Trees X T) → (ts : List (Terminal X)) → IfSome (behind_closing_paren ts) (λ rest. reading trees level.Conditional ts ≡ None)
-never_closing_paren trees (terminal.Word word.RightParen ∷ ts) = no_reading trees word.RightParen (λ us. refl) (λ us. refl) (λ us. refl) ts
-never_closing_paren trees _ = tt
+never_closing_paren : {X T : Type 0} (forms : Forms X T) → (ts : List (Terminal X)) → IfSome (behind_closing_paren ts) (λ rest. reading forms level.Conditional ts ≡ None)
+never_closing_paren forms (terminal.Word word.RightParen ∷ ts) = no_reading forms word.RightParen (λ us. refl) (λ us. refl) (λ us. refl) ts
+never_closing_paren forms _ = tt
 
-never_closing_brace : {X T : Type 0} (trees : Trees X T) → (ts : List (Terminal X)) → IfSome (behind_closing_brace ts) (λ rest. reading trees level.Conditional ts ≡ None)
-never_closing_brace trees (terminal.Word word.RightBrace ∷ ts) = no_reading trees word.RightBrace (λ us. refl) (λ us. refl) (λ us. refl) ts
-never_closing_brace trees _ = tt
+never_closing_brace : {X T : Type 0} (forms : Forms X T) → (ts : List (Terminal X)) → IfSome (behind_closing_brace ts) (λ rest. reading forms level.Conditional ts ≡ None)
+never_closing_brace forms (terminal.Word word.RightBrace ∷ ts) = no_reading forms word.RightBrace (λ us. refl) (λ us. refl) (λ us. refl) ts
+never_closing_brace forms _ = tt
 
-pub never_closed : {X T : Type 0} (trees : Trees X T) → (b : Bracket) (ts : List (Terminal X)) → IfSome (closed b ts) (λ rest. reading trees level.Conditional ts ≡ None)
-never_closed trees bracket.Round ts = never_closing_paren trees ts
-never_closed trees bracket.Square ts = never_closing_bracket trees ts
-never_closed trees bracket.Curly ts = never_closing_brace trees ts
+pub never_closed : {X T : Type 0} (forms : Forms X T) → (b : Bracket) (ts : List (Terminal X)) → IfSome (closed b ts) (λ rest. reading forms level.Conditional ts ≡ None)
+never_closed forms bracket.Round ts = never_closing_paren forms ts
+never_closed forms bracket.Square ts = never_closing_bracket forms ts
+never_closed forms bracket.Curly ts = never_closing_brace forms ts

@@ -4,5 +4,5 @@ pub mod Longest
 pub mod Programs
 pub mod Reading
 pub mod Terminals
-pub mod Trees
+pub mod Forms
 pub mod Views

@@ -1,11 +1,11 @@
--- The trees of programs, which have no holes, no sets, and no operators but those of the words.
+-- The expressions of programs: no holes, no sets, and no operators but those of the words.
 use Rattle.std.specs.Prelude.{Option, None}
 use Rattle.mpy_tree.specs.Syntax.{Term}
 use Rattle.mpy_tree.specs.Syntax as ast
 use Rattle.mpy_tree.specs.View.{end_by, terms}
-use Rattle.mpy_expressions.specs.Trees.{Trees}
+use Rattle.mpy_expressions.specs.Forms.{Forms}
 
-abbrev pub programs : Trees Unit Term
+abbrev pub programs : Forms Unit Term
 programs = record {
   Int = ast.Int;
   Text = ast.Text;

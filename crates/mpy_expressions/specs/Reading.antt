@@ -9,7 +9,7 @@ use Rattle.mpy_tree.specs.declared.operators.CmpOp.TheVariants.{Eq, Ne, Lt, Le, 
 use Rattle.mpy_tree.specs.declared.operators.CmpOp.TheVariants.{NotMember}
 use Rattle.mpy_tree.specs.declared.levels.Level.{Level}
 use Rattle.mpy_tree.specs.declared.levels.Level.TheVariants as level
-use Rattle.mpy_expressions.specs.Trees.{Trees}
+use Rattle.mpy_expressions.specs.Forms.{Forms}
 use Rattle.mpy_expressions.specs.declared.joints.Joint.{Joint}
 use Rattle.mpy_expressions.specs.declared.joints.Joint.TheVariants as joint
 use Rattle.mpy_expressions.specs.declared.words.Word.TheVariants as word
@@ -97,35 +97,35 @@ comparison_at (terminal.Word word.In ∷ ts) = Some (Member, ts)
 comparison_at (terminal.Word word.Not ∷ terminal.Word word.In ∷ ts) = Some (NotMember, ts)
 comparison_at _ = None
 
-abbrev pub joined : {X T : Type 0} (trees : Trees X T) → Joint → T → T → T
-joined trees joint.Or a b = trees.Or a b
-joined trees joint.And a b = trees.And a b
-joined trees (joint.Arith op) a b = trees.Arith op a b
-joined trees (joint.Cmp op) a b = trees.Cmp op a b
+abbrev pub joined : {X T : Type 0} (forms : Forms X T) → Joint → T → T → T
+joined forms joint.Or a b = forms.Or a b
+joined forms joint.And a b = forms.And a b
+joined forms (joint.Arith op) a b = forms.Arith op a b
+joined forms (joint.Cmp op) a b = forms.Cmp op a b
 
 -- what a terminal stands for, if it stands for something, and what stands behind it
 abbrev pub followed_by : {A X : Type 0}
     → Option A → List (Terminal X) → Option (A × List (Terminal X))
 followed_by o ts = o >>= λ a. Some (a, ts)
 
--- an operator that only some trees have, and what stands behind it
-abbrev pub operator_at : {X T : Type 0} (trees : Trees X T)
+-- an operator that only some kinds of expression have, and what stands behind it
+abbrev pub operator_at : {X T : Type 0} (forms : Forms X T)
     → Level → X → List (Terminal X) → Option ((T → T → T) × List (Terminal X))
-operator_at trees level.Sum x ts = followed_by (trees.Operator x) ts
-operator_at trees _ x ts = None
+operator_at forms level.Sum x ts = followed_by (forms.Operator x) ts
+operator_at forms _ x ts = None
 
 -- what joins parts at the level, by what it builds, and what stands behind it
-abbrev pub joint_before : {X T : Type 0} (trees : Trees X T)
+abbrev pub joint_before : {X T : Type 0} (forms : Forms X T)
     → Level → List (Terminal X) → Option ((T → T → T) × List (Terminal X))
-joint_before trees k (terminal.Word w ∷ ts) = joint_at k w >>= λ j. Some (joined trees j, ts)
-joint_before trees k (terminal.Operator x ∷ ts) = operator_at trees k x ts
-joint_before trees k _ = None
+joint_before forms k (terminal.Word w ∷ ts) = joint_at k w >>= λ j. Some (joined forms j, ts)
+joint_before forms k (terminal.Operator x ∷ ts) = operator_at forms k x ts
+joint_before forms k _ = None
 
 -- what compares parts, by what it builds, and what stands behind it
-abbrev pub comparator_at : {X T : Type 0} (trees : Trees X T)
+abbrev pub comparator_at : {X T : Type 0} (forms : Forms X T)
     → List (Terminal X) → Option ((T → T → T) × List (Terminal X))
-comparator_at trees (terminal.Comparator x ∷ ts) = followed_by (trees.Comparator x) ts
-comparator_at trees ts = comparison_at ts >>= λ c. Some (trees.Cmp c.0, c.1)
+comparator_at forms (terminal.Comparator x ∷ ts) = followed_by (forms.Comparator x) ts
+comparator_at forms ts = comparison_at ts >>= λ c. Some (forms.Cmp c.0, c.1)
 
 -- the rest of a conditional: its test, its other value, and what stands behind it
 abbrev pub conditional_tail : {X T : Type 0} → Reader X T → List (Terminal X)
@@ -137,56 +137,56 @@ conditional_tail read ts = do
   b ← read level.Conditional at_no
   Some (t.0, b.0, b.1)
 
-abbrev pub with_conditional_tail : {X T : Type 0} (trees : Trees X T) → Reader X T
+abbrev pub with_conditional_tail : {X T : Type 0} (forms : Forms X T) → Reader X T
     → T × List (Terminal X) → T × List (Terminal X)
-with_conditional_tail trees read a =
-    or_else (conditional_tail read a.1 >>= λ c. Some (trees.Cond c.0 a.0 c.1, c.2)) a
+with_conditional_tail forms read a =
+    or_else (conditional_tail read a.1 >>= λ c. Some (forms.Cond c.0 a.0 c.1, c.2)) a
 
 -- zero or more joints of the level, each with what stands right of it
-abbrev pub joint_tail : {X T : Type 0} (trees : Trees X T)
+abbrev pub joint_tail : {X T : Type 0} (forms : Forms X T)
     → Reader X T → Level → List (Terminal X) → Option ((T → T → T) × T × List (Terminal X))
-joint_tail trees read k ts = do
-  j ← joint_before trees k ts
+joint_tail forms read k ts = do
+  j ← joint_before forms k ts
   b ← read (above k) j.1
   Some (j.0, b.0, b.1)
 
-abbrev pub with_joints : {X T : Type 0} (trees : Trees X T) → Reader X T → Level → ℕ
+abbrev pub with_joints : {X T : Type 0} (forms : Forms X T) → Reader X T → Level → ℕ
     → T × List (Terminal X) → T × List (Terminal X)
-with_joints trees read k zero a = a
-with_joints trees read k (suc n) a =
+with_joints forms read k zero a = a
+with_joints forms read k (suc n) a =
     or_else
-    (joint_tail trees read k a.1 >>= λ j. Some (with_joints trees read k n (j.0 a.0 j.1, j.2))) a
+    (joint_tail forms read k a.1 >>= λ j. Some (with_joints forms read k n (j.0 a.0 j.1, j.2))) a
 
-abbrev pub comparison_tail : {X T : Type 0} (trees : Trees X T)
+abbrev pub comparison_tail : {X T : Type 0} (forms : Forms X T)
     → Reader X T → List (Terminal X) → Option ((T → T → T) × T × List (Terminal X))
-comparison_tail trees read ts = do
-  op ← comparator_at trees ts
+comparison_tail forms read ts = do
+  op ← comparator_at forms ts
   b ← read level.Sum op.1
   Some (op.0, b.0, b.1)
 
-abbrev pub with_comparison : {X T : Type 0} (trees : Trees X T) → Reader X T
+abbrev pub with_comparison : {X T : Type 0} (forms : Forms X T) → Reader X T
     → T × List (Terminal X) → T × List (Terminal X)
-with_comparison trees read a =
-    or_else (comparison_tail trees read a.1 >>= λ c. Some (c.0 a.0 c.1, c.2)) a
+with_comparison forms read a =
+    or_else (comparison_tail forms read a.1 >>= λ c. Some (c.0 a.0 c.1, c.2)) a
 
 abbrev pub power_tail : {X T : Type 0} → Reader X T → List (Terminal X) → Reading X T
 power_tail read ts = do
   at_exponent ← behind_power ts
   read level.Unary at_exponent
 
-abbrev pub with_power : {X T : Type 0} (trees : Trees X T) → Reader X T → T × List (Terminal X)
+abbrev pub with_power : {X T : Type 0} (forms : Forms X T) → Reader X T → T × List (Terminal X)
     → T × List (Terminal X)
-with_power trees read a =
-    or_else (power_tail read a.1 >>= λ b. Some (trees.Arith Power a.0 b.0, b.1)) a
+with_power forms read a =
+    or_else (power_tail read a.1 >>= λ b. Some (forms.Arith Power a.0 b.0, b.1)) a
 
 -- what stands behind a value in brackets
 pub data Suffix (T : Type 0) : Type 0 where
   by_index : (i : T) → Suffix T
   by_ends : (from to : Option T) → Suffix T
 
-abbrev pub suffixed : {X T : Type 0} (trees : Trees X T) → T → (Suffix T) → T
-suffixed trees v (by_index i) = trees.Index v i
-suffixed trees v (by_ends from to) = trees.Slice v from to
+abbrev pub suffixed : {X T : Type 0} (forms : Forms X T) → T → (Suffix T) → T
+suffixed forms v (by_index i) = forms.Index v i
+suffixed forms v (by_ends from to) = forms.Slice v from to
 
 -- the second end of a slice, and the closing bracket
 abbrev pub second_end : {X T : Type 0} → Reader X T → List (Terminal X)
@@ -229,12 +229,12 @@ suffix_at read ts = do
   inside ← behind_bracket ts
   in_brackets read inside
 
-abbrev pub with_suffixes : {X T : Type 0} (trees : Trees X T) → Reader X T → ℕ
+abbrev pub with_suffixes : {X T : Type 0} (forms : Forms X T) → Reader X T → ℕ
     → T × List (Terminal X) → T × List (Terminal X)
-with_suffixes trees read zero v = v
-with_suffixes trees read (suc n) v =
+with_suffixes forms read zero v = v
+with_suffixes forms read (suc n) v =
     or_else
-    (suffix_at read v.1 >>= λ s. Some (with_suffixes trees read n (suffixed trees v.0 s.0, s.1))) v
+    (suffix_at read v.1 >>= λ s. Some (with_suffixes forms read n (suffixed forms v.0 s.0, s.1))) v
 
 -- what stands behind a closing bracket
 abbrev pub closed : {X : Type 0} → Bracket → List (Terminal X) → Option (List (Terminal X))
@@ -270,10 +270,10 @@ arguments read ts = do
   inside ← behind_paren ts
   elements read bracket.Round inside
 
-abbrev pub name_or_call : {X T : Type 0} (trees : Trees X T) → Reader X T → List ℕ
+abbrev pub name_or_call : {X T : Type 0} (forms : Forms X T) → Reader X T → List ℕ
     → List (Terminal X) → T × List (Terminal X)
-name_or_call trees read x ts =
-    or_else (arguments read ts >>= λ es. Some (trees.Call x es.0, es.1)) (trees.Name x, ts)
+name_or_call forms read x ts =
+    or_else (arguments read ts >>= λ es. Some (forms.Call x es.0, es.1)) (forms.Name x, ts)
 
 abbrev pub parenthesized : {X T : Type 0} → Reader X T → List (Terminal X) → Reading X T
 parenthesized read ts = do
@@ -282,28 +282,28 @@ parenthesized read ts = do
   Some (e.0, rest)
 
 -- a set, where it may stand
-abbrev pub set : {X T : Type 0} (trees : Trees X T) → Reader X T → List (Terminal X) → Reading X T
-set trees read ts = do
+abbrev pub set : {X T : Type 0} (forms : Forms X T) → Reader X T → List (Terminal X) → Reading X T
+set forms read ts = do
   es ← elements read bracket.Curly ts
-  e ← trees.Set es.0
+  e ← forms.Set es.0
   Some (e, es.1)
 
 -- what a hole stands for
-abbrev pub special : {X T : Type 0} (trees : Trees X T) → X → List (Terminal X) → Reading X T
-special trees x ts = followed_by (trees.Hole x) ts
+abbrev pub special : {X T : Type 0} (forms : Forms X T) → X → List (Terminal X) → Reading X T
+special forms x ts = followed_by (forms.Hole x) ts
 
-abbrev pub atom : {X T : Type 0} (trees : Trees X T) → Reader X T → List (Terminal X) → Reading X T
-atom trees read (terminal.Number n ∷ ts) = Some (trees.Int n, ts)
-atom trees read (terminal.Text cs ∷ ts) = Some (trees.Text cs, ts)
-atom trees read (terminal.Word word.True ∷ ts) = Some (trees.Bool true, ts)
-atom trees read (terminal.Word word.False ∷ ts) = Some (trees.Bool false, ts)
-atom trees read (terminal.Special x ∷ ts) = special trees x ts
-atom trees read (terminal.Name x ∷ ts) = Some (name_or_call trees read x ts)
-atom trees read (terminal.Word word.LeftBracket ∷ ts) =
-    elements read bracket.Square ts >>= λ es. Some (trees.List es.0, es.1)
-atom trees read (terminal.Word word.LeftBrace ∷ ts) = set trees read ts
-atom trees read (terminal.Word word.LeftParen ∷ ts) = parenthesized read ts
-atom trees read _ = None
+abbrev pub atom : {X T : Type 0} (forms : Forms X T) → Reader X T → List (Terminal X) → Reading X T
+atom forms read (terminal.Number n ∷ ts) = Some (forms.Int n, ts)
+atom forms read (terminal.Text cs ∷ ts) = Some (forms.Text cs, ts)
+atom forms read (terminal.Word word.True ∷ ts) = Some (forms.Bool true, ts)
+atom forms read (terminal.Word word.False ∷ ts) = Some (forms.Bool false, ts)
+atom forms read (terminal.Special x ∷ ts) = special forms x ts
+atom forms read (terminal.Name x ∷ ts) = Some (name_or_call forms read x ts)
+atom forms read (terminal.Word word.LeftBracket ∷ ts) =
+    elements read bracket.Square ts >>= λ es. Some (forms.List es.0, es.1)
+atom forms read (terminal.Word word.LeftBrace ∷ ts) = set forms read ts
+atom forms read (terminal.Word word.LeftParen ∷ ts) = parenthesized read ts
+atom forms read _ = None
 
 -- an operator that may stand before what it takes
 abbrev pub prefixed : {X T : Type 0} → Reader X T → Level
@@ -317,32 +317,32 @@ prefixed read k behind f ts = elim (behind ts) [
 ]
 
 -- reading at each level, by a reader for the parts
-abbrev pub at_level : {X T : Type 0} (trees : Trees X T) → Reader X T → Level
+abbrev pub at_level : {X T : Type 0} (forms : Forms X T) → Reader X T → Level
     → List (Terminal X) → Reading X T
-at_level trees read level.Conditional ts =
-    read level.Disjunction ts >>= λ a. Some (with_conditional_tail trees read a)
-at_level trees read level.Disjunction ts =
+at_level forms read level.Conditional ts =
+    read level.Disjunction ts >>= λ a. Some (with_conditional_tail forms read a)
+at_level forms read level.Disjunction ts =
     read level.Conjunction ts
-    >>= λ a. Some (with_joints trees read level.Disjunction (length a.1) a)
-at_level trees read level.Conjunction ts =
-    read level.Negation ts >>= λ a. Some (with_joints trees read level.Conjunction (length a.1) a)
-at_level trees read level.Negation ts = prefixed read level.Negation behind_not trees.Not ts
-at_level trees read level.Comparison ts =
-    read level.Sum ts >>= λ a. Some (with_comparison trees read a)
-at_level trees read level.Sum ts =
-    read level.Product ts >>= λ a. Some (with_joints trees read level.Sum (length a.1) a)
-at_level trees read level.Product ts =
-    read level.Unary ts >>= λ a. Some (with_joints trees read level.Product (length a.1) a)
-at_level trees read level.Unary ts = prefixed read level.Unary behind_minus trees.Neg ts
-at_level trees read level.Power ts = read level.Postfix ts >>= λ a. Some (with_power trees read a)
-at_level trees read level.Postfix ts =
-    read level.Atom ts >>= λ a. Some (with_suffixes trees read (length a.1) a)
-at_level trees read level.Atom ts = atom trees read ts
+    >>= λ a. Some (with_joints forms read level.Disjunction (length a.1) a)
+at_level forms read level.Conjunction ts =
+    read level.Negation ts >>= λ a. Some (with_joints forms read level.Conjunction (length a.1) a)
+at_level forms read level.Negation ts = prefixed read level.Negation behind_not forms.Not ts
+at_level forms read level.Comparison ts =
+    read level.Sum ts >>= λ a. Some (with_comparison forms read a)
+at_level forms read level.Sum ts =
+    read level.Product ts >>= λ a. Some (with_joints forms read level.Sum (length a.1) a)
+at_level forms read level.Product ts =
+    read level.Unary ts >>= λ a. Some (with_joints forms read level.Product (length a.1) a)
+at_level forms read level.Unary ts = prefixed read level.Unary behind_minus forms.Neg ts
+at_level forms read level.Power ts = read level.Postfix ts >>= λ a. Some (with_power forms read a)
+at_level forms read level.Postfix ts =
+    read level.Atom ts >>= λ a. Some (with_suffixes forms read (length a.1) a)
+at_level forms read level.Atom ts = atom forms read ts
 
 -- reading by so many steps at most
-abbrev pub read_within : {X T : Type 0} (trees : Trees X T) → ℕ → Reader X T
-read_within trees zero k ts = None
-read_within trees (suc n) k ts = at_level trees (read_within trees n) k ts
+abbrev pub read_within : {X T : Type 0} (forms : Forms X T) → ℕ → Reader X T
+read_within forms zero k ts = None
+read_within forms (suc n) k ts = at_level forms (read_within forms n) k ts
 
 -- how many levels bind closer
 abbrev pub levels_above : Level → ℕ
@@ -362,5 +362,5 @@ levels_above level.Atom = 0
 abbrev pub steps : {X : Type 0} → Level → List (Terminal X) → ℕ
 steps k ts = suc (11 * length ts + levels_above k)
 
-unfoldable pub reading : {X T : Type 0} (trees : Trees X T) → Reader X T
-reading trees k ts = read_within trees (steps k ts) k ts
+unfoldable pub reading : {X T : Type 0} (forms : Forms X T) → Reader X T
+reading forms k ts = read_within forms (steps k ts) k ts

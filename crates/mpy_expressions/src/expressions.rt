@@ -16,7 +16,7 @@ use crate::NoMemory;
 use crate::joints::{Joint, joint_at};
 use crate::terminals::Terminal;
 use crate::terms::{Bracket, Link, Suffix, join, with_suffix};
-use crate::tree::Tree;
+use crate::forms::Forms;
 use crate::words::Word;
 use mpy_tree::{ArithOp, CmpOp, Level, Name};
 use std::alloc::Global;
@@ -104,12 +104,12 @@ fn beside<A: Drop, B>(
 /// The longest expression of the level at the front, and what stands behind it.
 #[cycle(expression)]
 #[tactic(auto, using(crate::proofs::Readings::reading_step))]
-pub fn expression<T: Tree>(
+pub fn expression<T: Forms>(
     alloc: Global,
     level: Level,
     ts: &[Terminal<T::Hole>],
 ) -> Result<Option<(T, &[Terminal<T::Hole>])>, NoMemory>
-    ensures same { IfOk result (λ r. option_map (λ x. (T.plain x.0, x.1.now)) r ≡ reading T.trees level ts.now) }
+    ensures same { IfOk result (λ r. option_map (λ x. (T.plain x.0, x.1.now)) r ≡ reading T.forms level ts.now) }
     ensures shorter { IfOk result (λ r. IfSome r (λ x. length x.1.now < length ts.now)) }
 {
     match level {
@@ -126,11 +126,11 @@ pub fn expression<T: Tree>(
 }
 
 #[cycle(expression)]
-fn conditional<T: Tree>(
+fn conditional<T: Forms>(
     alloc: Global,
     ts: &[Terminal<T::Hole>],
 ) -> Result<Option<(T, &[Terminal<T::Hole>])>, NoMemory>
-    ensures same { IfOk result (λ r. option_map (λ x. (T.plain x.0, x.1.now)) r ≡ at_level T.trees (reading T.trees) level.Conditional ts.now) }
+    ensures same { IfOk result (λ r. option_map (λ x. (T.plain x.0, x.1.now)) r ≡ at_level T.forms (reading T.forms) level.Conditional ts.now) }
     ensures shorter { IfOk result (λ r. IfSome r (λ x. length x.1.now < length ts.now)) }
 {
     let Some((yes, rest)) = expression::<T>(alloc, Level::Disjunction, ts)? else {
@@ -143,11 +143,11 @@ fn conditional<T: Tree>(
 }
 
 #[cycle(expression)]
-fn conditional_tail<T: Tree>(
+fn conditional_tail<T: Forms>(
     alloc: Global,
     ts: &[Terminal<T::Hole>],
 ) -> Result<Option<(T, T, &[Terminal<T::Hole>])>, NoMemory>
-    ensures same { IfOk result (λ r. option_map (λ x. (T.plain x.0, T.plain x.1, x.2.now)) r ≡ conditional_tail (reading T.trees) ts.now) }
+    ensures same { IfOk result (λ r. option_map (λ x. (T.plain x.0, T.plain x.1, x.2.now)) r ≡ conditional_tail (reading T.forms) ts.now) }
     ensures shorter { IfOk result (λ r. IfSome r (λ x. length x.2.now < length ts.now)) }
 {
     let Some(ts) = behind_if(ts) else {
@@ -166,13 +166,13 @@ fn conditional_tail<T: Tree>(
     Ok(Some((test, no, ts)))
 }
 
-// An operator that only some trees have, and what stands behind it.
-fn operator<'a, T: Tree>(
+// An operator that only some kinds of expression have, and what stands behind it.
+fn operator<'a, T: Forms>(
     alloc: Global,
     x: &T::Hole,
     rest: &'a [Terminal<T::Hole>],
 ) -> Result<Option<(Link<T::Operator>, &'a [Terminal<T::Hole>])>, NoMemory>
-    ensures same { IfOk result (λ r. option_map (λ x. (link_of T.trees T.operation x.0, x.1.now)) r ≡ followed_by (T.trees.Operator x.now) rest.now) }
+    ensures same { IfOk result (λ r. option_map (λ x. (link_of T.forms T.operation x.0, x.1.now)) r ≡ followed_by (T.forms.Operator x.now) rest.now) }
     ensures rest { IfOk result (λ r. IfSome r (λ x. x.1.now ≡ rest.now)) }
 {
     match T::operator(alloc, x)? {
@@ -181,13 +181,13 @@ fn operator<'a, T: Tree>(
     }
 }
 
-fn operator_at<'a, T: Tree>(
+fn operator_at<'a, T: Forms>(
     alloc: Global,
     level: Level,
     x: &T::Hole,
     rest: &'a [Terminal<T::Hole>],
 ) -> Result<Option<(Link<T::Operator>, &'a [Terminal<T::Hole>])>, NoMemory>
-    ensures same { IfOk result (λ r. option_map (λ x. (link_of T.trees T.operation x.0, x.1.now)) r ≡ operator_at T.trees level x.now rest.now) }
+    ensures same { IfOk result (λ r. option_map (λ x. (link_of T.forms T.operation x.0, x.1.now)) r ≡ operator_at T.forms level x.now rest.now) }
     ensures rest { IfOk result (λ r. IfSome r (λ x. x.1.now ≡ rest.now)) }
 {
     match level {
@@ -197,12 +197,12 @@ fn operator_at<'a, T: Tree>(
 }
 
 // What joins parts at the level, at the front, and what stands behind it.
-fn joint_before<T: Tree>(
+fn joint_before<T: Forms>(
     alloc: Global,
     level: Level,
     ts: &[Terminal<T::Hole>],
 ) -> Result<Option<(Link<T::Operator>, &[Terminal<T::Hole>])>, NoMemory>
-    ensures same { IfOk result (λ r. option_map (λ x. (link_of T.trees T.operation x.0, x.1.now)) r ≡ joint_before T.trees level ts.now) }
+    ensures same { IfOk result (λ r. option_map (λ x. (link_of T.forms T.operation x.0, x.1.now)) r ≡ joint_before T.forms level ts.now) }
     ensures shorter { IfOk result (λ r. IfSome r (λ x. length x.1.now < length ts.now)) }
 {
     match ts {
@@ -218,12 +218,12 @@ fn joint_before<T: Tree>(
 }
 
 #[cycle(expression)]
-fn joint_tail<T: Tree>(
+fn joint_tail<T: Forms>(
     alloc: Global,
     level: Level,
     ts: &[Terminal<T::Hole>],
 ) -> Result<Option<(Link<T::Operator>, T, &[Terminal<T::Hole>])>, NoMemory>
-    ensures same { IfOk result (λ r. option_map (λ x. (link_of T.trees T.operation x.0, T.plain x.1, x.2.now)) r ≡ joint_tail T.trees (reading T.trees) level ts.now) }
+    ensures same { IfOk result (λ r. option_map (λ x. (link_of T.forms T.operation x.0, T.plain x.1, x.2.now)) r ≡ joint_tail T.forms (reading T.forms) level ts.now) }
     ensures shorter { IfOk result (λ r. IfSome r (λ x. length x.2.now < length ts.now)) }
 {
     let Some((link, ts)) = joint_before::<T>(alloc, level, ts)? else {
@@ -237,13 +237,13 @@ fn joint_tail<T: Tree>(
 
 // Parts of the level above, joined from the left.
 #[cycle(expression)]
-fn chain<T: Tree>(
+fn chain<T: Forms>(
     alloc: Global,
     level: Level,
     ts: &[Terminal<T::Hole>],
 ) -> Result<Option<(T, &[Terminal<T::Hole>])>, NoMemory>
     requires { IsChain level }
-    ensures same { IfOk result (λ r. option_map (λ x. (T.plain x.0, x.1.now)) r ≡ at_level T.trees (reading T.trees) level ts.now) }
+    ensures same { IfOk result (λ r. option_map (λ x. (T.plain x.0, x.1.now)) r ≡ at_level T.forms (reading T.forms) level ts.now) }
     ensures shorter { IfOk result (λ r. IfSome r (λ x. length x.1.now < length ts.now)) }
 {
     let Some((first, rest)) = expression::<T>(alloc, level.above(), ts)? else {
@@ -260,13 +260,13 @@ fn chain<T: Tree>(
 
 // An operator before an expression of its own level, or an expression of the level above.
 #[cycle(expression)]
-fn prefixed<T: Tree>(
+fn prefixed<T: Forms>(
     alloc: Global,
     level: Level,
     ts: &[Terminal<T::Hole>],
 ) -> Result<Option<(T, &[Terminal<T::Hole>])>, NoMemory>
     requires { IsPrefix level }
-    ensures same { IfOk result (λ r. option_map (λ x. (T.plain x.0, x.1.now)) r ≡ at_level T.trees (reading T.trees) level ts.now) }
+    ensures same { IfOk result (λ r. option_map (λ x. (T.plain x.0, x.1.now)) r ≡ at_level T.forms (reading T.forms) level ts.now) }
     ensures shorter { IfOk result (λ r. IfSome r (λ x. length x.1.now < length ts.now)) }
 {
     match (level, ts) {
@@ -306,13 +306,13 @@ fn comparison_at<X>(ts: &[Terminal<X>]) -> Option<(CmpOp, &[Terminal<X>])>
     }
 }
 
-// A comparison that only some trees have, and what stands behind it.
-fn comparator<'a, T: Tree>(
+// A comparison that only some kinds of expression have, and what stands behind it.
+fn comparator<'a, T: Forms>(
     alloc: Global,
     x: &T::Hole,
     rest: &'a [Terminal<T::Hole>],
 ) -> Result<Option<(Link<T::Operator>, &'a [Terminal<T::Hole>])>, NoMemory>
-    ensures same { IfOk result (λ r. option_map (λ x. (link_of T.trees T.operation x.0, x.1.now)) r ≡ followed_by (T.trees.Comparator x.now) rest.now) }
+    ensures same { IfOk result (λ r. option_map (λ x. (link_of T.forms T.operation x.0, x.1.now)) r ≡ followed_by (T.forms.Comparator x.now) rest.now) }
     ensures rest { IfOk result (λ r. IfSome r (λ x. x.1.now ≡ rest.now)) }
 {
     match T::comparator(alloc, x)? {
@@ -322,11 +322,11 @@ fn comparator<'a, T: Tree>(
 }
 
 // What compares parts, at the front, and what stands behind it.
-fn comparator_at<T: Tree>(
+fn comparator_at<T: Forms>(
     alloc: Global,
     ts: &[Terminal<T::Hole>],
 ) -> Result<Option<(Link<T::Operator>, &[Terminal<T::Hole>])>, NoMemory>
-    ensures same { IfOk result (λ r. option_map (λ x. (link_of T.trees T.operation x.0, x.1.now)) r ≡ comparator_at T.trees ts.now) }
+    ensures same { IfOk result (λ r. option_map (λ x. (link_of T.forms T.operation x.0, x.1.now)) r ≡ comparator_at T.forms ts.now) }
     ensures shorter { IfOk result (λ r. IfSome r (λ x. length x.1.now < length ts.now)) }
 {
     match ts {
@@ -341,11 +341,11 @@ fn comparator_at<T: Tree>(
 }
 
 #[cycle(expression)]
-fn comparison_tail<T: Tree>(
+fn comparison_tail<T: Forms>(
     alloc: Global,
     ts: &[Terminal<T::Hole>],
 ) -> Result<Option<(Link<T::Operator>, T, &[Terminal<T::Hole>])>, NoMemory>
-    ensures same { IfOk result (λ r. option_map (λ x. (link_of T.trees T.operation x.0, T.plain x.1, x.2.now)) r ≡ comparison_tail T.trees (reading T.trees) ts.now) }
+    ensures same { IfOk result (λ r. option_map (λ x. (link_of T.forms T.operation x.0, T.plain x.1, x.2.now)) r ≡ comparison_tail T.forms (reading T.forms) ts.now) }
     ensures shorter { IfOk result (λ r. IfSome r (λ x. length x.2.now < length ts.now)) }
 {
     let Some((link, ts)) = comparator_at::<T>(alloc, ts)? else {
@@ -358,11 +358,11 @@ fn comparison_tail<T: Tree>(
 }
 
 #[cycle(expression)]
-fn comparison<T: Tree>(
+fn comparison<T: Forms>(
     alloc: Global,
     ts: &[Terminal<T::Hole>],
 ) -> Result<Option<(T, &[Terminal<T::Hole>])>, NoMemory>
-    ensures same { IfOk result (λ r. option_map (λ x. (T.plain x.0, x.1.now)) r ≡ at_level T.trees (reading T.trees) level.Comparison ts.now) }
+    ensures same { IfOk result (λ r. option_map (λ x. (T.plain x.0, x.1.now)) r ≡ at_level T.forms (reading T.forms) level.Comparison ts.now) }
     ensures shorter { IfOk result (λ r. IfSome r (λ x. length x.1.now < length ts.now)) }
 {
     let Some((left, rest)) = expression::<T>(alloc, Level::Sum, ts)? else {
@@ -375,11 +375,11 @@ fn comparison<T: Tree>(
 }
 
 #[cycle(expression)]
-fn power<T: Tree>(
+fn power<T: Forms>(
     alloc: Global,
     ts: &[Terminal<T::Hole>],
 ) -> Result<Option<(T, &[Terminal<T::Hole>])>, NoMemory>
-    ensures same { IfOk result (λ r. option_map (λ x. (T.plain x.0, x.1.now)) r ≡ at_level T.trees (reading T.trees) level.Power ts.now) }
+    ensures same { IfOk result (λ r. option_map (λ x. (T.plain x.0, x.1.now)) r ≡ at_level T.forms (reading T.forms) level.Power ts.now) }
     ensures shorter { IfOk result (λ r. IfSome r (λ x. length x.1.now < length ts.now)) }
 {
     let Some((base, rest)) = expression::<T>(alloc, Level::Postfix, ts)? else {
@@ -395,11 +395,11 @@ fn power<T: Tree>(
 }
 
 #[cycle(expression)]
-fn postfix<T: Tree>(
+fn postfix<T: Forms>(
     alloc: Global,
     ts: &[Terminal<T::Hole>],
 ) -> Result<Option<(T, &[Terminal<T::Hole>])>, NoMemory>
-    ensures same { IfOk result (λ r. option_map (λ x. (T.plain x.0, x.1.now)) r ≡ at_level T.trees (reading T.trees) level.Postfix ts.now) }
+    ensures same { IfOk result (λ r. option_map (λ x. (T.plain x.0, x.1.now)) r ≡ at_level T.forms (reading T.forms) level.Postfix ts.now) }
     ensures shorter { IfOk result (λ r. IfSome r (λ x. length x.1.now < length ts.now)) }
 {
     let Some((first, rest)) = expression::<T>(alloc, Level::Atom, ts)? else {
@@ -415,11 +415,11 @@ fn postfix<T: Tree>(
 }
 
 #[cycle(expression)]
-fn suffix_at<T: Tree>(
+fn suffix_at<T: Forms>(
     alloc: Global,
     ts: &[Terminal<T::Hole>],
 ) -> Result<Option<(Suffix<T>, &[Terminal<T::Hole>])>, NoMemory>
-    ensures same { IfOk result (λ r. option_map (λ x. (suffix_of T.plain x.0, x.1.now)) r ≡ suffix_at (reading T.trees) ts.now) }
+    ensures same { IfOk result (λ r. option_map (λ x. (suffix_of T.plain x.0, x.1.now)) r ≡ suffix_at (reading T.forms) ts.now) }
     ensures shorter { IfOk result (λ r. IfSome r (λ x. length x.1.now < length ts.now)) }
 {
     let Some(ts) = behind_bracket(ts) else {
@@ -448,11 +448,11 @@ fn suffix_at<T: Tree>(
 
 // The second end of a slice, and the closing bracket.
 #[cycle(expression)]
-fn second_end<T: Tree>(
+fn second_end<T: Forms>(
     alloc: Global,
     ts: &[Terminal<T::Hole>],
 ) -> Result<Option<(Option<T>, &[Terminal<T::Hole>])>, NoMemory>
-    ensures same { IfOk result (λ r. option_map (λ x. (option_map T.plain x.0, x.1.now)) r ≡ second_end (reading T.trees) ts.now) }
+    ensures same { IfOk result (λ r. option_map (λ x. (option_map T.plain x.0, x.1.now)) r ≡ second_end (reading T.forms) ts.now) }
     ensures shorter { IfOk result (λ r. IfSome r (λ x. length x.1.now < length ts.now)) }
 {
     if let Some(rest) = behind_closing(Bracket::Square, ts) {
@@ -465,12 +465,12 @@ fn second_end<T: Tree>(
 }
 
 // A hole, and what stands behind it.
-fn special<'a, T: Tree>(
+fn special<'a, T: Forms>(
     alloc: Global,
     hole: &T::Hole,
     rest: &'a [Terminal<T::Hole>],
 ) -> Result<Option<(T, &'a [Terminal<T::Hole>])>, NoMemory>
-    ensures same { IfOk result (λ r. option_map (λ x. (T.plain x.0, x.1.now)) r ≡ special T.trees hole.now rest.now) }
+    ensures same { IfOk result (λ r. option_map (λ x. (T.plain x.0, x.1.now)) r ≡ special T.forms hole.now rest.now) }
     ensures rest { IfOk result (λ r. IfSome r (λ x. x.1.now ≡ rest.now)) }
 {
     match T::hole(alloc, hole)? {
@@ -480,11 +480,11 @@ fn special<'a, T: Tree>(
 }
 
 #[cycle(expression)]
-fn atom<T: Tree>(
+fn atom<T: Forms>(
     alloc: Global,
     ts: &[Terminal<T::Hole>],
 ) -> Result<Option<(T, &[Terminal<T::Hole>])>, NoMemory>
-    ensures same { IfOk result (λ r. option_map (λ x. (T.plain x.0, x.1.now)) r ≡ atom T.trees (reading T.trees) ts.now) }
+    ensures same { IfOk result (λ r. option_map (λ x. (T.plain x.0, x.1.now)) r ≡ atom T.forms (reading T.forms) ts.now) }
     ensures shorter { IfOk result (λ r. IfSome r (λ x. length x.1.now < length ts.now)) }
 {
     match ts {
@@ -508,12 +508,12 @@ fn atom<T: Tree>(
 
 // A name, and the arguments of its call if they follow.
 #[cycle(expression)]
-fn name_or_call<'a, T: Tree>(
+fn name_or_call<'a, T: Forms>(
     alloc: Global,
     name: &Name,
     ts: &'a [Terminal<T::Hole>],
 ) -> Result<Option<(T, &'a [Terminal<T::Hole>])>, NoMemory>
-    ensures same { IfOk result (λ r. option_map (λ x. (T.plain x.0, x.1.now)) r ≡ Some (name_or_call T.trees (reading T.trees) name.now ts.now)) }
+    ensures same { IfOk result (λ r. option_map (λ x. (T.plain x.0, x.1.now)) r ≡ Some (name_or_call T.forms (reading T.forms) name.now ts.now)) }
     ensures shorter { IfOk result (λ r. IfSome r (λ x. length x.1.now ≤ length ts.now)) }
 {
     if let [Terminal::Word(Word::LeftParen), inside @ ..] = ts {
@@ -525,11 +525,11 @@ fn name_or_call<'a, T: Tree>(
 }
 
 #[cycle(expression)]
-fn parenthesized<T: Tree>(
+fn parenthesized<T: Forms>(
     alloc: Global,
     ts: &[Terminal<T::Hole>],
 ) -> Result<Option<(T, &[Terminal<T::Hole>])>, NoMemory>
-    ensures same { IfOk result (λ r. option_map (λ x. (T.plain x.0, x.1.now)) r ≡ parenthesized (reading T.trees) ts.now) }
+    ensures same { IfOk result (λ r. option_map (λ x. (T.plain x.0, x.1.now)) r ≡ parenthesized (reading T.forms) ts.now) }
     ensures shorter { IfOk result (λ r. IfSome r (λ x. length x.1.now < length ts.now)) }
 {
     let Some((e, ts)) = expression::<T>(alloc, Level::Conditional, ts)? else {
@@ -540,11 +540,11 @@ fn parenthesized<T: Tree>(
 
 // A set, where it may stand, behind its opening brace.
 #[cycle(expression)]
-fn set<T: Tree>(
+fn set<T: Forms>(
     alloc: Global,
     ts: &[Terminal<T::Hole>],
 ) -> Result<Option<(T, &[Terminal<T::Hole>])>, NoMemory>
-    ensures same { IfOk result (λ r. option_map (λ x. (T.plain x.0, x.1.now)) r ≡ set T.trees (reading T.trees) ts.now) }
+    ensures same { IfOk result (λ r. option_map (λ x. (T.plain x.0, x.1.now)) r ≡ set T.forms (reading T.forms) ts.now) }
     ensures shorter { IfOk result (λ r. IfSome r (λ x. length x.1.now < length ts.now)) }
 {
     let Some((items, rest)) = elements::<T>(alloc, Bracket::Curly, ts)? else {
@@ -558,12 +558,12 @@ fn set<T: Tree>(
 
 // Expressions joined by commas, up to the closing bracket.
 #[cycle(expression)]
-fn elements<T: Tree>(
+fn elements<T: Forms>(
     alloc: Global,
     bracket: Bracket,
     ts: &[Terminal<T::Hole>],
 ) -> Result<Option<(Vec<T>, &[Terminal<T::Hole>])>, NoMemory>
-    ensures same { IfOk result (λ r. option_map (λ x. (map T.plain x.0.items, x.1.now)) r ≡ elements (reading T.trees) bracket ts.now) }
+    ensures same { IfOk result (λ r. option_map (λ x. (map T.plain x.0.items, x.1.now)) r ≡ elements (reading T.forms) bracket ts.now) }
     ensures shorter { IfOk result (λ r. IfSome r (λ x. length x.1.now < length ts.now)) }
 {
     let mut items = Vec::new(alloc);

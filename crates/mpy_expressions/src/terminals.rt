@@ -25,11 +25,11 @@ pub enum Terminal<X> {
     Text(Chars),
     /// a mark or a reserved word
     Word(Word),
-    /// what only some trees have, in the place of an expression
+    /// what only some kinds of expression have, in the place of an expression
     Special(X),
-    /// an operator of the level of `+`, which only some trees have
+    /// an operator of the level of `+`, which only some kinds of expression have
     Operator(X),
-    /// a comparison, which only some trees have
+    /// a comparison, which only some kinds of expression have
     Comparator(X),
     /// a token that no expression and no line has
     Other,

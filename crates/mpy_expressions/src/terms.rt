@@ -1,11 +1,11 @@
-//! Trees made of their parts.
+//! Expressions made of their parts.
 ghost use Rattle.std.specs.Prelude.{◌≡◌, IfOk};
 ghost use Rattle.mpy_expressions.specs.Reading.{joined, suffixed};
 ghost use Rattle.mpy_expressions.specs.Views.{suffix_of, link_of};
 
 use crate::NoMemory;
 use crate::joints::Joint;
-use crate::tree::Tree;
+use crate::forms::Forms;
 use std::alloc::Global;
 
 /// The brackets round elements: those of calls, those of lists, or those of sets.
@@ -20,7 +20,7 @@ pub enum Bracket {
 #[derive(Drop)]
 pub(crate) enum Link<O> {
     Joint(Joint),
-    /// an operator that only some trees have
+    /// an operator that only some kinds of expression have
     Special(O),
 }
 
@@ -31,8 +31,8 @@ pub(crate) enum Suffix<T> {
     Slice(Option<T>, Option<T>),
 }
 
-fn joined<T: Tree>(alloc: Global, joint: Joint, a: T, b: T) -> Result<T, NoMemory>
-    ensures { IfOk result (λ e. T.plain e ≡ joined T.trees joint (T.plain a) (T.plain b)) }
+fn joined<T: Forms>(alloc: Global, joint: Joint, a: T, b: T) -> Result<T, NoMemory>
+    ensures { IfOk result (λ e. T.plain e ≡ joined T.forms joint (T.plain a) (T.plain b)) }
 {
     match joint {
         Joint::Or => T::either(alloc, a, b),
@@ -42,13 +42,13 @@ fn joined<T: Tree>(alloc: Global, joint: Joint, a: T, b: T) -> Result<T, NoMemor
     }
 }
 
-pub(crate) fn join<T: Tree>(
+pub(crate) fn join<T: Forms>(
     alloc: Global,
     link: Link<T::Operator>,
     a: T,
     b: T,
 ) -> Result<T, NoMemory>
-    ensures { IfOk result (λ e. T.plain e ≡ link_of T.trees T.operation link (T.plain a) (T.plain b)) }
+    ensures { IfOk result (λ e. T.plain e ≡ link_of T.forms T.operation link (T.plain a) (T.plain b)) }
 {
     match link {
         Link::Joint(joint) => joined(alloc, joint, a, b),
@@ -57,12 +57,12 @@ pub(crate) fn join<T: Tree>(
 }
 
 /// A value with what stands in brackets behind it.
-pub(crate) fn with_suffix<T: Tree>(
+pub(crate) fn with_suffix<T: Forms>(
     alloc: Global,
     value: T,
     suffix: Suffix<T>,
 ) -> Result<T, NoMemory>
-    ensures { IfOk result (λ e. T.plain e ≡ suffixed T.trees (T.plain value) (suffix_of T.plain suffix)) }
+    ensures { IfOk result (λ e. T.plain e ≡ suffixed T.forms (T.plain value) (suffix_of T.plain suffix)) }
 {
     match suffix {
         Suffix::Index(i) => T::index(alloc, value, i),

@@ -58,7 +58,7 @@ decreases-parenthesized g l = 30 * length l.ts.now + 24
 -- what is joined so far and what is joined to it from here on is the whole
 abbrev pub invariant-chain-loop-link : goal.invariant-chain-loop-link
 invariant-chain-loop-link g l = record {
-  whole : at_level g.T.Tree.trees (reading g.T.Tree.trees) l.level l.ts ≡ Some (with_joints g.T.Tree.trees (reading g.T.Tree.trees) l.level (length l.rest) (g.T.Tree.plain l.left, l.rest));
+  whole : at_level g.T.Forms.forms (reading g.T.Forms.forms) l.level l.ts ≡ Some (with_joints g.T.Forms.forms (reading g.T.Forms.forms) l.level (length l.rest) (g.T.Forms.plain l.left, l.rest));
   short : length l.rest < length l.ts;
 }
 
@@ -67,7 +67,7 @@ decreases-chain-loop-link g l = length l.rest
 
 abbrev pub invariant-postfix-loop-behind : goal.invariant-postfix-loop-behind
 invariant-postfix-loop-behind g l = record {
-  whole : at_level g.T.Tree.trees (reading g.T.Tree.trees) level.Postfix l.ts ≡ Some (with_suffixes g.T.Tree.trees (reading g.T.Tree.trees) (length l.rest) (g.T.Tree.plain l.value, l.rest));
+  whole : at_level g.T.Forms.forms (reading g.T.Forms.forms) level.Postfix l.ts ≡ Some (with_suffixes g.T.Forms.forms (reading g.T.Forms.forms) (length l.rest) (g.T.Forms.plain l.value, l.rest));
   short : length l.rest < length l.ts;
 }
 
@@ -77,7 +77,7 @@ decreases-postfix-loop-behind g l = length l.rest
 -- the elements so far, and those from here on, are all
 abbrev pub invariant-elements-loop-items : goal.invariant-elements-loop-items
 invariant-elements-loop-items g l = record {
-  whole : elements (reading g.T.Tree.trees) l.bracket l.fn.ts ≡ (some_elements (reading g.T.Tree.trees) l.bracket (length l.ts) l.ts >>= λ es. Some (map g.T.Tree.plain l.items.items ++ es.0, es.1));
+  whole : elements (reading g.T.Forms.forms) l.bracket l.fn.ts ≡ (some_elements (reading g.T.Forms.forms) l.bracket (length l.ts) l.ts >>= λ es. Some (map g.T.Forms.plain l.items.items ++ es.0, es.1));
   short : length l.ts ≤ length l.fn.ts;
 }
 

@@ -1,10 +1,10 @@
--- How the trees are built that expressions are read into: one field for each form.
+-- How a kind of expression is built: one field for each form.
 use Rattle.std.specs.Prelude.{ℕ, Bool, List, Option}
 use Rattle.mpy_tree.specs.declared.operators.ArithOp.{ArithOp}
 use Rattle.mpy_tree.specs.declared.operators.CmpOp.{CmpOp}
 
--- trees T, over terminals with holes and operators X
-pub record Trees (X T : Type 0) : Type 0 where
+-- expressions T, over terminals with holes and operators X
+pub record Forms (X T : Type 0) : Type 0 where
   pub Int : ℕ → T
   pub Text : List ℕ → T
   pub Name : List ℕ → T

@@ -1,4 +1,4 @@
-//! The expressions of programs, as trees that are read.
+//! The expressions of programs, as they are built.
 ghost use Rattle.std.specs.Prelude.{◌≡◌, map, option_map, IfOk};
 ghost use Rattle.mpy_tree.specs.Syntax.{Term};
 ghost use Rattle.mpy_tree.specs.Syntax as ast;
@@ -6,7 +6,7 @@ ghost use Rattle.mpy_tree.specs.View.{term_of};
 ghost use Rattle.mpy_expressions.specs.Programs.{programs};
 
 use crate::NoMemory;
-use crate::tree::Tree;
+use crate::forms::Forms;
 use mpy_tree::{ArithOp, Chars, CmpOp, Expr, Exprs, Name};
 use std::alloc::Global;
 
@@ -54,14 +54,14 @@ fn sliced<T: Drop>(
     ))
 }
 
-impl Tree for Expr {
+impl Forms for Expr {
     type Hole = ();
 
     type Operator = ArithOp;
 
     ghost Plain = { Term };
 
-    ghost trees = { programs };
+    ghost forms = { programs };
 
     ghost plain = { term_of };
 
