@@ -9,6 +9,7 @@ use Rattle.mpy_expressions.specs.declared.terminals.Terminal.{Terminal}
 use Rattle.mpy_expressions.specs.Terminals.{terminal_of, terminals}
 use Rattle.mpy_expressions.specs.Grammar.{Spells}
 use Rattle.mpy_expressions.specs.Reading.{reading}
+use Rattle.mpy_expressions.specs.Programs.{programs}
 use Rattle.mpy_expressions.specs.Longest.{EndsAt, IsLongest, NoneBegins}
 use Rattle.mpy_expressions.proofs.Sound.{reading_sound, Fronts}
 use Rattle.mpy_expressions.proofs.Complete.{reading_longest, Found}
@@ -17,10 +18,10 @@ use Rattle.mpy_expressions.proofs.Complete.{reading_longest, Found}
 behind_length : (toks : List Token) (from : ℕ) → length (terminals (drop from toks)) ≡ length toks - from
 behind_length toks from = length-map (drop from toks) terminal_of ∙ length-drop from toks
 
-fronts_of : (ts : List Terminal) (x : Term × List Terminal) → reading level.Conditional ts ≡ Some x → Fronts level.Conditional ts x
-fronts_of ts x h = subst (λ o. IfSome o (Fronts level.Conditional ts)) h (reading_sound level.Conditional ts)
+fronts_of : (ts : List (Terminal Unit)) (x : Term × List (Terminal Unit)) → reading programs level.Conditional ts ≡ Some x → Fronts programs level.Conditional ts x
+fronts_of ts x h = subst (λ o. IfSome o (Fronts programs level.Conditional ts)) h (reading_sound programs level.Conditional ts)
 
-pub found_between : (toks : List Token) (from : ℕ) (x : Term × List Terminal) → from ≤ length toks → reading level.Conditional (terminals (drop from toks)) ≡ Some x → EndsAt toks from (length toks - length x.1) x.0
+pub found_between : (toks : List Token) (from : ℕ) (x : Term × List (Terminal Unit)) → from ≤ length toks → reading programs level.Conditional (terminals (drop from toks)) ≡ Some x → EndsAt toks from (length toks - length x.1) x.0
 found_between toks from x within h =
     let ts = terminals (drop from toks) in
     let f = fronts_of ts x h in
@@ -31,20 +32,20 @@ found_between toks from x within h =
     record {
       begins = omega arith;
       within = omega arith;
-      spelled = subst (λ l. Spells level.Conditional l x.0) (sym cut) f.2;
+      spelled = subst (λ l. Spells programs level.Conditional l x.0) (sym cut) f.2;
     }
 
 -- what ends at a place is a front of the terminals
 front_at : (toks : List Token) (from to : ℕ) → terminals (drop from toks) ≡ terminals (take (to - from) (drop from toks)) ++ drop (to - from) (terminals (drop from toks))
 front_at toks from to = sym (take-append-drop (to - from) (terminals (drop from toks))) ∙ ap (λ l. l ++ drop (to - from) (terminals (drop from toks))) (take-map terminal_of (to - from) (drop from toks))
 
-read_at : (toks : List Token) (from to : ℕ) (e : Term) → EndsAt toks from to e → Found level.Conditional (terminals (take (to - from) (drop from toks))) e (drop (to - from) (terminals (drop from toks)))
-read_at toks from to e h = reading_longest level.Conditional (terminals (take (to - from) (drop from toks))) e (drop (to - from) (terminals (drop from toks))) h.spelled
+read_at : (toks : List Token) (from to : ℕ) (e : Term) → EndsAt toks from to e → Found programs level.Conditional (terminals (take (to - from) (drop from toks))) e (drop (to - from) (terminals (drop from toks)))
+read_at toks from to e h = reading_longest programs level.Conditional (terminals (take (to - from) (drop from toks))) e (drop (to - from) (terminals (drop from toks))) h.spelled
 
-pub longest_between : (toks : List Token) (from : ℕ) (x : Term × List Terminal) → from ≤ length toks → reading level.Conditional (terminals (drop from toks)) ≡ Some x → IsLongest toks from (length toks - length x.1)
+pub longest_between : (toks : List Token) (from : ℕ) (x : Term × List (Terminal Unit)) → from ≤ length toks → reading programs level.Conditional (terminals (drop from toks)) ≡ Some x → IsLongest toks from (length toks - length x.1)
 longest_between toks from x within h later e ends =
     let f = read_at toks from later e ends in
-    let same : Some x ≡ Some f.0 = sym h ∙ ap (reading level.Conditional) (front_at toks from later) ∙ f.1 in
+    let same : Some x ≡ Some f.0 = sym h ∙ ap (reading programs level.Conditional) (front_at toks from later) ∙ f.1 in
     let rest : length x.1 ≡ length f.0.1 = ap rest_length same in
     let left : length (drop (later - from) (terminals (drop from toks))) ≡ length toks - from - (later - from) = length-drop (later - from) (terminals (drop from toks)) ∙ ap (λ n. n - (later - from)) (behind_length toks from) in
     let b = ends.begins in
@@ -52,14 +53,14 @@ longest_between toks from x within h later e ends =
     let short = f.2 in
     omega arith
   where
-    rest_length : Option (Term × List Terminal) → ℕ
+    rest_length : Option (Term × List (Terminal Unit)) → ℕ
     rest_length None = 0
     rest_length (Some y) = length y.1
 
-pub none_between : (toks : List Token) (from : ℕ) → reading level.Conditional (terminals (drop from toks)) ≡ None → NoneBegins toks from
+pub none_between : (toks : List Token) (from : ℕ) → reading programs level.Conditional (terminals (drop from toks)) ≡ None → NoneBegins toks from
 none_between toks from h to e ends =
     let f = read_at toks from to e ends in
-    let z : None ≡ Some f.0 = sym h ∙ ap (reading level.Conditional) (front_at toks from to) ∙ f.1 in cc
+    let z : None ≡ Some f.0 = sym h ∙ ap (reading programs level.Conditional) (front_at toks from to) ∙ f.1 in cc
 
 -- all that stands behind a place
 pub all_behind : (toks : List Token) (from : ℕ) → take (length toks - from) (drop from toks) ≡ drop from toks

@@ -7,11 +7,12 @@ use Rattle.mpy_tree.specs.declared.levels.Level.TheVariants as level
 use Rattle.mpy_expressions.specs.declared.terminals.Terminal.{Terminal}
 use Rattle.mpy_expressions.specs.Terminals.{terminals}
 use Rattle.mpy_expressions.specs.Grammar.{Spells}
+use Rattle.mpy_expressions.specs.Programs.{programs}
 
 -- the tokens from one place up to another spell the expression
 abbrev pub SpellsBetween : List Token → ℕ → ℕ → Term → Type 0
 SpellsBetween toks from to e =
-    Spells level.Conditional (terminals (take (to - from) (drop from toks))) e
+    Spells programs level.Conditional (terminals (take (to - from) (drop from toks))) e
 
 -- an expression ends at the place
 pub record EndsAt (toks : List Token) (from to : ℕ) (e : Term) : Type 0 where
@@ -30,4 +31,5 @@ NoneBegins toks from = (to : ℕ) (e : Term) → EndsAt toks from to e → ⊥
 -- terminals spell one expression at most, at each level
 abbrev pub OneExpression : Type 0
 OneExpression =
-    (k : Level) (ts : List Terminal) (e f : Term) → Spells k ts e → Spells k ts f → e ≡ f
+    (k : Level) (ts : List (Terminal Unit)) (e f : Term) → Spells programs k ts e
+    → Spells programs k ts f → e ≡ f

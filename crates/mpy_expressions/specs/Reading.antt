@@ -1,15 +1,15 @@
 -- Reading an expression from the left: the expression and the terminals behind it, if one begins
 -- there.
+use Rattle.std.specs.Prelude.{[]}
 use Rattle.std.specs.Prelude.{ℕ, zero, suc, ◌+◌, ◌*◌, true, false, List, ◌∷◌, length, Option, Some}
 use Rattle.std.specs.Prelude.{None, option_and_then}
 use Rattle.mpy_tree.specs.declared.operators.ArithOp.TheVariants.{Power}
 use Rattle.mpy_tree.specs.declared.operators.CmpOp.{CmpOp}
 use Rattle.mpy_tree.specs.declared.operators.CmpOp.TheVariants.{Eq, Ne, Lt, Le, Gt, Ge, Member}
 use Rattle.mpy_tree.specs.declared.operators.CmpOp.TheVariants.{NotMember}
-use Rattle.mpy_tree.specs.Syntax.{Term, Terms, MaybeTerm, no_terms, term_and, no_term, a_term}
-use Rattle.mpy_tree.specs.Syntax as ast
 use Rattle.mpy_tree.specs.declared.levels.Level.{Level}
 use Rattle.mpy_tree.specs.declared.levels.Level.TheVariants as level
+use Rattle.mpy_expressions.specs.Forms.{Forms}
 use Rattle.mpy_expressions.specs.declared.joints.Joint.{Joint}
 use Rattle.mpy_expressions.specs.declared.joints.Joint.TheVariants as joint
 use Rattle.mpy_expressions.specs.declared.words.Word.TheVariants as word
@@ -30,59 +30,63 @@ abbrev pub or_else : {A : Type 0} → Option A → A → A
 or_else None d = d
 or_else (Some x) d = x
 
-abbrev pub Reading : Type 0
-Reading = Option (Term × List Terminal)
+abbrev pub Reading : Type 0 → Type 0 → Type 0
+Reading X T = Option (T × List (Terminal X))
 
-abbrev pub Reader : Type 0
-Reader = Level → List Terminal → Reading
+abbrev pub Reader : Type 0 → Type 0 → Type 0
+Reader X T = Level → List (Terminal X) → Reading X T
 
 -- what stands behind a word
-abbrev pub behind_if : List Terminal → Option (List Terminal)
+abbrev pub behind_if : {X : Type 0} → List (Terminal X) → Option (List (Terminal X))
 behind_if (terminal.Word word.If ∷ ts) = Some ts
 behind_if _ = None
 
-abbrev pub behind_else : List Terminal → Option (List Terminal)
+abbrev pub behind_else : {X : Type 0} → List (Terminal X) → Option (List (Terminal X))
 behind_else (terminal.Word word.Else ∷ ts) = Some ts
 behind_else _ = None
 
-abbrev pub behind_not : List Terminal → Option (List Terminal)
+abbrev pub behind_not : {X : Type 0} → List (Terminal X) → Option (List (Terminal X))
 behind_not (terminal.Word word.Not ∷ ts) = Some ts
 behind_not _ = None
 
-abbrev pub behind_minus : List Terminal → Option (List Terminal)
+abbrev pub behind_minus : {X : Type 0} → List (Terminal X) → Option (List (Terminal X))
 behind_minus (terminal.Word word.Minus ∷ ts) = Some ts
 behind_minus _ = None
 
-abbrev pub behind_power : List Terminal → Option (List Terminal)
+abbrev pub behind_power : {X : Type 0} → List (Terminal X) → Option (List (Terminal X))
 behind_power (terminal.Word word.DoubleStar ∷ ts) = Some ts
 behind_power _ = None
 
-abbrev pub behind_bracket : List Terminal → Option (List Terminal)
+abbrev pub behind_bracket : {X : Type 0} → List (Terminal X) → Option (List (Terminal X))
 behind_bracket (terminal.Word word.LeftBracket ∷ ts) = Some ts
 behind_bracket _ = None
 
-abbrev pub behind_closing_bracket : List Terminal → Option (List Terminal)
+abbrev pub behind_closing_bracket : {X : Type 0} → List (Terminal X) → Option (List (Terminal X))
 behind_closing_bracket (terminal.Word word.RightBracket ∷ ts) = Some ts
 behind_closing_bracket _ = None
 
-abbrev pub behind_paren : List Terminal → Option (List Terminal)
+abbrev pub behind_paren : {X : Type 0} → List (Terminal X) → Option (List (Terminal X))
 behind_paren (terminal.Word word.LeftParen ∷ ts) = Some ts
 behind_paren _ = None
 
-abbrev pub behind_closing_paren : List Terminal → Option (List Terminal)
+abbrev pub behind_closing_paren : {X : Type 0} → List (Terminal X) → Option (List (Terminal X))
 behind_closing_paren (terminal.Word word.RightParen ∷ ts) = Some ts
 behind_closing_paren _ = None
 
-abbrev pub behind_colon : List Terminal → Option (List Terminal)
+abbrev pub behind_closing_brace : {X : Type 0} → List (Terminal X) → Option (List (Terminal X))
+behind_closing_brace (terminal.Word word.RightBrace ∷ ts) = Some ts
+behind_closing_brace _ = None
+
+abbrev pub behind_colon : {X : Type 0} → List (Terminal X) → Option (List (Terminal X))
 behind_colon (terminal.Word word.Colon ∷ ts) = Some ts
 behind_colon _ = None
 
-abbrev pub behind_comma : List Terminal → Option (List Terminal)
+abbrev pub behind_comma : {X : Type 0} → List (Terminal X) → Option (List (Terminal X))
 behind_comma (terminal.Word word.Comma ∷ ts) = Some ts
 behind_comma _ = None
 
 -- a comparison, and what stands behind it
-abbrev pub comparison_at : List Terminal → Option (CmpOp × List Terminal)
+abbrev pub comparison_at : {X : Type 0} → List (Terminal X) → Option (CmpOp × List (Terminal X))
 comparison_at (terminal.Word word.Equal ∷ ts) = Some (Eq, ts)
 comparison_at (terminal.Word word.NotEqual ∷ ts) = Some (Ne, ts)
 comparison_at (terminal.Word word.Less ∷ ts) = Some (Lt, ts)
@@ -93,18 +97,39 @@ comparison_at (terminal.Word word.In ∷ ts) = Some (Member, ts)
 comparison_at (terminal.Word word.Not ∷ terminal.Word word.In ∷ ts) = Some (NotMember, ts)
 comparison_at _ = None
 
--- a joint of the level, and what stands behind it
-abbrev pub joint_before : Level → List Terminal → Option (Joint × List Terminal)
-joint_before k (terminal.Word w ∷ ts) = joint_at k w >>= λ j. Some (j, ts)
-joint_before k _ = None
+abbrev pub joined : {X T : Type 0} (forms : Forms X T) → Joint → T → T → T
+joined forms joint.Or a b = forms.Or a b
+joined forms joint.And a b = forms.And a b
+joined forms (joint.Arith op) a b = forms.Arith op a b
+joined forms (joint.Cmp op) a b = forms.Cmp op a b
 
-abbrev pub joined : Joint → Term → Term → Term
-joined joint.Or a b = ast.Or a b
-joined joint.And a b = ast.And a b
-joined (joint.Arith op) a b = ast.Arith op a b
+-- what a terminal stands for, if it stands for something, and what stands behind it
+abbrev pub followed_by : {A X : Type 0}
+    → Option A → List (Terminal X) → Option (A × List (Terminal X))
+followed_by o ts = o >>= λ a. Some (a, ts)
+
+-- an operator that only some kinds of expression have, and what stands behind it
+abbrev pub operator_at : {X T : Type 0} (forms : Forms X T)
+    → Level → X → List (Terminal X) → Option ((T → T → T) × List (Terminal X))
+operator_at forms level.Sum x ts = followed_by (forms.Operator x) ts
+operator_at forms _ x ts = None
+
+-- what joins parts at the level, by what it builds, and what stands behind it
+abbrev pub joint_before : {X T : Type 0} (forms : Forms X T)
+    → Level → List (Terminal X) → Option ((T → T → T) × List (Terminal X))
+joint_before forms k (terminal.Word w ∷ ts) = joint_at k w >>= λ j. Some (joined forms j, ts)
+joint_before forms k (terminal.Operator x ∷ ts) = operator_at forms k x ts
+joint_before forms k _ = None
+
+-- what compares parts, by what it builds, and what stands behind it
+abbrev pub comparator_at : {X T : Type 0} (forms : Forms X T)
+    → List (Terminal X) → Option ((T → T → T) × List (Terminal X))
+comparator_at forms (terminal.Comparator x ∷ ts) = followed_by (forms.Comparator x) ts
+comparator_at forms ts = comparison_at ts >>= λ c. Some (forms.Cmp c.0, c.1)
 
 -- the rest of a conditional: its test, its other value, and what stands behind it
-abbrev pub conditional_tail : Reader → List Terminal → Option (Term × Term × List Terminal)
+abbrev pub conditional_tail : {X T : Type 0} → Reader X T → List (Terminal X)
+    → Option (T × T × List (Terminal X))
 conditional_tail read ts = do
   at_test ← behind_if ts
   t ← read level.Disjunction at_test
@@ -112,144 +137,178 @@ conditional_tail read ts = do
   b ← read level.Conditional at_no
   Some (t.0, b.0, b.1)
 
-abbrev pub with_conditional_tail : Reader → Term × List Terminal → Term × List Terminal
-with_conditional_tail read a =
-    or_else (conditional_tail read a.1 >>= λ c. Some (ast.Cond c.0 a.0 c.1, c.2)) a
+abbrev pub with_conditional_tail : {X T : Type 0} (forms : Forms X T) → Reader X T
+    → T × List (Terminal X) → T × List (Terminal X)
+with_conditional_tail forms read a =
+    or_else (conditional_tail read a.1 >>= λ c. Some (forms.Cond c.0 a.0 c.1, c.2)) a
 
 -- zero or more joints of the level, each with what stands right of it
-abbrev pub joint_tail : Reader → Level → List Terminal → Option (Joint × Term × List Terminal)
-joint_tail read k ts = do
-  j ← joint_before k ts
+abbrev pub joint_tail : {X T : Type 0} (forms : Forms X T)
+    → Reader X T → Level → List (Terminal X) → Option ((T → T → T) × T × List (Terminal X))
+joint_tail forms read k ts = do
+  j ← joint_before forms k ts
   b ← read (above k) j.1
   Some (j.0, b.0, b.1)
 
-abbrev pub with_joints : Reader → Level → ℕ → Term × List Terminal → Term × List Terminal
-with_joints read k zero a = a
-with_joints read k (suc n) a =
-    or_else (joint_tail read k a.1 >>= λ j. Some (with_joints read k n (joined j.0 a.0 j.1, j.2))) a
+abbrev pub with_joints : {X T : Type 0} (forms : Forms X T) → Reader X T → Level → ℕ
+    → T × List (Terminal X) → T × List (Terminal X)
+with_joints forms read k zero a = a
+with_joints forms read k (suc n) a =
+    or_else
+    (joint_tail forms read k a.1 >>= λ j. Some (with_joints forms read k n (j.0 a.0 j.1, j.2))) a
 
-abbrev pub comparison_tail : Reader → List Terminal → Option (CmpOp × Term × List Terminal)
-comparison_tail read ts = do
-  op ← comparison_at ts
+abbrev pub comparison_tail : {X T : Type 0} (forms : Forms X T)
+    → Reader X T → List (Terminal X) → Option ((T → T → T) × T × List (Terminal X))
+comparison_tail forms read ts = do
+  op ← comparator_at forms ts
   b ← read level.Sum op.1
   Some (op.0, b.0, b.1)
 
-abbrev pub with_comparison : Reader → Term × List Terminal → Term × List Terminal
-with_comparison read a =
-    or_else (comparison_tail read a.1 >>= λ c. Some (ast.Cmp c.0 a.0 c.1, c.2)) a
+abbrev pub with_comparison : {X T : Type 0} (forms : Forms X T) → Reader X T
+    → T × List (Terminal X) → T × List (Terminal X)
+with_comparison forms read a =
+    or_else (comparison_tail forms read a.1 >>= λ c. Some (c.0 a.0 c.1, c.2)) a
 
-abbrev pub power_tail : Reader → List Terminal → Reading
+abbrev pub power_tail : {X T : Type 0} → Reader X T → List (Terminal X) → Reading X T
 power_tail read ts = do
   at_exponent ← behind_power ts
   read level.Unary at_exponent
 
-abbrev pub with_power : Reader → Term × List Terminal → Term × List Terminal
-with_power read a = or_else (power_tail read a.1 >>= λ b. Some (ast.Arith Power a.0 b.0, b.1)) a
+abbrev pub with_power : {X T : Type 0} (forms : Forms X T) → Reader X T → T × List (Terminal X)
+    → T × List (Terminal X)
+with_power forms read a =
+    or_else (power_tail read a.1 >>= λ b. Some (forms.Arith Power a.0 b.0, b.1)) a
 
 -- what stands behind a value in brackets
-pub data Suffix : Type 0 where
-  by_index : (i : Term) → Suffix
-  by_ends : (from to : MaybeTerm) → Suffix
+pub data Suffix (T : Type 0) : Type 0 where
+  by_index : (i : T) → Suffix T
+  by_ends : (from to : Option T) → Suffix T
 
-abbrev pub suffixed : Term → Suffix → Term
-suffixed v (by_index i) = ast.Index v i
-suffixed v (by_ends from to) = ast.Slice v from to
+abbrev pub suffixed : {X T : Type 0} (forms : Forms X T) → T → (Suffix T) → T
+suffixed forms v (by_index i) = forms.Index v i
+suffixed forms v (by_ends from to) = forms.Slice v from to
 
 -- the second end of a slice, and the closing bracket
-abbrev pub second_end : Reader → List Terminal → Option (MaybeTerm × List Terminal)
+abbrev pub second_end : {X T : Type 0} → Reader X T → List (Terminal X)
+    → Option (Option T × List (Terminal X))
 second_end read ts = elim (behind_closing_bracket ts) [
-  | Some rest ↦ Some (no_term, rest)
+  | Some rest ↦ Some (None, rest)
   | None ↦ (do
     e ← read level.Conditional ts
     rest ← behind_closing_bracket e.1
-    Some (a_term e.0, rest))
+    Some ((Some e.0), rest))
 ]
 
 -- behind the colon of a slice
-abbrev pub last_end : Reader → MaybeTerm → List Terminal → Option (Suffix × List Terminal)
+abbrev pub last_end : {X T : Type 0} → Reader X T → Option T → List (Terminal X)
+    → Option ((Suffix T) × List (Terminal X))
 last_end read from ts = second_end read ts >>= λ to. Some (by_ends from to.0, to.1)
 
 -- behind the first expression in brackets
-abbrev pub behind_index : Reader → Term → List Terminal → Option (Suffix × List Terminal)
+abbrev pub behind_index : {X T : Type 0} → Reader X T → T → List (Terminal X)
+    → Option ((Suffix T) × List (Terminal X))
 behind_index read i ts = elim (behind_closing_bracket ts) [
   | Some rest ↦ Some (by_index i, rest)
   | None ↦ (do
     at_end ← behind_colon ts
-    last_end read (a_term i) at_end)
+    last_end read (Some i) at_end)
 ]
 
-abbrev pub in_brackets : Reader → List Terminal → Option (Suffix × List Terminal)
+abbrev pub in_brackets : {X T : Type 0} → Reader X T → List (Terminal X)
+    → Option ((Suffix T) × List (Terminal X))
 in_brackets read ts = elim (behind_colon ts) [
-  | Some at_end ↦ last_end read no_term at_end
+  | Some at_end ↦ last_end read None at_end
   | None ↦ (do
     i ← read level.Conditional ts
     behind_index read i.0 i.1)
 ]
 
-abbrev pub suffix_at : Reader → List Terminal → Option (Suffix × List Terminal)
+abbrev pub suffix_at : {X T : Type 0} → Reader X T → List (Terminal X)
+    → Option ((Suffix T) × List (Terminal X))
 suffix_at read ts = do
   inside ← behind_bracket ts
   in_brackets read inside
 
-abbrev pub with_suffixes : Reader → ℕ → Term × List Terminal → Term × List Terminal
-with_suffixes read zero v = v
-with_suffixes read (suc n) v =
-    or_else (suffix_at read v.1 >>= λ s. Some (with_suffixes read n (suffixed v.0 s.0, s.1))) v
+abbrev pub with_suffixes : {X T : Type 0} (forms : Forms X T) → Reader X T → ℕ
+    → T × List (Terminal X) → T × List (Terminal X)
+with_suffixes forms read zero v = v
+with_suffixes forms read (suc n) v =
+    or_else
+    (suffix_at read v.1 >>= λ s. Some (with_suffixes forms read n (suffixed forms v.0 s.0, s.1))) v
 
 -- what stands behind a closing bracket
-abbrev pub closed : Bracket → List Terminal → Option (List Terminal)
+abbrev pub closed : {X : Type 0} → Bracket → List (Terminal X) → Option (List (Terminal X))
 closed bracket.Round ts = behind_closing_paren ts
 closed bracket.Square ts = behind_closing_bracket ts
+closed bracket.Curly ts = behind_closing_brace ts
 
 -- one expression or more, joined by commas, up to the closing bracket
-abbrev pub some_elements : Reader → Bracket → ℕ → List Terminal → Option (Terms × List Terminal)
+abbrev pub some_elements : {X T : Type 0} → Reader X T → Bracket → ℕ → List (Terminal X)
+    → Option (List T × List (Terminal X))
 some_elements read b zero ts = None
 some_elements read b (suc n) ts = do
   e ← read level.Conditional ts
   elim (closed b e.1) [
-    | Some rest ↦ Some (term_and e.0 no_terms, rest)
+    | Some rest ↦ Some ((e.0 ∷ []), rest)
     | None ↦ (do
       next ← behind_comma e.1
       es ← some_elements read b n next
-      Some (term_and e.0 es.0, es.1))
+      Some ((e.0 ∷ es.0), es.1))
   ]
 
-abbrev pub elements : Reader → Bracket → List Terminal → Option (Terms × List Terminal)
+abbrev pub elements : {X T : Type 0} → Reader X T → Bracket → List (Terminal X)
+    → Option (List T × List (Terminal X))
 elements read b ts = elim (closed b ts) [
-  | Some rest ↦ Some (no_terms, rest)
+  | Some rest ↦ Some ([], rest)
   | None ↦ some_elements read b (length ts) ts
 ]
 
 -- the arguments of a call
-abbrev pub arguments : Reader → List Terminal → Option (Terms × List Terminal)
+abbrev pub arguments : {X T : Type 0} → Reader X T → List (Terminal X)
+    → Option (List T × List (Terminal X))
 arguments read ts = do
   inside ← behind_paren ts
   elements read bracket.Round inside
 
-abbrev pub name_or_call : Reader → List ℕ → List Terminal → Term × List Terminal
-name_or_call read x ts =
-    or_else (arguments read ts >>= λ es. Some (ast.Call x es.0, es.1)) (ast.Name x, ts)
+abbrev pub name_or_call : {X T : Type 0} (forms : Forms X T) → Reader X T → List ℕ
+    → List (Terminal X) → T × List (Terminal X)
+name_or_call forms read x ts =
+    or_else (arguments read ts >>= λ es. Some (forms.Call x es.0, es.1)) (forms.Name x, ts)
 
-abbrev pub parenthesized : Reader → List Terminal → Reading
+abbrev pub parenthesized : {X T : Type 0} → Reader X T → List (Terminal X) → Reading X T
 parenthesized read ts = do
   e ← read level.Conditional ts
   rest ← behind_closing_paren e.1
   Some (e.0, rest)
 
-abbrev pub atom : Reader → List Terminal → Reading
-atom read (terminal.Number n ∷ ts) = Some (ast.Int n, ts)
-atom read (terminal.Text cs ∷ ts) = Some (ast.Text cs, ts)
-atom read (terminal.Word word.True ∷ ts) = Some (ast.Bool true, ts)
-atom read (terminal.Word word.False ∷ ts) = Some (ast.Bool false, ts)
-atom read (terminal.Name x ∷ ts) = Some (name_or_call read x ts)
-atom read (terminal.Word word.LeftBracket ∷ ts) =
-    elements read bracket.Square ts >>= λ es. Some (ast.List es.0, es.1)
-atom read (terminal.Word word.LeftParen ∷ ts) = parenthesized read ts
-atom read _ = None
+-- a set, where it may stand
+abbrev pub set : {X T : Type 0} (forms : Forms X T) → Reader X T → List (Terminal X) → Reading X T
+set forms read ts = do
+  es ← elements read bracket.Curly ts
+  e ← forms.Set es.0
+  Some (e, es.1)
+
+-- what a hole stands for
+abbrev pub special : {X T : Type 0} (forms : Forms X T) → X → List (Terminal X) → Reading X T
+special forms x ts = followed_by (forms.Hole x) ts
+
+abbrev pub atom : {X T : Type 0} (forms : Forms X T) → Reader X T → List (Terminal X) → Reading X T
+atom forms read (terminal.Number n ∷ ts) = Some (forms.Int n, ts)
+atom forms read (terminal.Text cs ∷ ts) = Some (forms.Text cs, ts)
+atom forms read (terminal.Word word.True ∷ ts) = Some (forms.Bool true, ts)
+atom forms read (terminal.Word word.False ∷ ts) = Some (forms.Bool false, ts)
+atom forms read (terminal.Special x ∷ ts) = special forms x ts
+atom forms read (terminal.Name x ∷ ts) = Some (name_or_call forms read x ts)
+atom forms read (terminal.Word word.LeftBracket ∷ ts) =
+    elements read bracket.Square ts >>= λ es. Some (forms.List es.0, es.1)
+atom forms read (terminal.Word word.LeftBrace ∷ ts) = set forms read ts
+atom forms read (terminal.Word word.LeftParen ∷ ts) = parenthesized read ts
+atom forms read _ = None
 
 -- an operator that may stand before what it takes
-abbrev pub prefixed : Reader → Level
-    → (behind : List Terminal → Option (List Terminal)) → (Term → Term) → List Terminal → Reading
+abbrev pub prefixed : {X T : Type 0} → Reader X T → Level
+    → (behind : List (Terminal X) → Option (List (Terminal X))) → (T → T) → List (Terminal X)
+    → Reading X T
 prefixed read k behind f ts = elim (behind ts) [
   | Some rest ↦ (do
     e ← read k rest
@@ -258,29 +317,32 @@ prefixed read k behind f ts = elim (behind ts) [
 ]
 
 -- reading at each level, by a reader for the parts
-abbrev pub at_level : Reader → Level → List Terminal → Reading
-at_level read level.Conditional ts =
-    read level.Disjunction ts >>= λ a. Some (with_conditional_tail read a)
-at_level read level.Disjunction ts =
-    read level.Conjunction ts >>= λ a. Some (with_joints read level.Disjunction (length a.1) a)
-at_level read level.Conjunction ts =
-    read level.Negation ts >>= λ a. Some (with_joints read level.Conjunction (length a.1) a)
-at_level read level.Negation ts = prefixed read level.Negation behind_not ast.Not ts
-at_level read level.Comparison ts = read level.Sum ts >>= λ a. Some (with_comparison read a)
-at_level read level.Sum ts =
-    read level.Product ts >>= λ a. Some (with_joints read level.Sum (length a.1) a)
-at_level read level.Product ts =
-    read level.Unary ts >>= λ a. Some (with_joints read level.Product (length a.1) a)
-at_level read level.Unary ts = prefixed read level.Unary behind_minus ast.Neg ts
-at_level read level.Power ts = read level.Postfix ts >>= λ a. Some (with_power read a)
-at_level read level.Postfix ts =
-    read level.Atom ts >>= λ a. Some (with_suffixes read (length a.1) a)
-at_level read level.Atom ts = atom read ts
+abbrev pub at_level : {X T : Type 0} (forms : Forms X T) → Reader X T → Level
+    → List (Terminal X) → Reading X T
+at_level forms read level.Conditional ts =
+    read level.Disjunction ts >>= λ a. Some (with_conditional_tail forms read a)
+at_level forms read level.Disjunction ts =
+    read level.Conjunction ts
+    >>= λ a. Some (with_joints forms read level.Disjunction (length a.1) a)
+at_level forms read level.Conjunction ts =
+    read level.Negation ts >>= λ a. Some (with_joints forms read level.Conjunction (length a.1) a)
+at_level forms read level.Negation ts = prefixed read level.Negation behind_not forms.Not ts
+at_level forms read level.Comparison ts =
+    read level.Sum ts >>= λ a. Some (with_comparison forms read a)
+at_level forms read level.Sum ts =
+    read level.Product ts >>= λ a. Some (with_joints forms read level.Sum (length a.1) a)
+at_level forms read level.Product ts =
+    read level.Unary ts >>= λ a. Some (with_joints forms read level.Product (length a.1) a)
+at_level forms read level.Unary ts = prefixed read level.Unary behind_minus forms.Neg ts
+at_level forms read level.Power ts = read level.Postfix ts >>= λ a. Some (with_power forms read a)
+at_level forms read level.Postfix ts =
+    read level.Atom ts >>= λ a. Some (with_suffixes forms read (length a.1) a)
+at_level forms read level.Atom ts = atom forms read ts
 
 -- reading by so many steps at most
-abbrev pub read_within : ℕ → Reader
-read_within zero k ts = None
-read_within (suc n) k ts = at_level (read_within n) k ts
+abbrev pub read_within : {X T : Type 0} (forms : Forms X T) → ℕ → Reader X T
+read_within forms zero k ts = None
+read_within forms (suc n) k ts = at_level forms (read_within forms n) k ts
 
 -- how many levels bind closer
 abbrev pub levels_above : Level → ℕ
@@ -297,8 +359,8 @@ levels_above level.Postfix = 1
 levels_above level.Atom = 0
 
 -- as many steps as reading takes
-abbrev pub steps : Level → List Terminal → ℕ
+abbrev pub steps : {X : Type 0} → Level → List (Terminal X) → ℕ
 steps k ts = suc (11 * length ts + levels_above k)
 
-unfoldable pub reading : Reader
-reading k ts = read_within (steps k ts) k ts
+unfoldable pub reading : {X T : Type 0} (forms : Forms X T) → Reader X T
+reading forms k ts = read_within forms (steps k ts) k ts

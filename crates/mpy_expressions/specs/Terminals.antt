@@ -43,7 +43,7 @@ word_among (e ∷ es) bytes = if pointwise nat_eq e.0 bytes then Some e.1 else w
 unfoldable pub word_of : List ℕ → Option Word
 word_of bytes = word_among words bytes
 
-abbrev pub word_terminal : Option Word → Terminal
+abbrev pub word_terminal : Option Word → Terminal Unit
 word_terminal None = terminal.Other
 word_terminal (Some w) = terminal.Word w
 
@@ -52,23 +52,23 @@ abbrev pub is_numeral : List ℕ → Bool
 is_numeral [] = false
 is_numeral (c ∷ rest) = list_all is_ascii_digit (c ∷ rest) && (not (c == 48) || length rest == 0)
 
-abbrev pub number_terminal_of : Option ℕ → Terminal
+abbrev pub number_terminal_of : Option ℕ → Terminal Unit
 number_terminal_of None = terminal.Other
 number_terminal_of (Some n) = terminal.Number n
 
-abbrev pub number_terminal : List ℕ → Terminal
+abbrev pub number_terminal : List ℕ → Terminal Unit
 number_terminal digits =
     if is_numeral digits then number_terminal_of (number_of digits) else terminal.Other
 
-abbrev pub text_terminal_of : Option (List ℕ) → Terminal
+abbrev pub text_terminal_of : Option (List ℕ) → Terminal Unit
 text_terminal_of None = terminal.Other
 text_terminal_of (Some cs) = terminal.Text cs
 
 -- a literal in single or double quotes
-abbrev pub text_terminal : List ℕ → Terminal
+abbrev pub text_terminal : List ℕ → Terminal Unit
 text_terminal bytes = text_terminal_of (literal_characters bytes)
 
-abbrev pub terminal_by : Kind → List ℕ → Terminal
+abbrev pub terminal_by : Kind → List ℕ → Terminal Unit
 terminal_by kind.Name text = terminal.Name text
 terminal_by kind.Reserved text = word_terminal (word_of text)
 terminal_by kind.Number text = number_terminal text
@@ -76,8 +76,8 @@ terminal_by kind.Text text = text_terminal text
 terminal_by kind.Mark text = word_terminal (word_of text)
 terminal_by kind.Meta text = terminal.Other
 
-abbrev pub terminal_of : Token → Terminal
+abbrev pub terminal_of : Token → Terminal Unit
 terminal_of t = terminal_by t.kind t.text
 
-abbrev pub terminals : List Token → List Terminal
+abbrev pub terminals : List Token → List (Terminal Unit)
 terminals ts = map terminal_of ts

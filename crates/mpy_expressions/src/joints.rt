@@ -3,14 +3,15 @@ ghost use Rattle.std.specs.Prelude.{◌≡◌};
 ghost use Rattle.mpy_expressions.specs.Joints.{joint_at};
 
 use crate::words::Word;
-use mpy_tree::{ArithOp, Level};
+use mpy_tree::{ArithOp, CmpOp, Level};
 
-/// An operator that joins two parts, and groups to the left.
+/// An operator of programs that joins two parts.
 #[derive(Clone, Copy, PartialEq, Eq, Debug, Drop)]
 pub enum Joint {
     Or,
     And,
     Arith(ArithOp),
+    Cmp(CmpOp),
 }
 
 /// The joint of a level that a word is, if it is one.

@@ -4,8 +4,10 @@
 mod expressions;
 mod joints;
 mod longest;
+mod program_forms;
 mod terminals;
 mod terms;
+mod forms;
 mod words;
 
 pub use expressions::{behind_closing, behind_colon, expression};
@@ -14,6 +16,7 @@ pub use longest::{ExprError, one_expression, read_expr};
 use std::alloc::AllocError;
 pub use terminals::{Terminal, terminals_of};
 pub use terms::Bracket;
+pub use forms::Forms;
 pub use words::Word;
 
 /// Want of memory, where a call has no other refusal.

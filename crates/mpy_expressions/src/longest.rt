@@ -40,7 +40,7 @@ pub fn read_expr(alloc: Global, toks: &Tokens, from: usize) -> Result<(Expr, usi
 {
     let tokens = &toks.items()[from..];
     let seen = terminals_of(alloc, tokens)?;
-    match expression(alloc, Level::Conditional, &seen)? {
+    match expression::<Expr>(alloc, Level::Conditional, &seen)? {
         None => Err(ExprError::NoExpr),
         Some((e, rest)) => Ok((e, toks.len() - rest.len())),
     }

@@ -13,7 +13,7 @@ use std::alloc::Global;
 
 /// What the grammar sees of a token.
 #[derive(Drop)]
-pub enum Terminal {
+pub enum Terminal<X> {
     /// a name that isn't reserved
     Name(Name),
     /// a number literal, by its value
@@ -22,6 +22,12 @@ pub enum Terminal {
     Text(Chars),
     /// a mark or a reserved word
     Word(Word),
+    /// what only some kinds of expression have, in the place of an expression
+    Special(X),
+    /// an operator of the level of `+`, which only some kinds of expression have
+    Operator(X),
+    /// a comparison, which only some kinds of expression have
+    Comparator(X),
     /// a token that no expression and no line has
     Other,
 }
@@ -41,7 +47,7 @@ fn is_numeral(bytes: &[u8]) -> bool
     }
 }
 
-fn word_terminal(bytes: &[u8]) -> Terminal
+fn word_terminal(bytes: &[u8]) -> Terminal<()>
     ensures { result ≡ word_terminal (word_of bytes.now) }
 {
     match word_of(bytes) {
@@ -50,7 +56,7 @@ fn word_terminal(bytes: &[u8]) -> Terminal
     }
 }
 
-fn number_terminal(bytes: &[u8]) -> Terminal
+fn number_terminal(bytes: &[u8]) -> Terminal<()>
     ensures { result ≡ number_terminal bytes.now }
 {
     if !is_numeral(bytes) {
@@ -62,7 +68,7 @@ fn number_terminal(bytes: &[u8]) -> Terminal
     }
 }
 
-fn text_terminal(alloc: Global, bytes: &[u8]) -> Result<Terminal, NoMemory>
+fn text_terminal(alloc: Global, bytes: &[u8]) -> Result<Terminal<()>, NoMemory>
     ensures { IfOk result (λ t. t ≡ text_terminal bytes.now) }
 {
     match literal_characters(alloc, bytes)? {
@@ -71,7 +77,7 @@ fn text_terminal(alloc: Global, bytes: &[u8]) -> Result<Terminal, NoMemory>
     }
 }
 
-fn terminal_of(alloc: Global, token: &Token) -> Result<Terminal, NoMemory>
+fn terminal_of(alloc: Global, token: &Token) -> Result<Terminal<()>, NoMemory>
     ensures { IfOk result (λ t. t ≡ terminal_of token.now) }
 {
     let bytes = token.text.bytes();
@@ -85,7 +91,7 @@ fn terminal_of(alloc: Global, token: &Token) -> Result<Terminal, NoMemory>
 }
 
 /// What the grammar sees of tokens, in their order.
-pub fn terminals_of(alloc: Global, tokens: &[Token]) -> Result<Vec<Terminal>, NoMemory>
+pub fn terminals_of(alloc: Global, tokens: &[Token]) -> Result<Vec<Terminal<()>>, NoMemory>
     ensures { IfOk result (λ r. r.items ≡ terminals tokens.now) }
 {
     let mut seen = Vec::new(alloc);

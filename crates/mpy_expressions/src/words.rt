@@ -71,6 +71,10 @@ pub enum Word {
     Return,
     True,
     While,
+    /// `{`, of rules alone
+    LeftBrace,
+    /// `}`, of rules alone
+    RightBrace,
 }
 
 // Each with its bytes.

@@ -13,10 +13,10 @@ use Rattle.mpy_parser.specs.Views.{line_of, lines_of}
 use Rattle.mpy_parser.proofs.ItemsSound.{item_sound}
 use Rattle.mpy_parser.proofs.ItemsComplete.{item_reads}
 
-pub spelled_by : (ts : List Terminal) (i : LineItem) → item_at ts ≡ Some i → SpellsItem ts i
+pub spelled_by : (ts : List (Terminal Unit)) (i : LineItem) → item_at ts ≡ Some i → SpellsItem ts i
 spelled_by ts i h = subst (λ o. IfSome o (SpellsItem ts)) h (item_sound ts)
 
-pub not_spelled_by : (ts : List Terminal) → item_at ts ≡ None → (i : LineItem) → SpellsItem ts i → ⊥
+pub not_spelled_by : (ts : List (Terminal Unit)) → item_at ts ≡ None → (i : LineItem) → SpellsItem ts i → ⊥
 not_spelled_by ts h i s = let z : None ≡ Some i = sym h ∙ item_reads ts i s in cc
 
 snoc : (ls : List Line) (is : List ItemLine) (l : Line) (i : ItemLine) → AreItems ls is → IsItem l i → AreItems (ls ++ (l ∷ [])) (is ++ (i ∷ []))

@@ -6,6 +6,7 @@ use Rattle.mpy_tree.specs.Syntax.{Term, no_term, a_term, Action}
 use Rattle.mpy_tree.specs.Syntax as ast
 use Rattle.mpy_tree.specs.declared.operators.ArithOp.{ArithOp}
 use Rattle.mpy_tree.specs.declared.levels.Level.TheVariants as level
+use Rattle.mpy_expressions.specs.Programs.{programs}
 use Rattle.mpy_expressions.specs.declared.words.Word.{Word}
 use Rattle.mpy_expressions.specs.declared.words.Word.TheVariants as word
 use Rattle.mpy_expressions.specs.declared.terminals.Terminal.{Terminal}
@@ -16,60 +17,60 @@ use Rattle.mpy_parser.specs.Items.{Opening, function, when, else_when, otherwise
 use Rattle.mpy_parser.specs.Items.{LineItem, simple, headed, augmented}
 
 -- what was read, where nothing is left
-abbrev pub ended : {A : Type 0} → A → List Terminal → Option A
+abbrev pub ended : {A : Type 0} → A → List (Terminal Unit) → Option A
 ended a [] = Some a
 ended a (t ∷ ts) = None
 
 -- the expression that all terminals spell
-abbrev pub whole : List Terminal → Option Term
-whole ts = reading level.Conditional ts >>= λ e. ended e.0 e.1
+abbrev pub whole : List (Terminal Unit) → Option Term
+whole ts = reading programs level.Conditional ts >>= λ e. ended e.0 e.1
 
 -- the operator and the right side of an augmented assignment
-abbrev pub augmenting : Word → List Terminal → Option (ArithOp × Term)
+abbrev pub augmenting : Word → List (Terminal Unit) → Option (ArithOp × Term)
 augmenting w ts = augmented w >>= λ op. whole ts >>= λ e. Some (op, e)
 
 -- an augmented assignment, behind the target in brackets
-abbrev pub augmented_at : List ℕ → Term → Word → List Terminal → Option Action
+abbrev pub augmented_at : List ℕ → Term → Word → List (Terminal Unit) → Option Action
 augmented_at x i w ts = augmenting w ts >>= λ a. Some (ast.AugmentAt x i a.0 a.1)
 
 -- behind the target in brackets
-abbrev pub assigned : List ℕ → Term → List Terminal → Option Action
+abbrev pub assigned : List ℕ → Term → List (Terminal Unit) → Option Action
 assigned x i (terminal.Word word.Assign ∷ ts) = whole ts >>= λ e. Some (ast.Put x i e)
 assigned x i (terminal.Word w ∷ ts) = augmented_at x i w ts
 assigned x i _ = None
 
-abbrev pub at_place : List ℕ → List Terminal → Option Action
+abbrev pub at_place : List ℕ → List (Terminal Unit) → Option Action
 at_place x ts = do
-  i ← reading level.Conditional ts
+  i ← reading programs level.Conditional ts
   rest ← behind_closing_bracket i.1
   assigned x i.0 rest
 
 abbrev pub is_append : List ℕ → Bool
 is_append f = pointwise nat_eq f (codes "append")
 
-abbrev pub argument : List ℕ → List Terminal → Option Action
+abbrev pub argument : List ℕ → List (Terminal Unit) → Option Action
 argument x ts = do
-  e ← reading level.Conditional ts
+  e ← reading programs level.Conditional ts
   rest ← behind_closing_paren e.1
   ended (ast.Append x e.0) rest
 
-abbrev pub method : List ℕ → List Terminal → Option Action
+abbrev pub method : List ℕ → List (Terminal Unit) → Option Action
 method x (terminal.Name f ∷ terminal.Word word.LeftParen ∷ ts) =
     if is_append f then argument x ts else None
 method x _ = None
 
 -- behind a name and a word
-abbrev pub behind_name : List ℕ → Word → List Terminal → Option Action
+abbrev pub behind_name : List ℕ → Word → List (Terminal Unit) → Option Action
 behind_name x word.Assign ts = whole ts >>= λ e. Some (ast.Assign x e)
 behind_name x word.LeftBracket ts = at_place x ts
 behind_name x word.Dot ts = method x ts
 behind_name x w ts = augmenting w ts >>= λ a. Some (ast.Augment x a.0 a.1)
 
-abbrev pub given_at : List Terminal → Option Action
+abbrev pub given_at : List (Terminal Unit) → Option Action
 given_at [] = Some (ast.Return no_term)
 given_at (t ∷ ts) = whole (t ∷ ts) >>= λ e. Some (ast.Return (a_term e))
 
-abbrev pub simple_at : List Terminal → Option Action
+abbrev pub simple_at : List (Terminal Unit) → Option Action
 simple_at (terminal.Word word.Pass ∷ ts) = ended ast.Pass ts
 simple_at (terminal.Word word.Break ∷ ts) = ended ast.Break ts
 simple_at (terminal.Word word.Continue ∷ ts) = ended ast.Continue ts
@@ -78,24 +79,24 @@ simple_at (terminal.Name x ∷ terminal.Word w ∷ ts) = behind_name x w ts
 simple_at _ = None
 
 -- names joined by commas, and the closing parenthesis
-abbrev pub names_at : List Terminal → Option (List (List ℕ) × List Terminal)
+abbrev pub names_at : List (Terminal Unit) → Option (List (List ℕ) × List (Terminal Unit))
 names_at (terminal.Name x ∷ terminal.Word word.RightParen ∷ ts) = Some (x ∷ [], ts)
 names_at (terminal.Name x ∷ terminal.Word word.Comma ∷ ts) =
     names_at ts >>= λ xs. Some (x ∷ xs.0, xs.1)
 names_at _ = None
 
-abbrev pub parameters_at : List Terminal → Option (List (List ℕ) × List Terminal)
+abbrev pub parameters_at : List (Terminal Unit) → Option (List (List ℕ) × List (Terminal Unit))
 parameters_at (terminal.Word word.RightParen ∷ ts) = Some ([], ts)
 parameters_at ts = names_at ts
 
-abbrev pub function_at : List Terminal → Option (Opening × List Terminal)
+abbrev pub function_at : List (Terminal Unit) → Option (Opening × List (Terminal Unit))
 function_at (terminal.Name f ∷ terminal.Word word.LeftParen ∷ ts) =
     parameters_at ts >>= λ xs. Some (function f xs.0, xs.1)
 function_at _ = None
 
-abbrev pub each_at : List Terminal → Option (Opening × List Terminal)
+abbrev pub each_at : List (Terminal Unit) → Option (Opening × List (Terminal Unit))
 each_at (terminal.Name x ∷ terminal.Word word.In ∷ ts) =
-    reading level.Conditional ts >>= λ e. Some (for_each x e.0, e.1)
+    (reading programs) level.Conditional ts >>= λ e. Some (for_each x e.0, e.1)
 each_at _ = None
 
 -- the header of a test, by its word
@@ -104,11 +105,11 @@ test_of word.If e = when e
 test_of word.Elif e = else_when e
 test_of _ e = while e
 
-abbrev pub tested_at : Word → List Terminal → Option (Opening × List Terminal)
-tested_at w ts = reading level.Conditional ts >>= λ e. Some (test_of w e.0, e.1)
+abbrev pub tested_at : Word → List (Terminal Unit) → Option (Opening × List (Terminal Unit))
+tested_at w ts = reading programs level.Conditional ts >>= λ e. Some (test_of w e.0, e.1)
 
 -- a header up to its colon, and what stands behind it
-abbrev pub header_at : List Terminal → Option (Opening × List Terminal)
+abbrev pub header_at : List (Terminal Unit) → Option (Opening × List (Terminal Unit))
 header_at (terminal.Word word.Def ∷ ts) = function_at ts
 header_at (terminal.Word word.If ∷ ts) = tested_at word.If ts
 header_at (terminal.Word word.Elif ∷ ts) = tested_at word.Elif ts
@@ -117,18 +118,18 @@ header_at (terminal.Word word.While ∷ ts) = tested_at word.While ts
 header_at (terminal.Word word.For ∷ ts) = each_at ts
 header_at _ = None
 
-abbrev pub body_at : List Terminal → Option (Option Action)
+abbrev pub body_at : List (Terminal Unit) → Option (Option Action)
 body_at [] = Some None
 body_at (t ∷ ts) = simple_at (t ∷ ts) >>= λ act. Some (Some act)
 
 -- behind a header: its colon, and what may follow
-abbrev pub body_behind : List Terminal → Option (Option Action)
+abbrev pub body_behind : List (Terminal Unit) → Option (Option Action)
 body_behind ts = behind_colon ts >>= λ rest. body_at rest
 
-abbrev pub headed_at : Opening × List Terminal → Option LineItem
+abbrev pub headed_at : Opening × List (Terminal Unit) → Option LineItem
 headed_at h = body_behind h.1 >>= λ body. Some (headed h.0 body)
 
-unfoldable pub item_at : List Terminal → Option LineItem
+unfoldable pub item_at : List (Terminal Unit) → Option LineItem
 item_at ts = elim (header_at ts) [
   | Some h ↦ headed_at h
   | None ↦ (simple_at ts >>= λ act. Some (simple act))

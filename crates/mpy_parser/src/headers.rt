@@ -7,11 +7,11 @@ ghost use Rattle.mpy_parser.specs.Views.{opening_of};
 use crate::NoMemory;
 use crate::items::Header;
 use mpy_expressions::{Terminal, Word, expression};
-use mpy_tree::{Level, Name, Names};
+use mpy_tree::{Expr, Level, Name, Names};
 use std::alloc::Global;
 
 // Names joined by commas, and the closing parenthesis.
-fn names(alloc: Global, ts: &[Terminal]) -> Result<Option<(Names, &[Terminal])>, NoMemory>
+fn names(alloc: Global, ts: &[Terminal<()>]) -> Result<Option<(Names, &[Terminal<()>])>, NoMemory>
     ensures { IfOk result (λ r. option_map (λ x. (x.0, x.1.now)) r ≡ names_at ts.now) }
 {
     let mut found = Vec::new(alloc);
@@ -27,7 +27,7 @@ fn names(alloc: Global, ts: &[Terminal]) -> Result<Option<(Names, &[Terminal])>,
     Ok(None)
 }
 
-fn parameters(alloc: Global, ts: &[Terminal]) -> Result<Option<(Names, &[Terminal])>, NoMemory>
+fn parameters(alloc: Global, ts: &[Terminal<()>]) -> Result<Option<(Names, &[Terminal<()>])>, NoMemory>
     ensures { IfOk result (λ r. option_map (λ x. (x.0, x.1.now)) r ≡ parameters_at ts.now) }
 {
     match ts {
@@ -38,7 +38,7 @@ fn parameters(alloc: Global, ts: &[Terminal]) -> Result<Option<(Names, &[Termina
     }
 }
 
-fn function(alloc: Global, ts: &[Terminal]) -> Result<Option<(Header, &[Terminal])>, NoMemory>
+fn function(alloc: Global, ts: &[Terminal<()>]) -> Result<Option<(Header, &[Terminal<()>])>, NoMemory>
     ensures { IfOk result (λ r. option_map (λ x. (opening_of x.0, x.1.now)) r ≡ function_at ts.now) }
 {
     let [
@@ -55,14 +55,14 @@ fn function(alloc: Global, ts: &[Terminal]) -> Result<Option<(Header, &[Terminal
     Ok(Some((Header::Def(name.copy()?, params), rest)))
 }
 
-fn each(alloc: Global, ts: &[Terminal]) -> Result<Option<(Header, &[Terminal])>, NoMemory>
+fn each(alloc: Global, ts: &[Terminal<()>]) -> Result<Option<(Header, &[Terminal<()>])>, NoMemory>
     ensures { IfOk result (λ r. option_map (λ x. (opening_of x.0, x.1.now)) r ≡ each_at ts.now) }
 {
     let [Terminal::Name(name), Terminal::Word(Word::In), ts @ ..] = ts else {
         return Ok(None);
     };
     let name = name.copy()?;
-    let Some((e, rest)) = expression(alloc, Level::Conditional, ts)? else {
+    let Some((e, rest)) = expression::<Expr>(alloc, Level::Conditional, ts)? else {
         return Ok(None);
     };
     Ok(Some((Header::For(name, e), rest)))
@@ -72,11 +72,11 @@ fn each(alloc: Global, ts: &[Terminal]) -> Result<Option<(Header, &[Terminal])>,
 fn tested(
     alloc: Global,
     word: Word,
-    ts: &[Terminal],
-) -> Result<Option<(Header, &[Terminal])>, NoMemory>
+    ts: &[Terminal<()>],
+) -> Result<Option<(Header, &[Terminal<()>])>, NoMemory>
     ensures { IfOk result (λ r. option_map (λ x. (opening_of x.0, x.1.now)) r ≡ tested_at word ts.now) }
 {
-    let Some((e, rest)) = expression(alloc, Level::Conditional, ts)? else {
+    let Some((e, rest)) = expression::<Expr>(alloc, Level::Conditional, ts)? else {
         return Ok(None);
     };
     match word {
@@ -89,8 +89,8 @@ fn tested(
 /// The header at the front up to its colon, and what stands behind it.
 pub(crate) fn header(
     alloc: Global,
-    ts: &[Terminal],
-) -> Result<Option<(Header, &[Terminal])>, NoMemory>
+    ts: &[Terminal<()>],
+) -> Result<Option<(Header, &[Terminal<()>])>, NoMemory>
     ensures { IfOk result (λ r. option_map (λ x. (opening_of x.0, x.1.now)) r ≡ header_at ts.now) }
 {
     let [Terminal::Word(word), ts @ ..] = ts else {

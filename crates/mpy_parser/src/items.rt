@@ -31,7 +31,7 @@ pub enum Item {
 }
 
 // What may stand behind a header: its colon, and a simple statement or nothing.
-fn body(alloc: Global, ts: &[Terminal]) -> Result<Option<Option<Act>>, NoMemory>
+fn body(alloc: Global, ts: &[Terminal<()>]) -> Result<Option<Option<Act>>, NoMemory>
     ensures { IfOk result (λ r. option_map (λ m. option_map action_of m) r ≡ body_behind ts.now) }
 {
     let Some(ts) = behind_colon(ts) else {
@@ -46,7 +46,7 @@ fn body(alloc: Global, ts: &[Terminal]) -> Result<Option<Option<Act>>, NoMemory>
     }
 }
 
-fn headed(alloc: Global, header: Header, ts: &[Terminal]) -> Result<Option<Item>, NoMemory>
+fn headed(alloc: Global, header: Header, ts: &[Terminal<()>]) -> Result<Option<Item>, NoMemory>
     ensures { IfOk result (λ r. option_map item_of r ≡ headed_at (opening_of header, ts.now)) }
 {
     body(alloc, ts).map(|found| found.map(|statement| Item::Headed(header, statement)))
@@ -54,7 +54,7 @@ fn headed(alloc: Global, header: Header, ts: &[Terminal]) -> Result<Option<Item>
 
 /// The item that all terminals of a logical line spell, if they spell one.
 #[tactic(auto, unfolding(crate::specs::ItemReading::item_at))]
-pub(crate) fn line_item(alloc: Global, ts: &[Terminal]) -> Result<Option<Item>, NoMemory>
+pub(crate) fn line_item(alloc: Global, ts: &[Terminal<()>]) -> Result<Option<Item>, NoMemory>
     ensures { IfOk result (λ r. option_map item_of r ≡ item_at ts.now) }
 {
     if let Some((begun, rest)) = header(alloc, ts)? {

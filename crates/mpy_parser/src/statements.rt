@@ -27,17 +27,17 @@ fn augmented(word: Word) -> Option<ArithOp>
 }
 
 // What was read, where nothing is left.
-fn ended(act: Act, rest: &[Terminal]) -> Option<Act>
+fn ended(act: Act, rest: &[Terminal<()>]) -> Option<Act>
     ensures { option_map action_of result ≡ ended (action_of act) rest.now }
 {
     rest.is_empty().then_some(act)
 }
 
 // The expression that all terminals spell.
-fn whole(alloc: Global, ts: &[Terminal]) -> Result<Option<Expr>, NoMemory>
+fn whole(alloc: Global, ts: &[Terminal<()>]) -> Result<Option<Expr>, NoMemory>
     ensures { IfOk result (λ r. option_map term_of r ≡ whole ts.now) }
 {
-    let Some((e, rest)) = expression(alloc, Level::Conditional, ts)? else {
+    let Some((e, rest)) = expression::<Expr>(alloc, Level::Conditional, ts)? else {
         return Ok(None);
     };
     Ok(rest.is_empty().then_some(e))
@@ -47,7 +47,7 @@ fn whole(alloc: Global, ts: &[Terminal]) -> Result<Option<Expr>, NoMemory>
 fn augmenting(
     alloc: Global,
     word: Word,
-    ts: &[Terminal],
+    ts: &[Terminal<()>],
 ) -> Result<Option<(ArithOp, Expr)>, NoMemory>
     ensures { IfOk result (λ r. option_map (λ x. (x.0, term_of x.1)) r ≡ augmenting word ts.now) }
 {
@@ -66,7 +66,7 @@ fn augmented_at(
     name: Name,
     index: Expr,
     word: Word,
-    ts: &[Terminal],
+    ts: &[Terminal<()>],
 ) -> Result<Option<Act>, NoMemory>
     ensures { IfOk result (λ r. option_map action_of r ≡ augmented_at name (term_of index) word ts.now) }
 {
@@ -78,7 +78,7 @@ fn assigned(
     alloc: Global,
     name: Name,
     index: Expr,
-    ts: &[Terminal],
+    ts: &[Terminal<()>],
 ) -> Result<Option<Act>, NoMemory>
     ensures { IfOk result (λ r. option_map action_of r ≡ assigned name (term_of index) ts.now) }
 {
@@ -91,11 +91,11 @@ fn assigned(
     }
 }
 
-fn at_place(alloc: Global, name: &Name, ts: &[Terminal]) -> Result<Option<Act>, NoMemory>
+fn at_place(alloc: Global, name: &Name, ts: &[Terminal<()>]) -> Result<Option<Act>, NoMemory>
     ensures { IfOk result (λ r. option_map action_of r ≡ at_place name.now ts.now) }
 {
     let name = name.copy()?;
-    let Some((index, ts)) = expression(alloc, Level::Conditional, ts)? else {
+    let Some((index, ts)) = expression::<Expr>(alloc, Level::Conditional, ts)? else {
         return Ok(None);
     };
     let Some(rest) = behind_closing(Bracket::Square, ts) else {
@@ -104,11 +104,11 @@ fn at_place(alloc: Global, name: &Name, ts: &[Terminal]) -> Result<Option<Act>, 
     assigned(alloc, name, index, rest)
 }
 
-fn argument(alloc: Global, name: &Name, ts: &[Terminal]) -> Result<Option<Act>, NoMemory>
+fn argument(alloc: Global, name: &Name, ts: &[Terminal<()>]) -> Result<Option<Act>, NoMemory>
     ensures { IfOk result (λ r. option_map action_of r ≡ argument name.now ts.now) }
 {
     let name = name.copy()?;
-    let Some((e, ts)) = expression(alloc, Level::Conditional, ts)? else {
+    let Some((e, ts)) = expression::<Expr>(alloc, Level::Conditional, ts)? else {
         return Ok(None);
     };
     Ok(behind_closing(Bracket::Round, ts).and_then(|rest| ended(Act::Append(name, e), rest)))
@@ -121,7 +121,7 @@ fn is_append(name: &Name) -> bool
 }
 
 // The one method, behind its dot.
-fn method(alloc: Global, name: &Name, ts: &[Terminal]) -> Result<Option<Act>, NoMemory>
+fn method(alloc: Global, name: &Name, ts: &[Terminal<()>]) -> Result<Option<Act>, NoMemory>
     ensures { IfOk result (λ r. option_map action_of r ≡ method name.now ts.now) }
 {
     match ts {
@@ -144,7 +144,7 @@ fn behind_name(
     alloc: Global,
     name: &Name,
     word: Word,
-    ts: &[Terminal],
+    ts: &[Terminal<()>],
 ) -> Result<Option<Act>, NoMemory>
     ensures { IfOk result (λ r. option_map action_of r ≡ behind_name name.now word ts.now) }
 {
@@ -168,7 +168,7 @@ fn behind_name(
     }
 }
 
-fn given(alloc: Global, ts: &[Terminal]) -> Result<Option<Act>, NoMemory>
+fn given(alloc: Global, ts: &[Terminal<()>]) -> Result<Option<Act>, NoMemory>
     ensures { IfOk result (λ r. option_map action_of r ≡ given_at ts.now) }
 {
     if ts.is_empty() {
@@ -181,7 +181,7 @@ fn given(alloc: Global, ts: &[Terminal]) -> Result<Option<Act>, NoMemory>
 }
 
 /// The simple statement that all terminals spell, if they spell one.
-pub(crate) fn simple(alloc: Global, ts: &[Terminal]) -> Result<Option<Act>, NoMemory>
+pub(crate) fn simple(alloc: Global, ts: &[Terminal<()>]) -> Result<Option<Act>, NoMemory>
     ensures { IfOk result (λ r. option_map action_of r ≡ simple_at ts.now) }
 {
     match ts {

@@ -1,5 +1,5 @@
 -- Above its own level an expression is spelled in parentheses alone.
-use Rattle.std.proofs.Common.{◌≡◌, ◌≤◌, ◌⊎◌, inl, inr, List, refl, arith}
+use Rattle.std.proofs.Common.{◌≡◌, ◌≤◌, ◌⊎◌, inl, inr, List, Option, Some, None, refl, arith}
 use Rattle.mpy_tree.specs.Syntax.{Term}
 use Rattle.mpy_tree.specs.declared.operators.ArithOp.{ArithOp}
 use Rattle.mpy_tree.specs.declared.operators.ArithOp.TheVariants.{Add, Sub, Mul, Floor, Rem, Power}
@@ -8,7 +8,7 @@ use Rattle.mpy_tree.specs.declared.levels.Level.TheVariants as level
 use Rattle.mpy_tree.specs.Levels.{above, rank}
 use Rattle.mpy_tree.specs.Printing.{level_of}
 use Rattle.mpy_expressions.specs.declared.terminals.Terminal.{Terminal}
-use Rattle.mpy_expressions.specs.Grammar.{Spells, conditional, disjunction, conjunction, negation, compared, arithmetic, minus, index, slice, number, quoted, truth, call, items, parenthesized, higher, name as a_name}
+use Rattle.mpy_expressions.specs.Grammar.{Spells, conditional, disjunction, conjunction, negation, compared, arithmetic, minus, index, slice, number, quoted, truth, hole, set, operated, likened, call, items, parenthesized, higher, name as a_name}
 use Rattle.mpy_round_trip.specs.Parentheses.{IsParenthesized, ParenthesizedAboveItsLevel}
 
 below_next : (k : Level) → rank k ≤ rank (above k)
@@ -24,7 +24,7 @@ below_next level.Power = omega arith
 below_next level.Postfix = omega arith
 below_next level.Atom = omega arith
 
-further_down : (k : Level) (xs : List Terminal) (e : Term) → (rank (above k) ≤ rank (level_of e)) ⊎ IsParenthesized xs e → (rank k ≤ rank (level_of e)) ⊎ IsParenthesized xs e
+further_down : (k : Level) (xs : List (Terminal Unit)) (e : Term) → (rank (above k) ≤ rank (level_of e)) ⊎ IsParenthesized xs e → (rank k ≤ rank (level_of e)) ⊎ IsParenthesized xs e
 further_down k xs e (inl h) = inl (omega (arith, below_next k))
 further_down k xs e (inr p) = inr p
 
@@ -42,6 +42,10 @@ highest _ _ _ (number n) = inl (omega arith)
 highest _ _ _ (quoted cs) = inl (omega arith)
 highest _ _ _ (truth b) = inl (omega arith)
 highest _ _ _ (a_name x) = inl (omega arith)
+highest _ _ e (hole x h) = absurd (let z : None ≡ Some e = h in cc)
+highest _ _ e (set h s) = absurd (let z : None ≡ Some e = h in cc)
+highest _ _ _ (operated x {f = f} h s t) = absurd (let z : ◌≡◌ {A = Option (Term → Term → Term)} None (Some f) = h in cc)
+highest _ _ _ (likened x {f = f} h s t) = absurd (let z : ◌≡◌ {A = Option (Term → Term → Term)} None (Some f) = h in cc)
 highest _ _ _ (call f es) = inl (omega arith)
 highest _ _ _ (items es) = inl (omega arith)
 highest _ _ _ (parenthesized {xs = ys} s) = inr (ys, (refl, s))

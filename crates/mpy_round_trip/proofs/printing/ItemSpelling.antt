@@ -12,6 +12,7 @@ use Rattle.mpy_expressions.specs.declared.words.Word.TheVariants as word
 use Rattle.mpy_expressions.specs.declared.terminals.Terminal.{Terminal}
 use Rattle.mpy_expressions.specs.declared.terminals.Terminal.TheVariants as terminal
 use Rattle.mpy_expressions.specs.Terminals.{word_of, terminal_by}
+use Rattle.mpy_expressions.specs.Programs.{programs}
 use Rattle.mpy_expressions.specs.Grammar.{Spells}
 use Rattle.mpy_parser.specs.Items.{Opening, function, headed, simple, augmented, assign, augment, put, augment_at, append, give, name_list, SpellsHeader, SpellsItem, a_function, open_body, a_statement, a_header}
 use Rattle.mpy_round_trip.specs.Proper.{IsProperTerm, MayAugment}
@@ -20,8 +21,8 @@ use Rattle.mpy_round_trip.proofs.printing.ProgramLines.{name, mark, reserved, te
 use Rattle.mpy_round_trip.proofs.printing.TermSpelling.{terminals_in, HasTerminals, whole}
 
 -- an expression that ends a line
-last : (e : Term) → IsProperTerm e → Spells level.Conditional (terminals_in (term_scraps e [])) e
-last e p = let s = whole e p in subst (λ ts. Spells level.Conditional ts e) (sym (s.onto [] ∙ append-nil s.own)) s.spells
+last : (e : Term) → IsProperTerm e → Spells programs level.Conditional (terminals_in (term_scraps e [])) e
+last e p = let s = whole e p in subst (λ ts. Spells programs level.Conditional ts e) (sym (s.onto [] ∙ append-nil s.own)) s.spells
 
 pub assignment : (x : List ℕ) (e : Term) → IsProperTerm e → SpellsItem (terminals_in (name x ∷ gap ∷ mark (codes "=") ∷ gap ∷ term_scraps e [])) (simple (ast.Assign x e))
 unfolding word_of
@@ -72,7 +73,7 @@ unfolding word_of
 returning e p = a_statement (give (last e p))
 
 -- a header that ends in an expression
-pub header : (front : List Terminal) (e : Term) (h : Opening) → ((ts : List Terminal) → Spells level.Conditional ts e → SpellsHeader (front ++ ts) h) → IsProperTerm e → SpellsItem (front ++ terminals_in (term_scraps e (mark (codes ":") ∷ []))) (headed h None)
+pub header : (front : List (Terminal Unit)) (e : Term) (h : Opening) → ((ts : List (Terminal Unit)) → Spells programs level.Conditional ts e → SpellsHeader (front ++ ts) h) → IsProperTerm e → SpellsItem (front ++ terminals_in (term_scraps e (mark (codes ":") ∷ []))) (headed h None)
 unfolding word_of
 header front e h spell p =
     let s = whole e p in

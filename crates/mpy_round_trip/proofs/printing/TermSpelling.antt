@@ -1,5 +1,5 @@
 -- The tokens of a printed expression spell it.
-use Rattle.std.proofs.Common.{◌≡◌, ℕ, zero, suc, ◌≤◌, Bool, true, false, cond, nat_lt, List, [], ◌∷◌, ◌++◌, map, codes, inl, inr, refl, ap, sym, ◌∙◌, subst, append_assoc, append-nil, arith, ltb-false}
+use Rattle.std.proofs.Common.{◌≡◌, ℕ, zero, suc, ◌≤◌, Bool, true, false, cond, nat_lt, List, [], ◌∷◌, ◌++◌, map, codes, Option, Some, None, inl, inr, refl, ap, sym, ◌∙◌, subst, append_assoc, append-nil, arith, ltb-false}
 use Rattle.std.proofs.lemmas.Bool.{cases_lt}
 use Rattle.mpy_tree.specs.declared.operators.ArithOp.{ArithOp}
 use Rattle.mpy_tree.specs.declared.operators.ArithOp.TheVariants.{Add, Sub, Mul, Floor, Rem, Power}
@@ -7,6 +7,7 @@ use Rattle.mpy_tree.specs.declared.operators.CmpOp.{CmpOp}
 use Rattle.mpy_tree.specs.declared.operators.CmpOp.TheVariants.{Eq, Ne, Lt, Le, Gt, Ge, Member, NotMember}
 use Rattle.mpy_tree.specs.Syntax.{Term, Terms, MaybeTerm, no_terms, term_and, no_term, a_term}
 use Rattle.mpy_tree.specs.Syntax as ast
+use Rattle.mpy_tree.specs.View.{terms, end_by}
 use Rattle.mpy_tree.specs.Printing.{arith_text, level_of, truth_text}
 use Rattle.mpy_lexer.specs.declared.token.Token.{Token}
 use Rattle.mpy_lexer.specs.declared.forms.Kind.TheVariants as kind
@@ -18,6 +19,7 @@ use Rattle.mpy_expressions.specs.declared.terminals.Terminal.TheVariants as term
 use Rattle.mpy_expressions.specs.Terminals.{word_of, terminal_by, terminal_of, terminals}
 use Rattle.mpy_tree.specs.Levels.{above, rank, left_level, right_level}
 use Rattle.mpy_expressions.specs.Joints.{arith_word}
+use Rattle.mpy_expressions.specs.Programs.{programs}
 use Rattle.mpy_expressions.specs.Grammar.{Spells, SpellsEnd, SpellsAll, conditional, disjunction, conjunction, negation, compared, arithmetic, minus, index, slice, number, quoted, truth, call, items, parenthesized, higher, missing, given, none, one, more, comparison, truth_word, name as a_name}
 use Rattle.mpy_round_trip.specs.Proper.{IsProperTerm, AreProperTerms, IsProperEnd}
 use Rattle.mpy_round_trip.proofs.Scraps.{Scrap, gap, word as piece, scrap_of, words_in}
@@ -26,12 +28,12 @@ use Rattle.mpy_round_trip.proofs.printing.Numerals.{numeral_terminal}
 use Rattle.mpy_round_trip.proofs.printing.Literals.{literal_terminal}
 
 -- what the grammar sees of the scraps
-abbrev pub terminals_in : List Scrap → List Terminal
+abbrev pub terminals_in : List Scrap → List (Terminal Unit)
 terminals_in [] = []
 terminals_in (gap ∷ ss) = terminals_in ss
 terminals_in (piece k bytes ∷ ss) = terminal_by k bytes ∷ terminals_in ss
 
-abbrev seen : Scrap → Terminal
+abbrev seen : Scrap → Terminal Unit
 seen gap = terminal.Other
 seen (piece k bytes) = terminal_by k bytes
 
@@ -78,44 +80,61 @@ rank_bound level.Power = omega arith
 rank_bound level.Postfix = omega arith
 rank_bound level.Atom = omega arith
 
-lower_by : (j k : ℕ) (xs : List Terminal) (e : Term) → k ≤ j → Spells (named j) xs e → Spells (named k) xs e
-lower_by zero k xs e h s = let same : 0 ≡ k = omega arith in subst (λ n. Spells (named n) xs e) same s
+lower_by : (j k : ℕ) (xs : List (Terminal Unit)) (e : Term) → k ≤ j → Spells programs (named j) xs e → Spells programs (named k) xs e
+lower_by zero k xs e h s = let same : 0 ≡ k = omega arith in subst (λ n. Spells programs (named n) xs e) same s
 lower_by (suc j) k xs e h s = elim (cases_lt k (suc j)) [
   | inl l ↦ lower_by j k xs e (omega arith) (higher {k = named j} s)
-  | inr g ↦ (let same : suc j ≡ k = omega arith in subst (λ n. Spells (named n) xs e) same s)
+  | inr g ↦ (let same : suc j ≡ k = omega arith in subst (λ n. Spells programs (named n) xs e) same s)
 ]
 
 -- what a level spells, each level that binds less spells too
-lower : (j k : Level) (xs : List Terminal) (e : Term) → rank k ≤ rank j → Spells j xs e → Spells k xs e
+lower : (j k : Level) (xs : List (Terminal Unit)) (e : Term) → rank k ≤ rank j → Spells programs j xs e → Spells programs k xs e
 lower j k xs e h s =
-    subst (λ n. Spells n xs e) (named_rank k)
-    (lower_by (rank j) (rank k) xs e h (subst (λ n. Spells n xs e) (sym (named_rank j)) s))
+    subst (λ n. Spells programs n xs e) (named_rank k)
+    (lower_by (rank j) (rank k) xs e h (subst (λ n. Spells programs n xs e) (sym (named_rank j)) s))
+
+-- expressions as a list of the logic, and an end of a slice as an option of it
+abbrev pub listed : Terms → List Term
+listed no_terms = []
+listed (term_and e es) = e ∷ listed es
+
+pub terms_listed : (es : Terms) → terms (listed es) ≡ es
+terms_listed no_terms = refl
+terms_listed (term_and e es) = ap (λ l. term_and e l) (terms_listed es)
+
+abbrev optional : MaybeTerm → Option Term
+optional no_term = None
+optional (a_term e) = Some e
+
+end_optional : (e : MaybeTerm) → end_by (λ x. x) (optional e) ≡ e
+end_optional no_term = refl
+end_optional (a_term e) = refl
 
 -- what is put before others has these terminals
-abbrev pub HasTerminals : (List Scrap → List Scrap) → List Terminal → Type 0
+abbrev pub HasTerminals : (List Scrap → List Scrap) → List (Terminal Unit) → Type 0
 HasTerminals put ts = (ss : List Scrap) → terminals_in (put ss) ≡ ts ++ terminals_in ss
 
 -- what is put before others spells the expression, at a level
 pub record IsSpelled (k : Level) (put : List Scrap → List Scrap) (e : Term) : Type 0 where
-  pub own : List Terminal
+  pub own : List (Terminal Unit)
   pub onto : HasTerminals put own
-  pub spells : Spells k own e
+  pub spells : Spells programs k own e
 
 pub record AreSpelled (put : List Scrap → List Scrap) (es : Terms) : Type 0 where
-  pub own : List Terminal
+  pub own : List (Terminal Unit)
   pub onto : HasTerminals put own
-  pub spells : SpellsAll own es
+  pub spells : SpellsAll programs own (listed es)
 
 -- the expressions behind another
 record AreSpelledBehind (put : List Scrap → List Scrap) (es : Terms) : Type 0 where
-  own : List Terminal
+  own : List (Terminal Unit)
   onto : HasTerminals put own
-  spells : (xs : List Terminal) (e : Term) → Spells level.Conditional xs e → SpellsAll (xs ++ own) (term_and e es)
+  spells : (xs : List (Terminal Unit)) (e : Term) → Spells programs level.Conditional xs e → SpellsAll programs (xs ++ own) (e ∷ listed es)
 
 record IsEndSpelled (put : List Scrap → List Scrap) (e : MaybeTerm) : Type 0 where
-  own : List Terminal
+  own : List (Terminal Unit)
   onto : HasTerminals put own
-  spells : SpellsEnd own e
+  spells : SpellsEnd programs own (optional e)
 
 lowered : (j k : Level) (put : List Scrap → List Scrap) (e : Term) → rank k ≤ rank j → IsSpelled j put e → IsSpelled k put e
 lowered j k put e h s = record { own = s.own; onto = s.onto; spells = lower j k s.own e h s.spells }
@@ -170,7 +189,7 @@ mutual
       record {
         own = terminal.Word word.LeftBracket ∷ s.own ++ terminal.Word word.RightBracket ∷ [];
         onto = λ ss. simp (append_assoc, s.onto);
-        spells = items s.spells;
+        spells = subst (λ l. Spells programs level.Atom (terminal.Word word.LeftBracket ∷ s.own ++ terminal.Word word.RightBracket ∷ []) (ast.List l)) (terms_listed es) (items s.spells);
       }
   term_spelled (ast.Neg e) p =
       let s = part_spelled level.Unary e (term_scraps e) (term_spelled e p) in
@@ -234,14 +253,17 @@ mutual
       record {
         own = s.own ++ terminal.Word word.LeftBracket ∷ t.own ++ terminal.Word word.Colon ∷ u.own ++ terminal.Word word.RightBracket ∷ [];
         onto = λ ss. simp (append_assoc, s.onto, t.onto, u.onto);
-        spells = slice s.spells t.spells u.spells;
+        spells =
+            subst (λ l. Spells programs level.Postfix (s.own ++ terminal.Word word.LeftBracket ∷ t.own ++ terminal.Word word.Colon ∷ u.own ++ terminal.Word word.RightBracket ∷ []) (ast.Slice v from l)) (end_optional to)
+            (subst (λ l. Spells programs level.Postfix (s.own ++ terminal.Word word.LeftBracket ∷ t.own ++ terminal.Word word.Colon ∷ u.own ++ terminal.Word word.RightBracket ∷ []) (ast.Slice v l (end_by (λ x. x) (optional to)))) (end_optional from)
+            (slice s.spells t.spells u.spells));
       }
   term_spelled (ast.Call f es) p =
       let s = list_spelled es p.1 in
       record {
         own = terminal.Name f ∷ terminal.Word word.LeftParen ∷ s.own ++ terminal.Word word.RightParen ∷ [];
         onto = λ ss. simp (append_assoc, s.onto);
-        spells = call f s.spells;
+        spells = subst (λ l. Spells programs level.Atom (terminal.Name f ∷ terminal.Word word.LeftParen ∷ s.own ++ terminal.Word word.RightParen ∷ []) (ast.Call f l)) (terms_listed es) (call f s.spells);
       }
 
   list_spelled : (es : Terms) → AreProperTerms es → AreSpelled (list_scraps es) es
@@ -252,7 +274,7 @@ mutual
       record { own = s.own ++ t.own; onto = λ ss. simp (append_assoc, s.onto, t.onto); spells = t.spells s.own e s.spells }
 
   rest_spelled : (es : Terms) → AreProperTerms es → AreSpelledBehind (rest_scraps es) es
-  rest_spelled no_terms p = record { own = []; onto = λ ss. refl; spells = λ xs e s. subst (λ l. SpellsAll l (term_and e no_terms)) (sym (append-nil xs)) (one s) }
+  rest_spelled no_terms p = record { own = []; onto = λ ss. refl; spells = λ xs e s. subst (λ l. SpellsAll programs l (e ∷ [])) (sym (append-nil xs)) (one s) }
   rest_spelled (term_and f es) p =
       let s = lowered (level_of f) level.Conditional (term_scraps f) f (omega arith) (term_spelled f p.0) in
       let t = rest_spelled es p.1 in

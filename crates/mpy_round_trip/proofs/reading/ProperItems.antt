@@ -59,7 +59,7 @@ may_augment w Power e = no_power w e
     no_power word.PercentAssign e = cc
     no_power _ e = cc
 
-proper_simple : {ts : List Terminal} {act : Action} → SpellsSimple ts act → AreProperTerminals ts → IsProperSimple act
+proper_simple : {ts : List (Terminal Unit)} {act : Action} → SpellsSimple ts act → AreProperTerminals ts → IsProperSimple act
 proper_simple (assign x s) p loop may = (p.0, proper_term s p.1.1)
 proper_simple (augment x w {op} h s) p loop may = (p.0, may_augment w op h, proper_term s p.1.1)
 proper_simple (put x {is} {es} s t) p loop may = let both = around is (terminal.Word word.RightBracket) (terminal.Word word.Assign ∷ es) p.1.1 in (p.0, proper_term s both.0, proper_term t both.1.1)
@@ -76,7 +76,7 @@ proper_names [] p = All-nil IsName
 proper_names (x ∷ []) p = All-cons IsName x [] p.0 (All-nil IsName)
 proper_names (x ∷ y ∷ rest) p = All-cons IsName x (y ∷ rest) p.0 (proper_names (y ∷ rest) p.1.1)
 
-proper_header : {hs : List Terminal} {h : Opening} → SpellsHeader hs h → AreProperTerminals hs → IsProperOpening h
+proper_header : {hs : List (Terminal Unit)} {h : Opening} → SpellsHeader hs h → AreProperTerminals hs → IsProperOpening h
 proper_header (a_function f params) p = (p.1.0, proper_names params (halves (name_list params) (terminal.Word word.RightParen ∷ []) p.1.1.1).0)
 proper_header (an_if s) p = proper_term s p.1
 proper_header (an_elif s) p = proper_term s p.1
@@ -84,11 +84,11 @@ proper_header an_else p = tt
 proper_header (a_while s) p = proper_term s p.1
 proper_header (a_for x s) p = (p.1.0, proper_term s p.1.1.1)
 
-proper_behind : {ts : List Terminal} {m : Option Action} → SpellsBody ts m → AreProperTerminals ts → IsProperBehind m
+proper_behind : {ts : List (Terminal Unit)} {m : Option Action} → SpellsBody ts m → AreProperTerminals ts → IsProperBehind m
 proper_behind open_body p = tt
 proper_behind (one_statement s) p = proper_simple s p
 
-proper_item : {ts : List Terminal} {i : LineItem} → SpellsItem ts i → AreProperTerminals ts → IsProperItem i
+proper_item : {ts : List (Terminal Unit)} {i : LineItem} → SpellsItem ts i → AreProperTerminals ts → IsProperItem i
 proper_item (a_statement s) p = proper_simple s p
 proper_item (a_header {hs} {ts} s t) p = let both = around hs (terminal.Word word.Colon) ts p in (proper_header s both.0, proper_behind t both.1)
 

@@ -20,23 +20,26 @@ use Rattle.mpy_lexer.specs.TextLiterals.{is_printable, is_escapable, with_charac
 use Rattle.mpy_round_trip.specs.Proper.{IsName}
 
 -- a terminal of which proper terms are made
-abbrev pub IsProperTerminal : Terminal → Type 0
+abbrev pub IsProperTerminal : Terminal Unit → Type 0
 IsProperTerminal (terminal.Name x) = IsName x
 IsProperTerminal (terminal.Number n) = n ≤ 2147483647
 IsProperTerminal (terminal.Text cs) = list_all is_printable cs ≡ true
 IsProperTerminal (terminal.Word w) = Unit {0}
+IsProperTerminal (terminal.Special x) = Unit {0}
+IsProperTerminal (terminal.Operator x) = Unit {0}
+IsProperTerminal (terminal.Comparator x) = Unit {0}
 IsProperTerminal terminal.Other = Unit {0}
 
-abbrev pub AreProperTerminals : List Terminal → Type 0
+abbrev pub AreProperTerminals : List (Terminal Unit) → Type 0
 AreProperTerminals [] = Unit {0}
 AreProperTerminals (t ∷ ts) = IsProperTerminal t × AreProperTerminals ts
 
-pub halves : (xs ys : List Terminal) → AreProperTerminals (xs ++ ys) → AreProperTerminals xs × AreProperTerminals ys
+pub halves : (xs ys : List (Terminal Unit)) → AreProperTerminals (xs ++ ys) → AreProperTerminals xs × AreProperTerminals ys
 halves [] ys p = (tt, p)
 halves (x ∷ xs) ys p = let rest = halves xs ys p.1 in ((p.0, rest.0), rest.1)
 
 -- what stands before a terminal, and what stands behind it
-pub around : (xs : List Terminal) (t : Terminal) (ys : List Terminal) → AreProperTerminals (xs ++ (t ∷ ys)) → AreProperTerminals xs × AreProperTerminals ys
+pub around : (xs : List (Terminal Unit)) (t : Terminal Unit) (ys : List (Terminal Unit)) → AreProperTerminals (xs ++ (t ∷ ys)) → AreProperTerminals xs × AreProperTerminals ys
 around xs t ys p = let both = halves xs (t ∷ ys) p in (both.0, both.1.1)
 
 proper_word : (o : Option Word) → IsProperTerminal (word_terminal o)

@@ -1,17 +1,19 @@
 -- Proper terminals spell proper terms.
-use Rattle.std.proofs.Common.{List, [], ◌∷◌, ◌++◌}
-use Rattle.mpy_tree.specs.Syntax.{Term, Terms, MaybeTerm}
+use Rattle.std.proofs.Common.{◌≡◌, List, [], ◌∷◌, ◌++◌, Option, Some, None}
+use Rattle.mpy_tree.specs.Syntax.{Term}
+use Rattle.mpy_tree.specs.View.{terms, end_by}
 use Rattle.mpy_tree.specs.declared.levels.Level.{Level}
 use Rattle.mpy_expressions.specs.declared.words.Word.TheVariants as word
 use Rattle.mpy_expressions.specs.declared.terminals.Terminal.{Terminal}
 use Rattle.mpy_expressions.specs.declared.terminals.Terminal.TheVariants as terminal
 use Rattle.mpy_expressions.specs.Joints.{arith_word}
-use Rattle.mpy_expressions.specs.Grammar.{Spells, SpellsEnd, SpellsAll, conditional, disjunction, conjunction, negation, compared, arithmetic, minus, index, slice, number, quoted, truth, name, call, items, parenthesized, higher, missing, given, none, one, more, comparison}
+use Rattle.mpy_expressions.specs.Programs.{programs}
+use Rattle.mpy_expressions.specs.Grammar.{Spells, SpellsEnd, SpellsAll, conditional, disjunction, conjunction, negation, compared, arithmetic, minus, index, slice, number, quoted, truth, name, hole, set, operated, likened, call, items, parenthesized, higher, missing, given, none, one, more, comparison}
 use Rattle.mpy_round_trip.specs.Proper.{IsProperTerm, AreProperTerms, IsProperEnd}
 use Rattle.mpy_round_trip.proofs.reading.ProperTerminals.{AreProperTerminals, halves, around}
 
 mutual
-  pub proper_term : {k : Level} {ts : List Terminal} {e : Term} → Spells k ts e → AreProperTerminals ts → IsProperTerm e
+  pub proper_term : {k : Level} {ts : List (Terminal Unit)} {e : Term} → Spells programs k ts e → AreProperTerminals ts → IsProperTerm e
   proper_term (conditional {xs} {ts} {ys} s t u) p =
       let last = around (xs ++ (terminal.Word word.If ∷ ts)) (terminal.Word word.Else) ys p in
       let first = around xs (terminal.Word word.If) ts last.0 in
@@ -38,16 +40,20 @@ mutual
   proper_term (quoted cs) p = p.0
   proper_term (truth b) p = tt
   proper_term (name x) p = p.0
+  proper_term (hole x {e = d} h) p = absurd (let z : None ≡ Some d = h in cc)
+  proper_term (set {e = d} h s) p = absurd (let z : None ≡ Some d = h in cc)
+  proper_term (operated x {f = f} h s t) p = absurd (let z : ◌≡◌ {A = Option (Term → Term → Term)} None (Some f) = h in cc)
+  proper_term (likened x {f = f} h s t) p = absurd (let z : ◌≡◌ {A = Option (Term → Term → Term)} None (Some f) = h in cc)
   proper_term (call f {xs} s) p = (p.0, proper_terms s (halves xs (terminal.Word word.RightParen ∷ []) p.1.1).0)
   proper_term (items {xs} s) p = proper_terms s (halves xs (terminal.Word word.RightBracket ∷ []) p.1).0
   proper_term (parenthesized {xs} s) p = proper_term s (halves xs (terminal.Word word.RightParen ∷ []) p.1).0
   proper_term (higher s) p = proper_term s p
 
-  proper_end : {ts : List Terminal} {e : MaybeTerm} → SpellsEnd ts e → AreProperTerminals ts → IsProperEnd e
+  proper_end : {ts : List (Terminal Unit)} {e : Option Term} → SpellsEnd programs ts e → AreProperTerminals ts → IsProperEnd (end_by (λ x. x) e)
   proper_end missing p = tt
   proper_end (given s) p = proper_term s p
 
-  proper_terms : {ts : List Terminal} {es : Terms} → SpellsAll ts es → AreProperTerminals ts → AreProperTerms es
+  proper_terms : {ts : List (Terminal Unit)} {es : List Term} → SpellsAll programs ts es → AreProperTerminals ts → AreProperTerms (terms es)
   proper_terms none p = tt
   proper_terms (one s) p = (proper_term s p, tt)
   proper_terms (more {xs} {ys} s t) p = let both = around xs (terminal.Word word.Comma) ys p in (proper_term s both.0, proper_terms t both.1)
