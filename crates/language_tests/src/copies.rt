@@ -1,7 +1,9 @@
 //! Copies and equality of programs, and lists of numbers, characters, values and names.
 
 use crate::programs::program;
-use mpy_tree::{Chars, Ints, Name, Names, Value, Values, copy_prog, same};
+use mpy_tree::{
+    ArithOp, Chars, Expr, Ints, Name, Names, Value, Values, copy_expr, copy_prog, same, same_expr,
+};
 use std::alloc::Global;
 use std::test::Fail;
 
@@ -47,6 +49,21 @@ fn each_difference_counts(rt: HostRuntime) -> Result<(), Fail> {
         assert!(rt; !same(&first, &other), "with {instead:?} for {part:?}");
         assert!(rt; !same(&other, &first), "with {part:?} for {instead:?}");
     }
+    Ok(())
+}
+
+/// The sum of a number and `x`.
+fn sum(alloc: Global, number: u32) -> Result<Expr, Fail> {
+    let x = Expr::Name(Name::from_vec(Vec::from_slice(alloc, b"x")?));
+    let parts = (Box::new(alloc, Expr::Int(number))?, Box::new(alloc, x)?);
+    Ok(Expr::Arith(ArithOp::Add, parts.0, parts.1))
+}
+
+#[test]
+fn expressions_are_copied(rt: HostRuntime) -> Result<(), Fail> {
+    let one = sum(rt.alloc(), 1)?;
+    assert!(rt; same_expr(&one, &copy_expr(rt.alloc(), &one)?));
+    assert!(rt; !same_expr(&one, &sum(rt.alloc(), 2)?));
     Ok(())
 }
 

@@ -1,5 +1,8 @@
 //! Texts and their lines, by a separate model of the rules, and the calls on tokens with ample memory.
-use mpy_lexer::{Form, Kind, LexCause, LexError, Line, Spelling, Token, Tokens, lines};
+use mpy_lexer::{
+    Form, Kind, LexCause, LexError, Line, Spelling, Token, Tokens, lines, literal_characters,
+    metavariable_of,
+};
 use std::alloc::Global;
 use std::test::Fail;
 
@@ -84,6 +87,34 @@ const RULES: [(&[u8], &str); 14] = [
         b"=> =>= ===>",
         "1.0 mark 0-2 => mark 3-5 => mark 5-6 = mark 7-9 == mark 9-11 =>",
     ),
+];
+
+// Bytes, each with the characters that they spell as a text literal.
+const LITERALS: [(&[u8], Option<&[u8]>); 10] = [
+    (b"''", Some(b"")),
+    (b"\"it's\"", Some(b"it's")),
+    (b"'it\\'s'", Some(b"it's")),
+    (b"'a\\\\b'", Some(b"a\\b")),
+    (b"'\\\"'", Some(b"\"")),
+    (b"'a\\n'", None),
+    (b"'a", None),
+    (b"'a\"", None),
+    (b"'a'b'", None),
+    (b"a", None),
+];
+
+// Bytes, each with the parts of the metavariable that they spell, one behind another.
+const METAVARIABLES: [(&[u8], Option<(u8, Option<u8>, bool)>); 10] = [
+    (b"$a", Some((b'a', None, false))),
+    (b"$v0", Some((b'v', Some(b'0'), false))),
+    (b"$n'", Some((b'n', None, true))),
+    (b"$c9'", Some((b'c', Some(b'9'), true))),
+    (b"$o", Some((b'o', None, false))),
+    (b"$a'1", None),
+    (b"$a12", None),
+    (b"$b", None),
+    (b"$", None),
+    (b"a1", None),
 ];
 
 fn kind_word(kind: Kind) -> &'static str {
@@ -186,6 +217,24 @@ fn long_lines(rt: HostRuntime) -> Result<(), Fail> {
     assert!(rt; !is_long(rt.alloc(), bytes.as_slice())?);
     bytes.push(b'y')?;
     assert!(rt; is_long(rt.alloc(), bytes.as_slice())?);
+    Ok(())
+}
+
+#[test]
+fn literals(rt: HostRuntime) -> Result<(), Fail> {
+    for (bytes, wanted) in &LITERALS {
+        let found = literal_characters(rt.alloc(), *bytes)?;
+        assert_eq!(rt; found.as_ref().map(|v| v.as_slice()), *wanted);
+    }
+    Ok(())
+}
+
+#[test]
+fn metavariables(rt: HostRuntime) -> Result<(), Fail> {
+    for (bytes, wanted) in &METAVARIABLES {
+        let found = metavariable_of(*bytes).map(|m| (m.letter, m.digit, m.is_primed));
+        assert_eq!(rt; found, *wanted);
+    }
     Ok(())
 }
 

@@ -1,5 +1,5 @@
 -- Worked texts, each closed by computing its lines.
-use Rattle.std.proofs.Common.{true, false, ◌≡◌, ℕ, ◌+◌, List, [], ◌∷◌, ◌++◌, length, refl, codes, Ok, Err}
+use Rattle.std.proofs.Common.{true, false, ◌≡◌, ℕ, ◌+◌, List, [], ◌∷◌, ◌++◌, length, refl, codes, Ok, Err, Some, None}
 use Rattle.mpy_lexer.specs.declared.forms.Form.TheVariants.{Program, Rules}
 use Rattle.mpy_lexer.specs.declared.forms.Kind.{Kind}
 use Rattle.mpy_lexer.specs.declared.forms.Kind.TheVariants.{Name, Reserved, Number, Text, Mark, Meta}
@@ -13,6 +13,8 @@ use Rattle.mpy_lexer.specs.PhysicalLines.{byte_order_mark_len, physical_lines, h
 use Rattle.mpy_lexer.specs.Brackets.{open_after, has_unmatched}
 use Rattle.mpy_tree.specs.Leasts.{least}
 use Rattle.mpy_lexer.specs.TokenForms.{has_form}
+use Rattle.mpy_lexer.specs.TextLiterals.{characters, literal_characters}
+use Rattle.mpy_lexer.specs.TokenLaws.{is_passed_over}
 use Rattle.mpy_lexer.specs.Lexing.{byte_fault, faulty_lines, continued, logical_lines, length_fault, lex}
 
 -- a token by its first place and its bytes
@@ -145,3 +147,13 @@ names_and_numbers = refl
 texts_and_signs : has_form Program Text (codes "'a\\'b'") ∷ has_form Program Text (codes "'a'b'") ∷ has_form Program Text (codes "'a\\n'") ∷ has_form Rules Mark (codes "=>") ∷ has_form Program Mark (codes "=>") ∷ has_form Rules Meta (codes "$a1'") ∷ has_form Rules Meta (codes "$a'1") ∷ [] ≡ true ∷ false ∷ false ∷ true ∷ false ∷ true ∷ false ∷ []
 unfolding closing has_wrong_escape
 texts_and_signs = refl
+
+-- what may stand between tokens: white space, and comments up to the end of their line
+between_tokens : is_passed_over false (codes " # a\n\t# b") ∷ is_passed_over false (codes "# a\nb") ∷ is_passed_over false (codes "a") ∷ [] ≡ true ∷ false ∷ false ∷ []
+unfolding is_passed_over
+between_tokens = refl
+
+-- what a literal spells
+literals : literal_characters (codes "'it\\'s'") ∷ literal_characters (codes "'a\\n'") ∷ literal_characters (codes "'a'b'") ∷ [] ≡ Some (codes "it's") ∷ None ∷ None ∷ []
+unfolding characters
+literals = refl
