@@ -409,11 +409,10 @@ found_items forms xs es h rest =
 
 found_set : {X T : Type 0} (forms : Forms X T) → (xs : List (Terminal X)) (es : List T) (e : T) → forms.Set es ≡ Some e → AreRead forms bracket.Curly xs es → AllFound forms level.Atom ((terminal.Word word.LeftBrace ∷ xs) ++ (terminal.Word word.RightBrace ∷ [])) e
 found_set forms xs es e is h rest =
-    let p : elements (reading forms) bracket.Curly ((xs ++ (terminal.Word word.RightBrace ∷ [])) ++ rest) ≡ Some (es, rest) = ap (elements (reading forms) bracket.Curly) (append_assoc xs (terminal.Word word.RightBrace ∷ []) rest) ∙ h rest in
-    (
+    let p : elements (reading forms) bracket.Curly ((xs ++ (terminal.Word word.RightBrace ∷ [])) ++ rest) ≡ Some (es, rest) = ap (elements (reading forms) bracket.Curly) (append_assoc xs (terminal.Word word.RightBrace ∷ []) rest) ∙ h rest in (
       (e, rest),
       reading_step forms level.Atom (terminal.Word word.LeftBrace ∷ ((xs ++ (terminal.Word word.RightBrace ∷ [])) ++ rest))
-      ∙ ap (λ o. o >>= λ fs. forms.Set fs.0 >>= λ d. Some (d, fs.1)) p ∙ ap (λ o. o >>= λ d. Some (d, rest)) is,
+          ∙ ap (λ o. o >>= λ fs. forms.Set fs.0 >>= λ d. Some (d, fs.1)) p ∙ ap (λ o. o >>= λ d. Some (d, rest)) is,
       omega arith,
       λ stops. refl,
     )

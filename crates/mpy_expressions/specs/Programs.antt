@@ -1,5 +1,5 @@
 -- The expressions of programs: no holes, no sets, and no operators but those of the words.
-use Rattle.std.specs.Prelude.{Option, None}
+use Rattle.std.specs.Prelude.{None}
 use Rattle.mpy_tree.specs.Syntax.{Term}
 use Rattle.mpy_tree.specs.Syntax as ast
 use Rattle.mpy_tree.specs.View.{end_by, terms}

@@ -13,10 +13,10 @@ ghost use Rattle.mpy_expressions.specs.Joints.{IsChain, IsPrefix};
 ghost use Rattle.mpy_tree.specs.declared.levels.Level.TheVariants as level;
 
 use crate::NoMemory;
+use crate::forms::Forms;
 use crate::joints::{Joint, joint_at};
 use crate::terminals::Terminal;
 use crate::terms::{Bracket, Link, Suffix, join, with_suffix};
-use crate::forms::Forms;
 use crate::words::Word;
 use mpy_tree::{ArithOp, CmpOp, Level, Name};
 use std::alloc::Global;

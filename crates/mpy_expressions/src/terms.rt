@@ -4,8 +4,8 @@ ghost use Rattle.mpy_expressions.specs.Reading.{joined, suffixed};
 ghost use Rattle.mpy_expressions.specs.Views.{suffix_of, link_of};
 
 use crate::NoMemory;
-use crate::joints::Joint;
 use crate::forms::Forms;
+use crate::joints::Joint;
 use std::alloc::Global;
 
 /// The brackets round elements: those of calls, those of lists, or those of sets.
