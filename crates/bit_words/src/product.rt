@@ -1,11 +1,15 @@
 //! Products.
 
-ghost use Rattle.std.specs.Prelude.{◌≡◌, ◌+◌, ◌-◌, ◌*◌, ◌^◌, ◌<◌, ◌≤◌, ◌*ℤ◌, ℕ, if◌then◌else◌, Bool, List, nat_lt, length, take, IfOk};
+ghost use Rattle.std.specs.Prelude.{◌≡◌, ◌+◌, ◌-◌, ◌*◌, ◌^◌, ◌<◌, ◌≤◌, ◌*ℤ◌, ℕ, if◌then◌else◌};
+ghost use Rattle.std.specs.Prelude.{Bool, List, nat_lt, length, take, IfOk};
 ghost use Rattle.bit_words.specs.Logic.{Extends, OwnsAll};
-ghost use Rattle.bit_words.specs.Words.{bit_value, int_read, nat_read, Holds, IsUnsigned, OverflowsAs};
+ghost use Rattle.bit_words.specs.Results.{IsCheckedIn};
+ghost use Rattle.bit_words.specs.Words.{bit_value, int_read, nat_read, Holds, IsUnsigned};
+ghost use Rattle.bit_words.specs.Words.{OverflowsAs};
 
 use crate::NoMemory;
 use crate::bitwise::mask;
+use crate::checked::Checked;
 use crate::gates::or;
 use crate::logic::Logic;
 use crate::magnitude::{magnitude, sign_of, signed_result};
@@ -32,7 +36,10 @@ fn row_sum<L: Logic>(
     ensures owned { IfOk result (λ r. OwnsAll L.owns g.new r.0) }
     ensures owned_carry { IfOk result (λ r. L.owns g.new r.1) }
     ensures width { IfOk result (λ r. length r.0 ≡ width) }
-    ensures total { IfOk result (λ r. (vs : List Bool) → nat_read L.reads g.new vs r.0 + 2 ^ width * bit_value (L.reads g.new vs r.1) ≡ (if L.reads g.old vs digit then nat_read L.reads g.old vs (take width a.now) else 0) + (nat_read L.reads g.old vs higher.now + nat_read L.reads g.old vs higher.now)) }
+    ensures total { IfOk result (λ r. (vs : List Bool) →
+        nat_read L.reads g.new vs r.0 + 2 ^ width * bit_value (L.reads g.new vs r.1)
+        ≡ (if L.reads g.old vs digit then nat_read L.reads g.old vs (take width a.now) else 0)
+        + (nat_read L.reads g.old vs higher.now + nat_read L.reads g.old vs higher.now)) }
 {
     let low = a.low_bits(width)?;
     let row = mask(alloc, g, digit, &low)?;
@@ -55,7 +62,7 @@ fn add_row<L: Logic>(
     over: L::Bit,
     some: L::Bit,
     width: usize,
-) -> Result<(Word<L::Bit>, L::Bit), NoMemory>
+) -> Result<Checked<L::Bit>, NoMemory>
     requires shorter { length higher.now + 1 ≡ width }
     requires long { width ≤ length a.now }
     requires factor { OwnsAll L.owns g.old a.now }
@@ -64,17 +71,25 @@ fn add_row<L: Logic>(
     requires over { L.owns g.old over }
     requires some { L.owns g.old some }
     ensures extends { Extends L.owns L.reads L.count g.old g.new }
-    ensures owned { IfOk result (λ r. OwnsAll L.owns g.new r.0) }
-    ensures owned_over { IfOk result (λ r. L.owns g.new r.1) }
-    ensures width { IfOk result (λ r. length r.0 ≡ width) }
-    ensures value { IfOk result (λ r. (vs : List Bool) (digits : ℕ) → L.reads g.old vs some ≡ nat_lt 0 digits → IsUnsigned (width - 1) (nat_read L.reads g.old vs (take (width - 1) a.now) * digits) (nat_read L.reads g.old vs higher.now) (L.reads g.old vs over) → IsUnsigned width (nat_read L.reads g.old vs (take width a.now) * (bit_value (L.reads g.old vs digit) + (digits + digits))) (nat_read L.reads g.new vs r.0) (L.reads g.new vs r.1)) }
+    ensures made { IfOk result (λ r. IsCheckedIn L.owns g.new width r.word r.over) }
+    ensures value { IfOk result (λ r. (vs : List Bool) (digits : ℕ) →
+        L.reads g.old vs some ≡ nat_lt 0 digits
+        → IsUnsigned (width - 1) (nat_read L.reads g.old vs (take (width - 1) a.now) * digits)
+        (nat_read L.reads g.old vs higher.now) (L.reads g.old vs over)
+        → IsUnsigned width
+        (nat_read L.reads g.old vs (take width a.now)
+        * (bit_value (L.reads g.old vs digit) + (digits + digits)))
+        (nat_read L.reads g.new vs r.word) (L.reads g.new vs r.over)) }
 {
     let top = a.at(width - 1);
     let (sum, carry) = row_sum(alloc, g, a, digit, higher, width)?;
     let lost = g.and(some, top)?;
     let carried = or(g, over, carry)?;
     let spilled = or(g, carried, lost)?;
-    Ok((sum, spilled))
+    Ok(Checked {
+        word: sum,
+        over: spilled,
+    })
 }
 
 /// The product of two words of one width, read without a sign, and whether it leaves their width.
@@ -84,15 +99,16 @@ pub fn product<L: Logic>(
     g: &mut L,
     a: &Word<L::Bit>,
     b: &Word<L::Bit>,
-) -> Result<(Word<L::Bit>, L::Bit), NoMemory>
+) -> Result<Checked<L::Bit>, NoMemory>
     requires alike { length b.now ≡ length a.now }
     requires left { OwnsAll L.owns g.old a.now }
     requires right { OwnsAll L.owns g.old b.now }
     ensures extends { Extends L.owns L.reads L.count g.old g.new }
-    ensures owned { IfOk result (λ r. OwnsAll L.owns g.new r.0) }
-    ensures owned_over { IfOk result (λ r. L.owns g.new r.1) }
-    ensures width { IfOk result (λ r. length r.0 ≡ length a.now) }
-    ensures value { IfOk result (λ r. (vs : List Bool) → IsUnsigned (length a.now) (nat_read L.reads g.old vs a.now * nat_read L.reads g.old vs b.now) (nat_read L.reads g.new vs r.0) (L.reads g.new vs r.1)) }
+    ensures made { IfOk result (λ r. IsCheckedIn L.owns g.new (length a.now) r.word r.over) }
+    ensures value { IfOk result (λ r. (vs : List Bool) →
+        IsUnsigned (length a.now)
+        (nat_read L.reads g.old vs a.now * nat_read L.reads g.old vs b.now)
+        (nat_read L.reads g.new vs r.word) (L.reads g.new vs r.over)) }
 {
     let width = a.len();
     let mut higher = Word::new(alloc);
@@ -100,12 +116,12 @@ pub fn product<L: Logic>(
     let mut some = over;
     for k in 0..width {
         let digit = b.at(width - 1 - k);
-        let (sum, spilled) = add_row(alloc, g, a, digit, &higher, over, some, k + 1)?;
-        higher = sum;
-        over = spilled;
+        let sum = add_row(alloc, g, a, digit, &higher, over, some, k + 1)?;
+        higher = sum.word;
+        over = sum.over;
         some = or(g, some, digit)?;
     }
-    Ok((higher, over))
+    Ok(Checked { word: higher, over })
 }
 
 /// The product of two words of one width, and whether it leaves their width.
@@ -115,24 +131,26 @@ pub fn mul<L: Logic>(
     g: &mut L,
     a: &Word<L::Bit>,
     b: &Word<L::Bit>,
-) -> Result<(Word<L::Bit>, L::Bit), NoMemory>
+) -> Result<Checked<L::Bit>, NoMemory>
     requires some { 0 < length a.now }
     requires alike { length b.now ≡ length a.now }
     requires left { OwnsAll L.owns g.old a.now }
     requires right { OwnsAll L.owns g.old b.now }
     ensures extends { Extends L.owns L.reads L.count g.old g.new }
-    ensures owned { IfOk result (λ r. OwnsAll L.owns g.new r.0) }
-    ensures owned_over { IfOk result (λ r. L.owns g.new r.1) }
-    ensures width { IfOk result (λ r. length r.0 ≡ length a.now) }
-    ensures over { IfOk result (λ r. (vs : List Bool) → OverflowsAs (L.reads g.new vs r.1) (length a.now) (int_read L.reads g.old vs a.now *ℤ int_read L.reads g.old vs b.now)) }
-    ensures value { IfOk result (λ r. (vs : List Bool) → Holds (int_read L.reads g.new vs r.0) (length a.now) (int_read L.reads g.old vs a.now *ℤ int_read L.reads g.old vs b.now)) }
+    ensures made { IfOk result (λ r. IsCheckedIn L.owns g.new (length a.now) r.word r.over) }
+    ensures over { IfOk result (λ r. (vs : List Bool) →
+        OverflowsAs (L.reads g.new vs r.over) (length a.now)
+        (int_read L.reads g.old vs a.now *ℤ int_read L.reads g.old vs b.now)) }
+    ensures value { IfOk result (λ r. (vs : List Bool) →
+        Holds (int_read L.reads g.new vs r.word) (length a.now)
+        (int_read L.reads g.old vs a.now *ℤ int_read L.reads g.old vs b.now)) }
 {
     let left_sign = sign_of(g, a);
     let right_sign = sign_of(g, b);
     let left = magnitude(alloc, g, a)?;
     let right = magnitude(alloc, g, b)?;
-    let (size, spilled) = product(alloc, g, &left, &right)?;
+    let size = product(alloc, g, &left, &right)?;
     let sign = g.xor(left_sign, right_sign)?;
-    let (number, over) = signed_result(alloc, g, sign, &size, spilled)?;
-    Ok((number, over))
+    let number = signed_result(alloc, g, sign, &size.word, size.over)?;
+    Ok(number)
 }

@@ -58,11 +58,9 @@ returns-in_err-spilled-clause-extends g c = extends_trans c.row_sum.ensures.exte
 pub returns-clause-extends : goal.returns-clause-extends
 returns-clause-extends g c = extends_trans c.row_sum.ensures.extends (extends_trans c.and.ensures.extends (extends_trans c.or.ensures.extends c.or-2.ensures.extends))
 
-pub returns-clause-owned : goal.returns-clause-owned
-returns-clause-owned g c = owns_kept (extends_trans c.and.ensures.extends (extends_trans c.or.ensures.extends c.or-2.ensures.extends)) c.in_ok-sum.ensures.owned
-
-pub returns-clause-owned_over : goal.returns-clause-owned_over
-returns-clause-owned_over g c = c.in_ok-spilled.ensures.owned
-
-pub returns-clause-width : goal.returns-clause-width
-returns-clause-width g c = c.in_ok-sum.ensures.width
+pub returns-clause-made : goal.returns-clause-made
+returns-clause-made g c = record {
+  owned = owns_kept (extends_trans c.and.ensures.extends (extends_trans c.or.ensures.extends c.or-2.ensures.extends)) c.in_ok-sum.ensures.owned;
+  owned_over = c.in_ok-spilled.ensures.owned;
+  width = c.in_ok-sum.ensures.width;
+}

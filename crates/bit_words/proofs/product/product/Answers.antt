@@ -37,9 +37,9 @@ loop-k-preserved g c =
     let digit_owned = owns_read _ c.requires.right c.at-digit.ensures in
     record {
       extends = extends_trans before.extends (extends_trans one two);
-      width = more.width;
-      owned = owns_kept two more.owned;
-      owned_over = two.kept _ more.owned_over;
+      width = more.made.width;
+      owned = owns_kept two more.made.owned;
+      owned_over = two.kept _ more.made.owned_over;
       owned_some = c.in_ok-some.ensures.owned;
       some = λ vs.
           let first = reads c.args.g.now vs in
@@ -61,8 +61,8 @@ loop-k-preserved g c =
           let back : k + 1 - 1 ≡ k = omega arith in
           let low = reads_kept before.extends (owns_taken k c.requires.left) vs in
           let low_more = reads_kept before.extends (owns_taken (k + 1) c.requires.left) vs in
-          let sum_kept = reads_kept two more.owned vs in
-          let over_kept = two.same _ more.owned_over vs in
+          let sum_kept = reads_kept two more.made.owned vs in
+          let over_kept = two.same _ more.made.owned_over vs in
           let so_far : IsUnsigned (k + 1 - 1) (nat_of (map (reads c.loop-k.g vs) (take (k + 1 - 1) c.args.a.now)) * e) (nat_of (map (reads c.loop-k.g vs) c.loop-k.higher)) (reads c.loop-k.g vs c.loop-k.over) = rw (back, low) (before.value vs) in
           let now = more.value vs e (before.some vs) so_far in
           rw (here, step, next, sum_kept, over_kept) (rw (low_more, digit) at now);
@@ -106,8 +106,9 @@ returns-in_err-some-clause-extends g c = extends_trans c.loop-k.invariant.extend
 pub returns-clause-extends : goal.returns-clause-extends
 returns-clause-extends g c = c.loop-k.invariant.extends
 
-pub returns-clause-owned : goal.returns-clause-owned
-returns-clause-owned g c = c.loop-k.invariant.owned
-
-pub returns-clause-owned_over : goal.returns-clause-owned_over
-returns-clause-owned_over g c = c.loop-k.invariant.owned_over
+pub returns-clause-made : goal.returns-clause-made
+returns-clause-made g c = record {
+  owned = c.loop-k.invariant.owned;
+  owned_over = c.loop-k.invariant.owned_over;
+  width = omega (arith, c.loop-k.invariant.width);
+}
