@@ -50,41 +50,49 @@ fn row_sum<L: Logic>(
     Ok((sum, carry))
 }
 
+/// The product of a word and the higher digits of another one.
+#[derive(Drop)]
+struct HigherPart<B: Copy> {
+    number: Word<B>,
+    /// Whether the product leaves the width of its word.
+    over: B,
+    /// Whether one of the digits is true.
+    some: B,
+}
+
 /// A product with one digit more of its second factor, the next lower one, from the product of the
-/// higher digits: whether that has left its width, and whether some higher digit is true.
+/// higher digits.
 #[tactic(auto, using(crate::proofs::Kept::steps))]
 fn add_row<L: Logic>(
     alloc: Global,
     g: &mut L,
     a: &Word<L::Bit>,
     digit: L::Bit,
-    higher: &Word<L::Bit>,
-    over: L::Bit,
-    some: L::Bit,
+    higher: &HigherPart<L::Bit>,
     width: usize,
 ) -> Result<Checked<L::Bit>, NoMemory>
-    requires shorter { length higher.now + 1 ≡ width }
+    requires shorter { length higher.now.number + 1 ≡ width }
     requires long { width ≤ length a.now }
     requires factor { OwnsAll L.owns g.old a.now }
     requires digit { L.owns g.old digit }
-    requires higher { OwnsAll L.owns g.old higher.now }
-    requires over { L.owns g.old over }
-    requires some { L.owns g.old some }
+    requires higher { OwnsAll L.owns g.old higher.now.number }
+    requires over { L.owns g.old higher.now.over }
+    requires some { L.owns g.old higher.now.some }
     ensures extends { Extends L.owns L.reads L.count g.old g.new }
     ensures made { IfOk result (λ r. IsCheckedIn L.owns g.new width r.word r.over) }
     ensures value { IfOk result (λ r. (vs : List Bool) (digits : ℕ) →
-        L.reads g.old vs some ≡ nat_lt 0 digits
+        L.reads g.old vs higher.now.some ≡ nat_lt 0 digits
         → IsUnsigned (width - 1) (nat_read L.reads g.old vs (take (width - 1) a.now) * digits)
-        (nat_read L.reads g.old vs higher.now) (L.reads g.old vs over)
+        (nat_read L.reads g.old vs higher.now.number) (L.reads g.old vs higher.now.over)
         → IsUnsigned width
         (nat_read L.reads g.old vs (take width a.now)
         * (bit_value (L.reads g.old vs digit) + (digits + digits)))
         (nat_read L.reads g.new vs r.word) (L.reads g.new vs r.over)) }
 {
     let top = a.at(width - 1);
-    let (sum, carry) = row_sum(alloc, g, a, digit, higher, width)?;
-    let lost = g.and(some, top)?;
-    let carried = or(g, over, carry)?;
+    let (sum, carry) = row_sum(alloc, g, a, digit, &higher.number, width)?;
+    let lost = g.and(higher.some, top)?;
+    let carried = or(g, higher.over, carry)?;
     let spilled = or(g, carried, lost)?;
     Ok(Checked {
         word: sum,
@@ -111,17 +119,27 @@ pub fn product<L: Logic>(
         (nat_read L.reads g.new vs r.word) (L.reads g.new vs r.over)) }
 {
     let width = a.len();
-    let mut higher = Word::new(alloc);
-    let mut over = g.constant(false);
-    let mut some = over;
+    let nothing = Word::new(alloc);
+    let no = g.constant(false);
+    let mut higher = HigherPart {
+        number: nothing,
+        over: no,
+        some: no,
+    };
     for k in 0..width {
         let digit = b.at(width - 1 - k);
-        let sum = add_row(alloc, g, a, digit, &higher, over, some, k + 1)?;
-        higher = sum.word;
-        over = sum.over;
-        some = or(g, some, digit)?;
+        let sum = add_row(alloc, g, a, digit, &higher, k + 1)?;
+        let some = or(g, higher.some, digit)?;
+        higher = HigherPart {
+            number: sum.word,
+            over: sum.over,
+            some,
+        };
     }
-    Ok(Checked { word: higher, over })
+    Ok(Checked {
+        word: higher.number,
+        over: higher.over,
+    })
 }
 
 /// The product of two words of one width, and whether it leaves their width.
