@@ -1,6 +1,6 @@
 -- When the parts of gates decide what two bits both are.
 use Rattle.std.specs.Prelude.{◌≡◌, ◌≢◌, ◌⊎◌, ℕ, length, Bool, true, false, Some, None}
-use Rattle.std.specs.Prelude.{if◌then◌else◌, not, ◌&&◌, List}
+use Rattle.std.specs.Prelude.{if◌then◌else◌, not, ◌&&◌, List, [], ◌∷◌, ◌++◌}
 use Rattle.bit_graph.specs.declared.gate.Source.TheVariants.{Constant}
 use Rattle.bit_graph.specs.declared.choices.Choice.{Choice}
 use Rattle.bit_graph.specs.declared.choices.Choice.TheVariants.{Is, Both, NotBoth, Alike, Join}
@@ -10,7 +10,7 @@ use Rattle.bit_graph.specs.declared.gate.GraphBit.{GraphBit}
 use Rattle.bit_graph.specs.declared.gate.Gate.{Gate}
 use Rattle.bit_words.specs.Bits.{differ}
 use Rattle.bit_graph.specs.Gates.{Gates, IsBelow, IsGateAt, Owns, bit_reads, gate_reads}
-use Rattle.bit_graph.specs.Gates.{is_positive_bit, opposite_bit, parts_of, source_of}
+use Rattle.bit_graph.specs.Gates.{gate_of, is_positive_bit, opposite_bit, parts_of, source_of}
 
 abbrev pub AreSame : GraphBit → GraphBit → Type 0
 AreSame a b = (source_of a ≡ source_of b) × (is_positive_bit a ≡ is_positive_bit b)
@@ -76,6 +76,22 @@ pub record IsShortened (g : Gates) (a b r : GraphBit) : Type 0 where
       → r ≡ opposite_bit x.left
   pub whole : (x : Gate) → is_positive_bit b ≡ false → parts_of g b ≡ Some x
       → (AreNever g a (opposite_bit x.left) → ⊥) → (AreNever g a (opposite_bit x.right) → ⊥) → r ≡ b
+
+-- a gate that no rule saves: of the second bit as the first one shortens it, and of the first one
+-- as that shortens it
+pub record IsNeeded (g : Gates) (a b : GraphBit) (x : Gate) : Type 0 where
+  pub whole : NeedsGate g a b
+  pub right : GraphBit
+  pub left : GraphBit
+  pub right_short : IsShortened g a b right
+  pub left_short : IsShortened g right a left
+  pub short : NeedsGate g left right
+  pub joins : (x ≡ gate_of left right) ⊎ (x ≡ gate_of right left)
+
+-- gates stay as they are, or gain one that no rule saves
+abbrev pub GainsNeeded : Gates → GraphBit → GraphBit → List Gate → Type 0
+GainsNeeded g a b new = (new ≡ g.gates)
+    ⊎ ((x : Gate) × (new ≡ g.gates ++ x ∷ []) × IsNeeded g a b x)
 
 -- an arm of a choice that needs no choice: a constant, the test or its opposite
 abbrev pub IsSettled : GraphBit → GraphBit → Type 0

@@ -10,8 +10,8 @@ ghost use Rattle.bit_graph.specs.Gates.{gate_reads, is_positive_bit, opposite_bi
 ghost use Rattle.bit_graph.specs.Gates.{positive_bit, reading, source_of, source_reads};
 ghost use Rattle.bit_graph.specs.Gates.{values_after};
 ghost use Rattle.bit_graph.specs.Rules.{AreNever, AreSame, Exclude, GateContradicts, GatesExclude};
-ghost use Rattle.bit_graph.specs.Rules.{IsOpenBy, IsReducedIn, IsSettled, IsShortened, NeedsGate};
-ghost use Rattle.bit_graph.specs.Rules.{reduced_reads};
+ghost use Rattle.bit_graph.specs.Rules.{GainsNeeded, IsNeeded, IsOpenBy, IsReducedIn, IsSettled};
+ghost use Rattle.bit_graph.specs.Rules.{IsShortened, NeedsGate, reduced_reads};
 
 use crate::choices::{Choice, choice_of};
 use crate::fold::fold;
@@ -219,6 +219,7 @@ impl Graph {
         requires right { Owns self.now b }
         ensures ordered { (x : Gate) → result ≡ Reduced.New x
             → Precedes (source_of x.left) (source_of x.right) }
+        ensures needed { (x : Gate) → result ≡ Reduced.New x → IsNeeded self.now a b x }
         ensures inside { IsReducedIn self.now result }
         ensures value { (vs : List Bool) →
             reduced_reads vs (values_after vs [] self.now.gates) result
@@ -374,6 +375,7 @@ impl Logic for Graph {
         ensures value { IfOk result (λ r. (vs : List Bool) →
             reading self.new vs r ≡ (reading self.old vs a && reading self.old vs b)) }
         ensures gains { GainsAtMostOne self.old.gates self.new.gates }
+        ensures needed { GainsNeeded self.old a b self.new.gates }
     {
         match self.reduce(a, b) {
             Reduced::Bit(bit) => Ok(bit),

@@ -1,7 +1,7 @@
 //! Rules that look at the parts of a gate.
 
 ghost use Rattle.std.specs.Prelude.{◌≡◌, ◌≢◌, ℕ, Bool, List, false, not, ◌&&◌, IfSome, IfNone};
-ghost use Rattle.std.specs.Prelude.{IsTrue, ◌↔◌};
+ghost use Rattle.std.specs.Prelude.{IsTrue, ◌↔◌, ◌⊎◌};
 ghost use Rattle.bit_graph.specs.Gates.{bit_reads, gate_reads, is_positive_bit, source_of};
 ghost use Rattle.bit_graph.specs.Gates.{source_reads, IsBelow, IsGateAt, Precedes, gate_of};
 ghost use Rattle.bit_graph.specs.Rules.{AreOpposite, AreSame, Contradicts, Exclude, HasPart};
@@ -122,6 +122,7 @@ pub fn in_order(a: GraphBit, b: GraphBit) -> Gate
     requires { source_of a ≢ source_of b }
     ensures forward { Precedes (source_of a) (source_of b) → result ≡ gate_of a b }
     ensures turned { Precedes (source_of b) (source_of a) → result ≡ gate_of b a }
+    ensures joins { (result ≡ gate_of a b) ⊎ (result ≡ gate_of b a) }
     ensures ordered { Precedes (source_of result.left) (source_of result.right) }
     ensures value { (vs made : List Bool) →
         gate_reads vs made result ≡ (bit_reads vs made a && bit_reads vs made b) }
