@@ -51,15 +51,15 @@ fn run(rt: &HostRuntime, call: usize, width: usize, free: usize, constant: i64) 
         }
     }
     let mut out = Word::new(alloc);
-    if call == 0 { let (w, o) = add(alloc, &mut g, &a, &b)?; out = w; out.push(o)?; }
-    if call == 1 { let (w, o) = sub(alloc, &mut g, &a, &b)?; out = w; out.push(o)?; }
-    if call == 2 { let (w, o) = neg(alloc, &mut g, &a)?; out = w; out.push(o)?; }
+    if call == 0 { let r = add(alloc, &mut g, &a, &b)?; out = r.word; out.push(r.over)?; }
+    if call == 1 { let r = sub(alloc, &mut g, &a, &b)?; out = r.word; out.push(r.over)?; }
+    if call == 2 { let r = neg(alloc, &mut g, &a)?; out = r.word; out.push(r.over)?; }
     if call == 3 { let o = less(alloc, &mut g, &a, &b)?; out.push(o)?; }
     if call == 4 { let o = equal(alloc, &mut g, &a, &b)?; out.push(o)?; }
-    if call == 5 { let (w, o) = mul(alloc, &mut g, &a, &b)?; out = w; out.push(o)?; }
-    if call == 6 { let (w, o, f) = floor(alloc, &mut g, &a, &b)?; out = w; out.push(o)?; out.push(f)?; }
-    if call == 7 { let (w, o, f) = rem(alloc, &mut g, &a, &b)?; out = w; out.push(o)?; out.push(f)?; }
-    if call == 8 { let (w, o, f) = power(alloc, &mut g, &a, &b)?; out = w; out.push(o)?; out.push(f)?; }
+    if call == 5 { let r = mul(alloc, &mut g, &a, &b)?; out = r.word; out.push(r.over)?; }
+    if call == 6 { let r = floor(alloc, &mut g, &a, &b)?; out = r.word; out.push(r.over)?; out.push(r.fault)?; }
+    if call == 7 { let r = rem(alloc, &mut g, &a, &b)?; out = r.word; out.push(r.over)?; out.push(r.fault)?; }
+    if call == 8 { let r = power(alloc, &mut g, &a, &b)?; out = r.word; out.push(r.over)?; out.push(r.fault)?; }
     let count = g.gate_count();
     let mut depths: Vec<u64> = Vec::new(alloc);
     let mut used: Vec<bool> = Vec::new(alloc);

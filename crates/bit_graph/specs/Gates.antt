@@ -1,5 +1,7 @@
 -- What a graph is and what its bits read as.
-use Rattle.std.specs.Prelude.{◌≡◌, ◌≢◌, ◌⊎◌, ℕ, ◌<◌, ◌≤◌, Bool, true, false, not, ◌&&◌, List, [], ◌∷◌, ◌++◌, length, Option, Some, None, if◌then◌else◌, slice_get, slice_index_or}
+use Rattle.std.specs.Prelude.{◌≡◌, ◌≢◌, ◌⊎◌, ℕ, ◌<◌, ◌≤◌, Bool, true, false, not, ◌&&◌, List, []}
+use Rattle.std.specs.Prelude.{◌∷◌, ◌++◌, length, Option, Some, None, if◌then◌else◌, slice_get}
+use Rattle.std.specs.Prelude.{slice_index_or}
 use Rattle.bit_graph.specs.declared.gate.Source.{Source}
 use Rattle.bit_graph.specs.declared.gate.Source.TheVariants.{Constant, Variable, Made}
 use Rattle.bit_graph.specs.declared.gate.GraphBit.{GraphBit}
@@ -33,7 +35,8 @@ source_reads vs made (Variable i) = slice_index_or vs i false
 source_reads vs made (Made k) = slice_index_or made k false
 
 abbrev pub bit_reads : List Bool → List Bool → GraphBit → Bool
-bit_reads vs made b = if b.positive then source_reads vs made b.source else not (source_reads vs made b.source)
+bit_reads vs made b = if b.positive then source_reads vs made b.source
+    else not (source_reads vs made b.source)
 
 abbrev pub gate_reads : List Bool → List Bool → Gate → Bool
 gate_reads vs made x = bit_reads vs made x.left && bit_reads vs made x.right
@@ -99,4 +102,5 @@ abbrev pub GainsAtMost : Gate → List Gate → List Gate → Type 0
 GainsAtMost x old new = (new ≡ old) ⊎ ((new ≡ old ++ x ∷ []) × ((k : ℕ) → slice_get old k ≢ Some x))
 
 abbrev pub GainsAtMostOne : List Gate → List Gate → Type 0
-GainsAtMostOne old new = (new ≡ old) ⊎ ((x : Gate) × (new ≡ old ++ x ∷ []) × ((k : ℕ) → slice_get old k ≢ Some x))
+GainsAtMostOne old new = (new ≡ old)
+    ⊎ ((x : Gate) × (new ≡ old ++ x ∷ []) × ((k : ℕ) → slice_get old k ≢ Some x))

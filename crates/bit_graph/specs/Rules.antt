@@ -1,5 +1,6 @@
 -- When the parts of gates decide what two bits both are.
-use Rattle.std.specs.Prelude.{◌≡◌, ◌≢◌, ◌⊎◌, ℕ, length, Bool, true, false, Some, None, if◌then◌else◌, not, ◌&&◌, List}
+use Rattle.std.specs.Prelude.{◌≡◌, ◌≢◌, ◌⊎◌, ℕ, length, Bool, true, false, Some, None}
+use Rattle.std.specs.Prelude.{if◌then◌else◌, not, ◌&&◌, List, [], ◌∷◌, ◌++◌}
 use Rattle.bit_graph.specs.declared.gate.Source.TheVariants.{Constant}
 use Rattle.bit_graph.specs.declared.choices.Choice.{Choice}
 use Rattle.bit_graph.specs.declared.choices.Choice.TheVariants.{Is, Both, NotBoth, Alike, Join}
@@ -8,7 +9,8 @@ use Rattle.bit_graph.specs.declared.gate.Reduced.TheVariants.{Bit, New}
 use Rattle.bit_graph.specs.declared.gate.GraphBit.{GraphBit}
 use Rattle.bit_graph.specs.declared.gate.Gate.{Gate}
 use Rattle.bit_words.specs.Bits.{differ}
-use Rattle.bit_graph.specs.Gates.{Gates, IsBelow, IsGateAt, Owns, bit_reads, gate_reads, is_positive_bit, opposite_bit, parts_of, source_of}
+use Rattle.bit_graph.specs.Gates.{Gates, IsBelow, IsGateAt, Owns, bit_reads, gate_reads}
+use Rattle.bit_graph.specs.Gates.{gate_of, is_positive_bit, opposite_bit, parts_of, source_of}
 
 abbrev pub AreSame : GraphBit → GraphBit → Type 0
 AreSame a b = (source_of a ≡ source_of b) × (is_positive_bit a ≡ is_positive_bit b)
@@ -33,7 +35,8 @@ pub record IsOpenBy (a : GraphBit) (x : Gate) (b : GraphBit) : Type 0 where
   pub apart : Contradicts x b → ⊥
   pub no_part : is_positive_bit a ≡ true → HasPart x b → ⊥
 
--- no rule makes one bit of two: not by the bits themselves, nor by the parts of one, nor by those of both
+-- no rule makes one bit of two: not by the bits themselves, nor by the parts of one, nor by those
+-- of both
 pub record NeedsGate (g : Gates) (a b : GraphBit) : Type 0 where
   pub left_open : source_of a ≢ Constant
   pub right_open : source_of b ≢ Constant
@@ -48,7 +51,8 @@ IsFalse b = (source_of b ≡ Constant) × (is_positive_bit b ≡ false)
 
 -- a bit is a gate, of which another bit is the opposite of a part
 abbrev pub GateContradicts : Gates → GraphBit → GraphBit → Type 0
-GateContradicts g a b = (is_positive_bit a ≡ true) × ((x : Gate) × (parts_of g a ≡ Some x) × Contradicts x b)
+GateContradicts g a b = (is_positive_bit a ≡ true)
+    × ((x : Gate) × (parts_of g a ≡ Some x) × Contradicts x b)
 
 -- two bits are gates, of which the one has the opposite of a part of the other
 abbrev pub GatesExclude : Gates → GraphBit → GraphBit → Type 0
@@ -57,18 +61,37 @@ GatesExclude g a b = (is_positive_bit a ≡ true) × (is_positive_bit b ≡ true
 
 -- a rule shows that two bits are never both true
 abbrev pub AreNever : Gates → GraphBit → GraphBit → Type 0
-AreNever g a b = (IsFalse a ⊎ (IsFalse b ⊎ AreOpposite a b)) ⊎ (GateContradicts g a b ⊎ (GateContradicts g b a ⊎ GatesExclude g a b))
+AreNever g a b = (IsFalse a ⊎ (IsFalse b ⊎ AreOpposite a b))
+    ⊎ (GateContradicts g a b ⊎ (GateContradicts g b a ⊎ GatesExclude g a b))
 
--- the opposite of a gate is the opposite of one part or of the other: of a bit that excludes the one, the other is left
+-- the opposite of a gate is the opposite of one part or of the other: of a bit that excludes the
+-- one, the other is left
 pub record IsShortened (g : Gates) (a b r : GraphBit) : Type 0 where
   pub positive : is_positive_bit b ≡ true → r ≡ b
   pub no_gate : parts_of g b ≡ None → r ≡ b
   pub right : (x : Gate) → is_positive_bit b ≡ false → parts_of g b ≡ Some x
       → AreNever g a (opposite_bit x.left) → r ≡ opposite_bit x.right
   pub left : (x : Gate) → is_positive_bit b ≡ false → parts_of g b ≡ Some x
-      → (AreNever g a (opposite_bit x.left) → ⊥) → AreNever g a (opposite_bit x.right) → r ≡ opposite_bit x.left
+      → (AreNever g a (opposite_bit x.left) → ⊥) → AreNever g a (opposite_bit x.right)
+      → r ≡ opposite_bit x.left
   pub whole : (x : Gate) → is_positive_bit b ≡ false → parts_of g b ≡ Some x
       → (AreNever g a (opposite_bit x.left) → ⊥) → (AreNever g a (opposite_bit x.right) → ⊥) → r ≡ b
+
+-- a gate that no rule saves: of the second bit as the first one shortens it, and of the first one
+-- as that shortens it
+pub record IsNeeded (g : Gates) (a b : GraphBit) (x : Gate) : Type 0 where
+  pub whole : NeedsGate g a b
+  pub right : GraphBit
+  pub left : GraphBit
+  pub right_short : IsShortened g a b right
+  pub left_short : IsShortened g right a left
+  pub short : NeedsGate g left right
+  pub joins : (x ≡ gate_of left right) ⊎ (x ≡ gate_of right left)
+
+-- gates stay as they are, or gain one that no rule saves
+abbrev pub GainsNeeded : Gates → GraphBit → GraphBit → List Gate → Type 0
+GainsNeeded g a b new = (new ≡ g.gates)
+    ⊎ ((x : Gate) × (new ≡ g.gates ++ x ∷ []) × IsNeeded g a b x)
 
 -- an arm of a choice that needs no choice: a constant, the test or its opposite
 abbrev pub IsSettled : GraphBit → GraphBit → Type 0
@@ -87,14 +110,16 @@ choice_reads vs made (Is a) = bit_reads vs made a
 choice_reads vs made (Both a b) = bit_reads vs made a && bit_reads vs made b
 choice_reads vs made (NotBoth a b) = not (bit_reads vs made a && bit_reads vs made b)
 choice_reads vs made (Alike a b) = not (differ (bit_reads vs made a) (bit_reads vs made b))
-choice_reads vs made (Join c a b) = if bit_reads vs made c then bit_reads vs made a else bit_reads vs made b
+choice_reads vs made (Join c a b) = if bit_reads vs made c then bit_reads vs made a
+    else bit_reads vs made b
 
 abbrev pub IsChoiceBelow : ℕ → ℕ → Choice → Type 0
 IsChoiceBelow n m (Is a) = IsBelow n m (source_of a)
 IsChoiceBelow n m (Both a b) = IsBelow n m (source_of a) × IsBelow n m (source_of b)
 IsChoiceBelow n m (NotBoth a b) = IsBelow n m (source_of a) × IsBelow n m (source_of b)
 IsChoiceBelow n m (Alike a b) = IsBelow n m (source_of a) × IsBelow n m (source_of b)
-IsChoiceBelow n m (Join c a b) = IsBelow n m (source_of c) × IsBelow n m (source_of a) × IsBelow n m (source_of b)
+IsChoiceBelow n m (Join c a b) = IsBelow n m (source_of c) × IsBelow n m (source_of a)
+    × IsBelow n m (source_of b)
 
 -- the most gates that a form of a choice needs
 abbrev pub most_gates : Choice → ℕ

@@ -1,8 +1,11 @@
 //! Which choices need less than three gates.
 
-ghost use Rattle.std.specs.Prelude.{◌≡◌, ◌≢◌, ◌≤◌, ◌⊎◌, ℕ, Bool, List, true, not, IfSome, IfNone, if◌then◌else◌};
-ghost use Rattle.bit_graph.specs.Gates.{bit_reads, is_positive_bit, opposite_bit, source_of, IsBelow};
-ghost use Rattle.bit_graph.specs.Rules.{AreSame, IsChoiceBelow, IsSettled, NeedsChoice, choice_reads, most_gates};
+ghost use Rattle.std.specs.Prelude.{◌≡◌, ◌≢◌, ◌≤◌, ◌⊎◌, ℕ, Bool, List, true, not, IfSome, IfNone};
+ghost use Rattle.std.specs.Prelude.{if◌then◌else◌};
+ghost use Rattle.bit_graph.specs.Gates.{bit_reads, is_positive_bit, opposite_bit, source_of};
+ghost use Rattle.bit_graph.specs.Gates.{IsBelow};
+ghost use Rattle.bit_graph.specs.Rules.{AreSame, IsChoiceBelow, IsSettled, NeedsChoice};
+ghost use Rattle.bit_graph.specs.Rules.{choice_reads, most_gates};
 
 use crate::gate::{GraphBit, Source};
 use crate::rules::are_same;
@@ -32,7 +35,8 @@ pub fn opposite(a: GraphBit) -> GraphBit
 
 /// What an arm reads as where the test holds, if that is known.
 fn settled(c: GraphBit, arm: GraphBit) -> Option<bool>
-    ensures value { IfSome result (λ b. (vs made : List Bool) → bit_reads vs made c ≡ true → bit_reads vs made arm ≡ b) }
+    ensures value { IfSome result (λ b. (vs made : List Bool) → bit_reads vs made c ≡ true
+        → bit_reads vs made arm ≡ b) }
     ensures some { IfSome result (λ b. IsSettled c arm) }
     ensures none { IfNone result (IsSettled c arm → ⊥) }
 {
@@ -48,8 +52,11 @@ fn settled(c: GraphBit, arm: GraphBit) -> Option<bool>
 /// The choice where an arm is settled, by what it reads as where it is chosen: `test` is the test
 /// that chooses it.
 fn settled_choice(test: GraphBit, reads: bool, other: GraphBit) -> Choice
-    ensures value { (vs made : List Bool) → choice_reads vs made result ≡ (if bit_reads vs made test then reads else bit_reads vs made other) }
-    ensures below { (variables made : ℕ) → IsBelow variables made (source_of test) → IsBelow variables made (source_of other) → IsChoiceBelow variables made result }
+    ensures value { (vs made : List Bool) →
+        choice_reads vs made result
+        ≡ (if bit_reads vs made test then reads else bit_reads vs made other) }
+    ensures below { (variables made : ℕ) → IsBelow variables made (source_of test)
+        → IsBelow variables made (source_of other) → IsChoiceBelow variables made result }
     ensures few { most_gates result ≤ 1 }
     ensures no_join { (t y n : GraphBit) → result ≢ Choice.Join t y n }
 {
@@ -64,12 +71,18 @@ fn settled_choice(test: GraphBit, reads: bool, other: GraphBit) -> Choice
 /// constant, the test or its opposite a conjunction, of opposite arms whether test and arm are
 /// alike. The test of a join isn't negated: there the arms are exchanged.
 pub fn choice_of(c: GraphBit, yes: GraphBit, no: GraphBit) -> Choice
-    ensures value { (vs made : List Bool) → choice_reads vs made result ≡ (if bit_reads vs made c then bit_reads vs made yes else bit_reads vs made no) }
-    ensures below { (variables made : ℕ) → IsBelow variables made (source_of c) → IsBelow variables made (source_of yes) → IsBelow variables made (source_of no) → IsChoiceBelow variables made result }
-    ensures known_test { source_of c ≡ Source.Constant → result ≡ Choice.Is (if is_positive_bit c then yes else no) }
+    ensures value { (vs made : List Bool) →
+        choice_reads vs made result
+        ≡ (if bit_reads vs made c then bit_reads vs made yes else bit_reads vs made no) }
+    ensures below { (variables made : ℕ) → IsBelow variables made (source_of c)
+        → IsBelow variables made (source_of yes) → IsBelow variables made (source_of no)
+        → IsChoiceBelow variables made result }
+    ensures known_test { source_of c ≡ Source.Constant
+        → result ≡ Choice.Is (if is_positive_bit c then yes else no) }
     ensures equal_arms { source_of c ≢ Source.Constant → AreSame yes no → result ≡ Choice.Is yes }
     ensures settled { IsSettled c yes ⊎ IsSettled c no → most_gates result ≤ 1 }
-    ensures join { (t y n : GraphBit) → result ≡ Choice.Join t y n → NeedsChoice c yes no × (is_positive_bit t ≡ true) }
+    ensures join { (t y n : GraphBit) → result ≡ Choice.Join t y n
+        → NeedsChoice c yes no × (is_positive_bit t ≡ true) }
 {
     if c.source == Source::Constant {
         return Choice::Is(if c.positive { yes } else { no });

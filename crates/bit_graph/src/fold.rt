@@ -7,8 +7,10 @@ use crate::gate::{GraphBit, Source};
 
 /// The bit that two bits both are, where that is one of them or a constant.
 pub fn fold(a: GraphBit, b: GraphBit) -> Option<GraphBit>
-    ensures value { IfSome result (λ r. (vs made : List Bool) → bit_reads vs made r ≡ (bit_reads vs made a && bit_reads vs made b)) }
-    ensures below { IfSome result (λ r. (variables made : ℕ) → IsBelow variables made (source_of a) → IsBelow variables made (source_of b) → IsBelow variables made (source_of r)) }
+    ensures value { IfSome result (λ r. (vs made : List Bool) →
+        bit_reads vs made r ≡ (bit_reads vs made a && bit_reads vs made b)) }
+    ensures below { IfSome result (λ r. (variables made : ℕ) → IsBelow variables made (source_of a)
+        → IsBelow variables made (source_of b) → IsBelow variables made (source_of r)) }
     ensures left_open { IfNone result (source_of a ≢ Source.Constant) }
     ensures right_open { IfNone result (source_of b ≢ Source.Constant) }
     ensures differ { IfNone result (source_of a ≢ source_of b) }

@@ -1,10 +1,17 @@
 //! The graph: a logic with variables, whose gates are shared.
 
-ghost use Rattle.std.specs.Prelude.{◌≡◌, ◌≢◌, ◌⊎◌, ◌+◌, ◌<◌, ◌≤◌, ◌↔◌, ◌&&◌, false, not, [], Bool, List, IfSome, IfNone, IfOk, Ok, IsTrue, length, slice_get, Some, if◌then◌else◌};
+ghost use Rattle.std.specs.Prelude.{◌≡◌, ◌≢◌, ◌⊎◌, ◌+◌, ◌<◌, ◌≤◌, ◌↔◌, ◌&&◌, false, not, [], Bool};
+ghost use Rattle.std.specs.Prelude.{List, IfSome, IfNone, IfOk, Ok, IsTrue, length, slice_get};
+ghost use Rattle.std.specs.Prelude.{Some, if◌then◌else◌};
 ghost use Rattle.bit_words.specs.Bits.{differ};
 ghost use Rattle.bit_words.specs.Logic.{Extends};
-ghost use Rattle.bit_graph.specs.Gates.{AreGates, GainsAtMostOne, Gates, Owns, Precedes, gate_reads, is_positive_bit, opposite_bit, parts_of, positive_bit, reading, source_of, source_reads, values_after};
-ghost use Rattle.bit_graph.specs.Rules.{AreNever, AreSame, Contradicts, Exclude, GateContradicts, GatesExclude, IsOpenBy, IsReducedIn, IsSettled, IsShortened, NeedsGate, reduced_reads};
+ghost use Rattle.bit_graph.specs.Gates.{AreGates, GainsAtMostOne, Gates, Owns, Precedes};
+ghost use Rattle.bit_graph.specs.Gates.{gate_reads, is_positive_bit, opposite_bit, parts_of};
+ghost use Rattle.bit_graph.specs.Gates.{positive_bit, reading, source_of, source_reads};
+ghost use Rattle.bit_graph.specs.Gates.{values_after};
+ghost use Rattle.bit_graph.specs.Rules.{AreNever, AreSame, Exclude, GateContradicts, GatesExclude};
+ghost use Rattle.bit_graph.specs.Rules.{GainsNeeded, IsNeeded, IsOpenBy, IsReducedIn, IsSettled};
+ghost use Rattle.bit_graph.specs.Rules.{IsShortened, NeedsGate, reduced_reads};
 
 use crate::choices::{Choice, choice_of};
 use crate::fold::fold;
@@ -78,7 +85,9 @@ impl Graph {
         ensures exact { result ≡ parts_of self.now a }
         ensures owned_left { IfSome result (λ x. Owns self.now x.left) }
         ensures owned_right { IfSome result (λ x. Owns self.now x.right) }
-        ensures value { IfSome result (λ x. (vs : List Bool) → source_reads vs (values_after vs [] self.now.gates) (source_of a) ≡ gate_reads vs (values_after vs [] self.now.gates) x) }
+        ensures value { IfSome result (λ x. (vs : List Bool) →
+            source_reads vs (values_after vs [] self.now.gates) (source_of a)
+            ≡ gate_reads vs (values_after vs [] self.now.gates) x) }
     {
         match a.source {
             Source::Made(k) => Some(self.gates[k as usize]),
@@ -91,7 +100,8 @@ impl Graph {
         requires left { Owns self.now a }
         requires right { Owns self.now b }
         ensures owned { IfSome result (λ r. Owns self.now r) }
-        ensures value { IfSome result (λ r. (vs : List Bool) → reading self.now vs r ≡ (reading self.now vs a && reading self.now vs b)) }
+        ensures value { IfSome result (λ r. (vs : List Bool) →
+            reading self.now vs r ≡ (reading self.now vs a && reading self.now vs b)) }
         ensures open { IfNone result ((x : Gate) → parts_of self.now a ≡ Some x → IsOpenBy a x b) }
     {
         fold_by_parts(a, self.parts(a)?, b)
@@ -102,8 +112,11 @@ impl Graph {
         requires left { Owns self.now a }
         requires right { Owns self.now b }
         ensures owned { IfSome result (λ r. Owns self.now r) }
-        ensures value { IfSome result (λ r. (vs : List Bool) → reading self.now vs r ≡ (reading self.now vs a && reading self.now vs b)) }
-        ensures open { IfNone result ((x y : Gate) → parts_of self.now a ≡ Some x → parts_of self.now b ≡ Some y → Exclude x y → (is_positive_bit a ≡ false) × (is_positive_bit b ≡ false)) }
+        ensures value { IfSome result (λ r. (vs : List Bool) →
+            reading self.now vs r ≡ (reading self.now vs a && reading self.now vs b)) }
+        ensures open { IfNone result ((x y : Gate) → parts_of self.now a ≡ Some x
+            → parts_of self.now b ≡ Some y → Exclude x y
+            → (is_positive_bit a ≡ false) × (is_positive_bit b ≡ false)) }
     {
         fold_by_both(a, self.parts(a)?, b, self.parts(b)?)
     }
@@ -114,7 +127,8 @@ impl Graph {
         requires left { Owns self.now a }
         requires right { Owns self.now b }
         ensures owned { IfSome result (λ r. Owns self.now r) }
-        ensures value { IfSome result (λ r. (vs : List Bool) → reading self.now vs r ≡ (reading self.now vs a && reading self.now vs b)) }
+        ensures value { IfSome result (λ r. (vs : List Bool) →
+            reading self.now vs r ≡ (reading self.now vs a && reading self.now vs b)) }
         ensures open { IfNone result (NeedsGate self.now a b) }
     {
         if let Some(bit) = fold(a, b) {
@@ -133,7 +147,8 @@ impl Graph {
     fn gate_contradicts(&self, a: GraphBit, b: GraphBit) -> bool
         requires { Owns self.now a }
         ensures exact { IsTrue result ↔ GateContradicts self.now a b }
-        ensures value { IsTrue result → (vs : List Bool) → (reading self.now vs a && reading self.now vs b) ≡ false }
+        ensures value { IsTrue result → (vs : List Bool) →
+            (reading self.now vs a && reading self.now vs b) ≡ false }
     {
         match self.parts(a) {
             Some(x) => a.positive && contradicts(x, b),
@@ -146,7 +161,8 @@ impl Graph {
         requires left { Owns self.now a }
         requires right { Owns self.now b }
         ensures exact { IsTrue result ↔ GatesExclude self.now a b }
-        ensures value { IsTrue result → (vs : List Bool) → (reading self.now vs a && reading self.now vs b) ≡ false }
+        ensures value { IsTrue result → (vs : List Bool) →
+            (reading self.now vs a && reading self.now vs b) ≡ false }
     {
         match (self.parts(a), self.parts(b)) {
             (Some(x), Some(y)) => a.positive && b.positive && exclude(x, y),
@@ -159,7 +175,8 @@ impl Graph {
         requires left { Owns self.now a }
         requires right { Owns self.now b }
         ensures exact { IsTrue result ↔ AreNever self.now a b }
-        ensures value { IsTrue result → (vs : List Bool) → (reading self.now vs a && reading self.now vs b) ≡ false }
+        ensures value { IsTrue result → (vs : List Bool) →
+            (reading self.now vs a && reading self.now vs b) ≡ false }
     {
         let by_bits = is_false(a) || (is_false(b) || are_opposite(a, b));
         by_bits
@@ -174,7 +191,9 @@ impl Graph {
         requires left { Owns self.now a }
         requires right { Owns self.now b }
         ensures owned { Owns self.now result }
-        ensures value { (vs : List Bool) → (reading self.now vs a && reading self.now vs result) ≡ (reading self.now vs a && reading self.now vs b) }
+        ensures value { (vs : List Bool) →
+            (reading self.now vs a && reading self.now vs result)
+            ≡ (reading self.now vs a && reading self.now vs b) }
         ensures exact { IsShortened self.now a b result }
     {
         if b.positive {
@@ -198,9 +217,13 @@ impl Graph {
     fn reduce(&self, a: GraphBit, b: GraphBit) -> Reduced
         requires left { Owns self.now a }
         requires right { Owns self.now b }
-        ensures ordered { (x : Gate) → result ≡ Reduced.New x → Precedes (source_of x.left) (source_of x.right) }
+        ensures ordered { (x : Gate) → result ≡ Reduced.New x
+            → Precedes (source_of x.left) (source_of x.right) }
+        ensures needed { (x : Gate) → result ≡ Reduced.New x → IsNeeded self.now a b x }
         ensures inside { IsReducedIn self.now result }
-        ensures value { (vs : List Bool) → reduced_reads vs (values_after vs [] self.now.gates) result ≡ (reading self.now vs a && reading self.now vs b) }
+        ensures value { (vs : List Bool) →
+            reduced_reads vs (values_after vs [] self.now.gates) result
+            ≡ (reading self.now vs a && reading self.now vs b) }
     {
         if let Some(bit) = self.simplify(a, b) {
             return Reduced::Bit(bit);
@@ -218,7 +241,8 @@ impl Graph {
         requires left { Owns self.now a }
         requires right { Owns self.now b }
         ensures owned { IfSome result (λ r. Owns self.now r) }
-        ensures value { IfSome result (λ r. (vs : List Bool) → reading self.now vs r ≡ (reading self.now vs a && reading self.now vs b)) }
+        ensures value { IfSome result (λ r. (vs : List Bool) →
+            reading self.now vs r ≡ (reading self.now vs a && reading self.now vs b)) }
     {
         match self.reduce(a, b) {
             Reduced::Bit(bit) => Some(bit),
@@ -239,7 +263,8 @@ impl Graph {
         requires left { Owns self.now a }
         requires right { Owns self.now b }
         ensures owned { IfSome result (λ r. Owns self.now r) }
-        ensures value { IfSome result (λ r. (vs : List Bool) → reading self.now vs r ≡ differ (reading self.now vs a) (reading self.now vs b)) }
+        ensures value { IfSome result (λ r. (vs : List Bool) →
+            reading self.now vs r ≡ differ (reading self.now vs a) (reading self.now vs b)) }
     {
         let both = self.find(a, b)?;
         let neither = self.find(self.not(a), self.not(b))?;
@@ -253,7 +278,10 @@ impl Graph {
         requires left { Owns self.now (positive_bit a) }
         requires right { Owns self.now (positive_bit b) }
         ensures owned { IfSome result (λ r. Owns self.now r) }
-        ensures value { IfSome result (λ r. (vs : List Bool) → reading self.now vs r ≡ differ (reading self.now vs (positive_bit a)) (reading self.now vs (positive_bit b))) }
+        ensures value { IfSome result (λ r. (vs : List Bool) →
+            reading self.now vs r
+            ≡ differ (reading self.now vs (positive_bit a))
+            (reading self.now vs (positive_bit b))) }
     {
         let first = GraphBit {
             source: a,
@@ -276,7 +304,8 @@ impl Graph {
         requires right { Owns self.old b }
         ensures extends { Extends Owns reading (λ g. g.variables) self.old self.new }
         ensures owned { IfOk result (λ r. Owns self.new r) }
-        ensures value { IfOk result (λ r. (vs : List Bool) → reading self.new vs r ≡ differ (reading self.old vs a) (reading self.old vs b)) }
+        ensures value { IfOk result (λ r. (vs : List Bool) →
+            reading self.new vs r ≡ differ (reading self.old vs a) (reading self.old vs b)) }
         ensures few { length self.new.gates ≤ length self.old.gates + 3 }
     {
         let both = self.and(a, b)?;
@@ -292,7 +321,9 @@ impl Graph {
         requires no { Owns self.old no }
         ensures extends { Extends Owns reading (λ g. g.variables) self.old self.new }
         ensures owned { IfOk result (λ r. Owns self.new r) }
-        ensures value { IfOk result (λ r. (vs : List Bool) → reading self.new vs r ≡ (if reading self.old vs c then reading self.old vs yes else reading self.old vs no)) }
+        ensures value { IfOk result (λ r. (vs : List Bool) →
+            reading self.new vs r
+            ≡ (if reading self.old vs c then reading self.old vs yes else reading self.old vs no)) }
         ensures few { length self.new.gates ≤ length self.old.gates + 3 }
     {
         let first = self.and(c, yes)?;
@@ -325,7 +356,8 @@ impl Logic for Graph {
     fn not(&self, a: GraphBit) -> GraphBit
         requires { Owns self.now a }
         ensures owned { Owns self.now result }
-        ensures value { (vs : List Bool) → reading self.now vs result ≡ not (reading self.now vs a) }
+        ensures value { (vs : List Bool) →
+            reading self.now vs result ≡ not (reading self.now vs a) }
         ensures exact { result ≡ opposite_bit a }
     {
         GraphBit {
@@ -340,8 +372,10 @@ impl Logic for Graph {
         requires right { Owns self.old b }
         ensures extends { Extends Owns reading (λ g. g.variables) self.old self.new }
         ensures owned { IfOk result (λ r. Owns self.new r) }
-        ensures value { IfOk result (λ r. (vs : List Bool) → reading self.new vs r ≡ (reading self.old vs a && reading self.old vs b)) }
+        ensures value { IfOk result (λ r. (vs : List Bool) →
+            reading self.new vs r ≡ (reading self.old vs a && reading self.old vs b)) }
         ensures gains { GainsAtMostOne self.old.gates self.new.gates }
+        ensures needed { GainsNeeded self.old a b self.new.gates }
     {
         match self.reduce(a, b) {
             Reduced::Bit(bit) => Ok(bit),
@@ -363,10 +397,15 @@ impl Logic for Graph {
         requires no { Owns self.old no }
         ensures extends { Extends Owns reading (λ g. g.variables) self.old self.new }
         ensures owned { IfOk result (λ r. Owns self.new r) }
-        ensures value { IfOk result (λ r. (vs : List Bool) → reading self.new vs r ≡ (if reading self.old vs c then reading self.old vs yes else reading self.old vs no)) }
-        ensures known_test { source_of c ≡ Source.Constant → (result ≡ Ok (if is_positive_bit c then yes else no)) × (self.new ≡ self.old) }
-        ensures equal_arms { source_of c ≢ Source.Constant → AreSame yes no → (result ≡ Ok yes) × (self.new ≡ self.old) }
-        ensures settled_arm { IsSettled c yes ⊎ IsSettled c no → length self.new.gates ≤ length self.old.gates + 1 }
+        ensures value { IfOk result (λ r. (vs : List Bool) →
+            reading self.new vs r
+            ≡ (if reading self.old vs c then reading self.old vs yes else reading self.old vs no)) }
+        ensures known_test { source_of c ≡ Source.Constant
+            → (result ≡ Ok (if is_positive_bit c then yes else no)) × (self.new ≡ self.old) }
+        ensures equal_arms { source_of c ≢ Source.Constant → AreSame yes no
+            → (result ≡ Ok yes) × (self.new ≡ self.old) }
+        ensures settled_arm { IsSettled c yes ⊎ IsSettled c no
+            → length self.new.gates ≤ length self.old.gates + 1 }
         ensures few { length self.new.gates ≤ length self.old.gates + 3 }
     {
         match choice_of(c, yes, no) {
@@ -391,7 +430,8 @@ impl Logic for Graph {
         requires right { Owns self.old b }
         ensures extends { Extends Owns reading (λ g. g.variables) self.old self.new }
         ensures owned { IfOk result (λ r. Owns self.new r) }
-        ensures value { IfOk result (λ r. (vs : List Bool) → reading self.new vs r ≡ differ (reading self.old vs a) (reading self.old vs b)) }
+        ensures value { IfOk result (λ r. (vs : List Bool) →
+            reading self.new vs r ≡ differ (reading self.old vs a) (reading self.old vs b)) }
         ensures few { length self.new.gates ≤ length self.old.gates + 3 }
     {
         let Some(bit) = self.find_differ(a.source, b.source) else {
@@ -407,7 +447,8 @@ impl Logic for Graph {
     /// Whether two bits are one.
     fn same(&self, a: GraphBit, b: GraphBit) -> bool
         ensures exact { IsTrue result ↔ AreSame a b }
-        ensures value { IsTrue result → (vs : List Bool) → reading self.now vs a ≡ reading self.now vs b }
+        ensures value { IsTrue result → (vs : List Bool) →
+            reading self.now vs a ≡ reading self.now vs b }
     {
         are_same(a, b)
     }

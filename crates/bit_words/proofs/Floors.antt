@@ -158,3 +158,6 @@ masked (b ∷ c ∷ bs) = let rest : int_of (map (λ b. false && b) (c ∷ bs)) 
 pub int_masked : (t : Bool) (bs : List Bool) → int_of (map (λ b. t && b) bs) ≡ cond t (int_of bs) (pos 0)
 int_masked true bs = ap int_of (kept bs)
 int_masked false bs = masked bs
+
+-- a floor quotient and its divisor, of what the division gives
+pub ruleset quotients = (floor_is, zero_tests)

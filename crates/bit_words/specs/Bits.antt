@@ -11,7 +11,8 @@ abbrev pub most_of : Bool → Bool → Bool → Bool
 most_of true b c = b || c
 most_of false b c = b && c
 
--- whether one number is below another of one digit more, by these digits and by whether the lower digits are below
+-- whether one number is below another of one digit more, by these digits and by whether the
+-- lower digits are below
 abbrev pub less_by : Bool → Bool → Bool → Bool
 less_by true true below = below
 less_by true false below = false

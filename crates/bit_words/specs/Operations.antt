@@ -1,5 +1,6 @@
 -- Operations on whole numbers of unlimited size.
-use Rattle.std.specs.Prelude.{Bool, true, false, ℕ, zero, suc, ◌≡◌, ◌<◌, ◌+◌, ◌*◌, ◌/◌, ℤ, pos, negsuc, ◌-ℤ◌, ◌*ℤ◌, neg_ℤ}
+use Rattle.std.specs.Prelude.{Bool, true, false, ℕ, zero, suc, ◌≡◌, ◌<◌, ◌+◌, ◌*◌, ◌/◌, ℤ, pos}
+use Rattle.std.specs.Prelude.{negsuc, ◌-ℤ◌, ◌*ℤ◌, neg_ℤ}
 
 -- a number divided by a positive one, rounded towards minus infinity; by none it is 0 or -1
 abbrev pub floor_by : ℤ → ℕ → ℤ

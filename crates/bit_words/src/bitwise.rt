@@ -1,8 +1,10 @@
 //! Words made bit by bit.
 
-ghost use Rattle.std.specs.Prelude.{◌≡◌, ◌≤◌, Bool, List, false, not, length, map, replicate, ◌&&◌, if◌then◌else◌, IfOk};
+ghost use Rattle.std.specs.Prelude.{◌≡◌, Bool, List, false, not, length, map, replicate, ◌&&◌};
+ghost use Rattle.std.specs.Prelude.{if◌then◌else◌, IfOk};
 ghost use Rattle.bit_words.specs.Bits.{differ};
 ghost use Rattle.bit_words.specs.Logic.{Extends, OwnsAll};
+ghost use Rattle.bit_words.specs.Results.{IsWordIn};
 
 use crate::NoMemory;
 use crate::bits::Bits;
@@ -13,9 +15,9 @@ use std::alloc::Global;
 /// A word of bits that always read as false.
 #[tactic(auto, using(crate::proofs::Kept::steps))]
 pub fn zeros<L: Logic>(alloc: Global, g: &L, width: usize) -> Result<Word<L::Bit>, NoMemory>
-    ensures owned { IfOk result (λ r. OwnsAll L.owns g.now r) }
-    ensures width { IfOk result (λ r. length r ≡ width) }
-    ensures value { IfOk result (λ r. (vs : List Bool) → map (L.reads g.now vs) r ≡ replicate width false) }
+    ensures made { IfOk result (λ r. IsWordIn L.owns g.now width r) }
+    ensures value { IfOk result (λ r. (vs : List Bool) →
+        map (L.reads g.now vs) r ≡ replicate width false) }
 {
     let no = g.constant(false);
     let mut word = Word::new(alloc);
@@ -29,9 +31,9 @@ pub fn zeros<L: Logic>(alloc: Global, g: &L, width: usize) -> Result<Word<L::Bit
 #[tactic(auto, using(crate::proofs::Kept::steps))]
 pub fn flip<L: Logic>(alloc: Global, g: &L, a: &Word<L::Bit>) -> Result<Word<L::Bit>, NoMemory>
     requires { OwnsAll L.owns g.now a.now }
-    ensures owned { IfOk result (λ r. OwnsAll L.owns g.now r) }
-    ensures width { IfOk result (λ r. length r ≡ length a.now) }
-    ensures value { IfOk result (λ r. (vs : List Bool) → map (L.reads g.now vs) r ≡ map not (map (L.reads g.now vs) a.now)) }
+    ensures made { IfOk result (λ r. IsWordIn L.owns g.now (length a.now) r) }
+    ensures value { IfOk result (λ r. (vs : List Bool) →
+        map (L.reads g.now vs) r ≡ map not (map (L.reads g.now vs) a.now)) }
 {
     let mut flipped = Word::new(alloc);
     for i in 0..a.len() {
@@ -52,9 +54,10 @@ pub fn flip_where<L: Logic>(
     requires test { L.owns g.old test }
     requires word { OwnsAll L.owns g.old a.now }
     ensures extends { Extends L.owns L.reads L.count g.old g.new }
-    ensures owned { IfOk result (λ r. OwnsAll L.owns g.new r) }
-    ensures width { IfOk result (λ r. length r ≡ length a.now) }
-    ensures value { IfOk result (λ r. (vs : List Bool) → map (L.reads g.new vs) r ≡ map (differ (L.reads g.old vs test)) (map (L.reads g.old vs) a.now)) }
+    ensures made { IfOk result (λ r. IsWordIn L.owns g.new (length a.now) r) }
+    ensures value { IfOk result (λ r. (vs : List Bool) →
+        map (L.reads g.new vs) r
+        ≡ map (differ (L.reads g.old vs test)) (map (L.reads g.old vs) a.now)) }
 {
     let mut flipped = Word::new(alloc);
     for i in 0..a.len() {
@@ -76,9 +79,10 @@ pub fn mask<L: Logic>(
     requires test { L.owns g.old test }
     requires word { OwnsAll L.owns g.old a.now }
     ensures extends { Extends L.owns L.reads L.count g.old g.new }
-    ensures owned { IfOk result (λ r. OwnsAll L.owns g.new r) }
-    ensures width { IfOk result (λ r. length r ≡ length a.now) }
-    ensures value { IfOk result (λ r. (vs : List Bool) → map (L.reads g.new vs) r ≡ map (λ b. L.reads g.old vs test && b) (map (L.reads g.old vs) a.now)) }
+    ensures made { IfOk result (λ r. IsWordIn L.owns g.new (length a.now) r) }
+    ensures value { IfOk result (λ r. (vs : List Bool) →
+        map (L.reads g.new vs) r
+        ≡ map (λ b. L.reads g.old vs test && b) (map (L.reads g.old vs) a.now)) }
 {
     let mut masked = Word::new(alloc);
     for i in 0..a.len() {
@@ -103,9 +107,11 @@ pub fn choose_bits<L: Logic>(
     requires yes { OwnsAll L.owns g.old yes.now }
     requires no { OwnsAll L.owns g.old no.now }
     ensures extends { Extends L.owns L.reads L.count g.old g.new }
-    ensures owned { IfOk result (λ r. OwnsAll L.owns g.new r) }
-    ensures width { IfOk result (λ r. length r ≡ length yes.now) }
-    ensures value { IfOk result (λ r. (vs : List Bool) → map (L.reads g.new vs) r ≡ (if L.reads g.old vs test then map (L.reads g.old vs) yes.now else map (L.reads g.old vs) no.now)) }
+    ensures made { IfOk result (λ r. IsWordIn L.owns g.new (length yes.now) r) }
+    ensures value { IfOk result (λ r. (vs : List Bool) →
+        map (L.reads g.new vs) r
+        ≡ (if L.reads g.old vs test then map (L.reads g.old vs) yes.now
+        else map (L.reads g.old vs) no.now)) }
 {
     let mut chosen = Bits::new(alloc);
     for i in 0..yes.len() {
@@ -131,9 +137,11 @@ pub fn choose_word<L: Logic>(
     requires yes { OwnsAll L.owns g.old yes.now }
     requires no { OwnsAll L.owns g.old no.now }
     ensures extends { Extends L.owns L.reads L.count g.old g.new }
-    ensures owned { IfOk result (λ r. OwnsAll L.owns g.new r) }
-    ensures width { IfOk result (λ r. length r ≡ length yes.now) }
-    ensures value { IfOk result (λ r. (vs : List Bool) → map (L.reads g.new vs) r ≡ (if L.reads g.old vs test then map (L.reads g.old vs) yes.now else map (L.reads g.old vs) no.now)) }
+    ensures made { IfOk result (λ r. IsWordIn L.owns g.new (length yes.now) r) }
+    ensures value { IfOk result (λ r. (vs : List Bool) →
+        map (L.reads g.new vs) r
+        ≡ (if L.reads g.old vs test then map (L.reads g.old vs) yes.now
+        else map (L.reads g.old vs) no.now)) }
 {
     let chosen = choose_bits(alloc, g, test, yes.as_slice(), no.as_slice())?;
     Ok(Word::from_vec(chosen.into_vec()))

@@ -1,6 +1,6 @@
 //! Comparisons.
 
-ghost use Rattle.std.specs.Prelude.{◌≡◌, ◌<◌, Bool, List, length, map, IfOk};
+ghost use Rattle.std.specs.Prelude.{◌≡◌, ◌<◌, Bool, List, length, IfOk};
 ghost use Rattle.std.specs.Int.Signed.{lt_z};
 ghost use Rattle.std.specs.Ordering.{int_eq};
 ghost use Rattle.bit_words.specs.Logic.{Extends, OwnsAll};
@@ -27,7 +27,9 @@ pub fn equal<L: Logic>(
     requires right { OwnsAll L.owns g.old b.now }
     ensures extends { Extends L.owns L.reads L.count g.old g.new }
     ensures owned { IfOk result (λ r. L.owns g.new r) }
-    ensures value { IfOk result (λ r. (vs : List Bool) → L.reads g.new vs r ≡ int_eq (int_read L.reads g.old vs a.now) (int_read L.reads g.old vs b.now)) }
+    ensures value { IfOk result (λ r. (vs : List Bool) →
+        L.reads g.new vs r ≡ int_eq (int_read L.reads g.old vs a.now)
+        (int_read L.reads g.old vs b.now)) }
 {
     let mut alike = g.constant(true);
     for i in 0..a.len() {
@@ -53,7 +55,9 @@ pub fn less_digit<L: Logic>(
     requires before { L.owns g.old before }
     ensures extends { Extends L.owns L.reads L.count g.old g.new }
     ensures owned { IfOk result (λ r. L.owns g.new r) }
-    ensures value { IfOk result (λ r. (vs : List Bool) → L.reads g.new vs r ≡ less_by (L.reads g.old vs left) (L.reads g.old vs right) (L.reads g.old vs before)) }
+    ensures value { IfOk result (λ r. (vs : List Bool) →
+        L.reads g.new vs r ≡ less_by (L.reads g.old vs left) (L.reads g.old vs right)
+        (L.reads g.old vs before)) }
 {
     let not_left = g.not(left);
     let not_right = g.not(right);
@@ -76,7 +80,9 @@ fn less_sign<L: Logic>(
     requires before { L.owns g.old before }
     ensures extends { Extends L.owns L.reads L.count g.old g.new }
     ensures owned { IfOk result (λ r. L.owns g.new r) }
-    ensures value { IfOk result (λ r. (vs : List Bool) → L.reads g.new vs r ≡ less_by (L.reads g.old vs right) (L.reads g.old vs left) (L.reads g.old vs before)) }
+    ensures value { IfOk result (λ r. (vs : List Bool) →
+        L.reads g.new vs r ≡ less_by (L.reads g.old vs right) (L.reads g.old vs left)
+        (L.reads g.old vs before)) }
 {
     less_digit(g, right, left, before)
 }
@@ -95,7 +101,9 @@ pub fn less<L: Logic>(
     requires right { OwnsAll L.owns g.old b.now }
     ensures extends { Extends L.owns L.reads L.count g.old g.new }
     ensures owned { IfOk result (λ r. L.owns g.new r) }
-    ensures value { IfOk result (λ r. (vs : List Bool) → L.reads g.new vs r ≡ lt_z (int_read L.reads g.old vs a.now) (int_read L.reads g.old vs b.now)) }
+    ensures value { IfOk result (λ r. (vs : List Bool) →
+        L.reads g.new vs r ≡ lt_z (int_read L.reads g.old vs a.now)
+        (int_read L.reads g.old vs b.now)) }
 {
     let top = a.len() - 1;
     let mut below = g.constant(false);

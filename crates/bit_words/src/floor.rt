@@ -4,11 +4,14 @@ ghost use Rattle.std.specs.Prelude.{◌≡◌, ◌≢◌, ◌+◌, ◌/◌, ◌<
 ghost use Rattle.std.specs.Int.RustNames.{unsigned_abs};
 ghost use Rattle.std.specs.Ordering.{int_eq};
 ghost use Rattle.bit_words.specs.Logic.{Extends, OwnsAll};
+ghost use Rattle.bit_words.specs.Results.{IsPartialIn, IsWordIn};
 ghost use Rattle.bit_words.specs.Words.{int_read, nat_read, is_negative, Holds, OverflowsAs};
-ghost use Rattle.bit_words.specs.Operations.{IsDivided, by_positive, floor_quotient, floor_remainder, folded, unfolded};
+ghost use Rattle.bit_words.specs.Operations.{IsDivided, by_positive, floor_quotient};
+ghost use Rattle.bit_words.specs.Operations.{floor_remainder, folded, unfolded};
 
 use crate::NoMemory;
 use crate::bitwise::{flip_where, mask};
+use crate::checked::Partial;
 use crate::logic::Logic;
 use crate::magnitude::{magnitude, negate_where, sign_of};
 use crate::narrow::narrow;
@@ -49,10 +52,22 @@ fn divide_folded<L: Logic>(
     ensures owned_none { IfOk result (λ r. L.owns g.new r.none) }
     ensures width { IfOk result (λ r. length r.quotient ≡ length a.now) }
     ensures width_rest { IfOk result (λ r. length r.rest ≡ length a.now) }
-    ensures sign { IfOk result (λ r. (vs : List Bool) → L.reads g.new vs r.sign ≡ is_negative (by_positive (int_read L.reads g.old vs a.now) (int_read L.reads g.old vs b.now))) }
-    ensures none { IfOk result (λ r. (vs : List Bool) → L.reads g.new vs r.none ≡ nat_eq (unsigned_abs (int_read L.reads g.old vs b.now)) 0) }
-    ensures quotient { IfOk result (λ r. (vs : List Bool) → nat_read L.reads g.new vs r.quotient ≡ folded (by_positive (int_read L.reads g.old vs a.now) (int_read L.reads g.old vs b.now)) / unsigned_abs (int_read L.reads g.old vs b.now)) }
-    ensures rest { IfOk result (λ r. (vs : List Bool) → 0 < unsigned_abs (int_read L.reads g.old vs b.now) → IsDivided (folded (by_positive (int_read L.reads g.old vs a.now) (int_read L.reads g.old vs b.now))) (unsigned_abs (int_read L.reads g.old vs b.now)) (nat_read L.reads g.new vs r.quotient) (nat_read L.reads g.new vs r.rest)) }
+    ensures sign { IfOk result (λ r. (vs : List Bool) →
+        L.reads g.new vs r.sign
+        ≡ is_negative
+        (by_positive (int_read L.reads g.old vs a.now) (int_read L.reads g.old vs b.now))) }
+    ensures none { IfOk result (λ r. (vs : List Bool) →
+        L.reads g.new vs r.none ≡ nat_eq (unsigned_abs (int_read L.reads g.old vs b.now)) 0) }
+    ensures quotient { IfOk result (λ r. (vs : List Bool) →
+        nat_read L.reads g.new vs r.quotient
+        ≡ folded (by_positive (int_read L.reads g.old vs a.now) (int_read L.reads g.old vs b.now))
+        / unsigned_abs (int_read L.reads g.old vs b.now)) }
+    ensures rest { IfOk result (λ r. (vs : List Bool) →
+        0 < unsigned_abs (int_read L.reads g.old vs b.now)
+        → IsDivided (folded
+        (by_positive (int_read L.reads g.old vs a.now) (int_read L.reads g.old vs b.now)))
+        (unsigned_abs (int_read L.reads g.old vs b.now)) (nat_read L.reads g.new vs r.quotient)
+        (nat_read L.reads g.new vs r.rest)) }
 {
     let width = a.len();
     let below = sign_of(g, b);
@@ -82,9 +97,10 @@ fn unfold<L: Logic>(
     requires sign { L.owns g.old sign }
     requires word { OwnsAll L.owns g.old size.now }
     ensures extends { Extends L.owns L.reads L.count g.old g.new }
-    ensures owned { IfOk result (λ r. OwnsAll L.owns g.new r) }
-    ensures width { IfOk result (λ r. length r ≡ length size.now + 1) }
-    ensures value { IfOk result (λ r. (vs : List Bool) → int_read L.reads g.new vs r ≡ unfolded (L.reads g.old vs sign) (nat_read L.reads g.old vs size.now)) }
+    ensures made { IfOk result (λ r. IsWordIn L.owns g.new (length size.now + 1) r) }
+    ensures value { IfOk result (λ r. (vs : List Bool) →
+        int_read L.reads g.new vs r
+        ≡ unfolded (L.reads g.old vs sign) (nat_read L.reads g.old vs size.now)) }
 {
     let no = g.constant(false);
     let mut wide = size.copy()?;
@@ -95,31 +111,38 @@ fn unfold<L: Logic>(
 
 /// The quotient of two words of one width, rounded towards minus infinity, whether it leaves their
 /// width, and whether the divisor is 0.
-#[tactic(auto, using(crate::proofs::Kept::steps, crate::proofs::Floors::floor_is, crate::proofs::Floors::zero_tests))]
+#[tactic(auto, using(crate::proofs::Kept::steps, crate::proofs::Floors::quotients))]
 pub fn floor<L: Logic>(
     alloc: Global,
     g: &mut L,
     a: &Word<L::Bit>,
     b: &Word<L::Bit>,
-) -> Result<(Word<L::Bit>, L::Bit, L::Bit), NoMemory>
+) -> Result<Partial<L::Bit>, NoMemory>
     requires long { 0 < length a.now }
     requires alike { length b.now ≡ length a.now }
     requires left { OwnsAll L.owns g.old a.now }
     requires right { OwnsAll L.owns g.old b.now }
     ensures extends { Extends L.owns L.reads L.count g.old g.new }
-    ensures owned { IfOk result (λ r. OwnsAll L.owns g.new r.0) }
-    ensures owned_over { IfOk result (λ r. L.owns g.new r.1) }
-    ensures owned_none { IfOk result (λ r. L.owns g.new r.2) }
-    ensures width { IfOk result (λ r. length r.0 ≡ length a.now) }
-    ensures none { IfOk result (λ r. (vs : List Bool) → L.reads g.new vs r.2 ≡ int_eq (int_read L.reads g.old vs b.now) (pos 0)) }
-    ensures over { IfOk result (λ r. (vs : List Bool) → OverflowsAs (L.reads g.new vs r.1) (length a.now) (floor_quotient (int_read L.reads g.old vs a.now) (int_read L.reads g.old vs b.now))) }
-    ensures value { IfOk result (λ r. (vs : List Bool) → Holds (int_read L.reads g.new vs r.0) (length a.now) (floor_quotient (int_read L.reads g.old vs a.now) (int_read L.reads g.old vs b.now))) }
+    ensures made { IfOk result (λ r. IsPartialIn L.owns g.new
+        (length a.now) r.word r.over r.fault) }
+    ensures none { IfOk result (λ r. (vs : List Bool) →
+        L.reads g.new vs r.fault ≡ int_eq (int_read L.reads g.old vs b.now) (pos 0)) }
+    ensures over { IfOk result (λ r. (vs : List Bool) →
+        OverflowsAs (L.reads g.new vs r.over) (length a.now)
+        (floor_quotient (int_read L.reads g.old vs a.now) (int_read L.reads g.old vs b.now))) }
+    ensures value { IfOk result (λ r. (vs : List Bool) →
+        Holds (int_read L.reads g.new vs r.word) (length a.now)
+        (floor_quotient (int_read L.reads g.old vs a.now) (int_read L.reads g.old vs b.now))) }
 {
     let width = a.len();
     let divided = divide_folded(alloc, g, a, b)?;
     let unfolded = unfold(alloc, g, divided.sign, &divided.quotient)?;
-    let (number, over) = narrow(g, &unfolded, width)?;
-    Ok((number, over, divided.none))
+    let quotient = narrow(g, &unfolded, width)?;
+    Ok(Partial {
+        word: quotient.word,
+        over: quotient.over,
+        fault: divided.none,
+    })
 }
 
 /// What is left of one word by floor division by another of its width, whether it leaves their
@@ -130,26 +153,33 @@ pub fn rem<L: Logic>(
     g: &mut L,
     a: &Word<L::Bit>,
     b: &Word<L::Bit>,
-) -> Result<(Word<L::Bit>, L::Bit, L::Bit), NoMemory>
+) -> Result<Partial<L::Bit>, NoMemory>
     requires long { 0 < length a.now }
     requires alike { length b.now ≡ length a.now }
     requires left { OwnsAll L.owns g.old a.now }
     requires right { OwnsAll L.owns g.old b.now }
     ensures extends { Extends L.owns L.reads L.count g.old g.new }
-    ensures owned { IfOk result (λ r. OwnsAll L.owns g.new r.0) }
-    ensures owned_over { IfOk result (λ r. L.owns g.new r.1) }
-    ensures owned_none { IfOk result (λ r. L.owns g.new r.2) }
-    ensures width { IfOk result (λ r. length r.0 ≡ length a.now) }
-    ensures none { IfOk result (λ r. (vs : List Bool) → L.reads g.new vs r.2 ≡ int_eq (int_read L.reads g.old vs b.now) (pos 0)) }
-    ensures over { IfOk result (λ r. (vs : List Bool) → OverflowsAs (L.reads g.new vs r.1) (length a.now) (floor_remainder (int_read L.reads g.old vs a.now) (int_read L.reads g.old vs b.now))) }
-    ensures value { IfOk result (λ r. (vs : List Bool) → int_read L.reads g.old vs b.now ≢ pos 0 → int_read L.reads g.new vs r.0 ≡ floor_remainder (int_read L.reads g.old vs a.now) (int_read L.reads g.old vs b.now)) }
+    ensures made { IfOk result (λ r. IsPartialIn L.owns g.new
+        (length a.now) r.word r.over r.fault) }
+    ensures none { IfOk result (λ r. (vs : List Bool) →
+        L.reads g.new vs r.fault ≡ int_eq (int_read L.reads g.old vs b.now) (pos 0)) }
+    ensures over { IfOk result (λ r. (vs : List Bool) →
+        OverflowsAs (L.reads g.new vs r.over) (length a.now)
+        (floor_remainder (int_read L.reads g.old vs a.now) (int_read L.reads g.old vs b.now))) }
+    ensures value { IfOk result (λ r. (vs : List Bool) → int_read L.reads g.old vs b.now ≢ pos 0
+        → int_read L.reads g.new vs r.word
+        ≡ floor_remainder (int_read L.reads g.old vs a.now) (int_read L.reads g.old vs b.now)) }
 {
     let divided = divide_folded(alloc, g, a, b)?;
     let below = sign_of(g, b);
     let turn = g.xor(divided.sign, below)?;
     let part = mask(alloc, g, divided.sign, b)?;
     let flipped = flip_where(alloc, g, turn, &divided.rest)?;
-    let (number, _) = signed_sum(alloc, g, &part, &flipped, below)?;
+    let number = signed_sum(alloc, g, &part, &flipped, below)?;
     let over = g.constant(false);
-    Ok((number, over, divided.none))
+    Ok(Partial {
+        word: number.word,
+        over,
+        fault: divided.none,
+    })
 }

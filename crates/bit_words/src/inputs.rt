@@ -1,7 +1,8 @@
 //! New variables.
 
-ghost use Rattle.std.specs.Prelude.{◌≡◌, List, Bool, length, map, OnOk, IfOk};
-ghost use Rattle.bit_words.specs.Logic.{Keeps, OwnsAll};
+ghost use Rattle.std.specs.Prelude.{◌≡◌, List, Bool, map, OnOk, IfOk};
+ghost use Rattle.bit_words.specs.Logic.{Keeps};
+ghost use Rattle.bit_words.specs.Results.{IsWordIn};
 ghost use Rattle.bit_words.specs.Later.{AddsVariables, values_from};
 
 use crate::NoMemory;
@@ -18,9 +19,9 @@ pub fn fresh_bits<V: Variables>(
 ) -> Result<Bits<V::Bit>, NoMemory>
     ensures keeps { Keeps V.owns V.reads g.old g.new }
     ensures adds { OnOk result (AddsVariables V.owns V.reads V.count n g.old g.new) }
-    ensures owned { IfOk result (λ r. OwnsAll V.owns g.new r) }
-    ensures many { IfOk result (λ r. length r ≡ n) }
-    ensures value { IfOk result (λ r. (vs : List Bool) → map (V.reads g.new vs) r ≡ values_from vs (V.count g.old) n) }
+    ensures made { IfOk result (λ r. IsWordIn V.owns g.new n r) }
+    ensures value { IfOk result (λ r. (vs : List Bool) →
+        map (V.reads g.new vs) r ≡ values_from vs (V.count g.old) n) }
 {
     let mut bits = Bits::new(alloc);
     for _ in 0..n {

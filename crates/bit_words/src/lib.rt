@@ -3,6 +3,7 @@
 
 pub mod bits;
 pub mod bitwise;
+pub mod checked;
 pub mod compare;
 pub mod floor;
 pub mod gates;

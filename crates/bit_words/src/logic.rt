@@ -1,6 +1,7 @@
 //! What a logic owes to whoever builds bits over it.
 
-ghost use Rattle.std.specs.Prelude.{◌≡◌, ◌+◌, ℕ, Bool, false, List, not, ◌&&◌, if◌then◌else◌, OnOk, IfOk, IfSome, IsTrue, OnErr, slice_index_or};
+ghost use Rattle.std.specs.Prelude.{◌≡◌, ◌+◌, ℕ, Bool, false, List, not, ◌&&◌, if◌then◌else◌, OnOk};
+ghost use Rattle.std.specs.Prelude.{IfOk, IfSome, IsTrue, OnErr, slice_index_or};
 ghost use Rattle.bit_words.specs.Bits.{differ};
 ghost use Rattle.bit_words.specs.Logic.{Extends, Keeps};
 
@@ -14,8 +15,8 @@ pub trait Logic {
     /// The bits that belong to a state.
     ghost owns: { Self → Self.Bit → Type 0 };
 
-    /// What a bit reads as under truth values of the variables, the first variable first. A variable
-    /// past the end of the list reads as false.
+    /// What a bit reads as under truth values of the variables, the first variable first. A
+    /// variable past the end of the list reads as false.
     ghost reads: { Self → List Bool → Self.Bit → Bool };
 
     /// How many variables a state has.
@@ -38,7 +39,8 @@ pub trait Logic {
         requires right { owns self.old b }
         ensures extends { Extends owns reads count self.old self.new }
         ensures owned { IfOk result (λ r. owns self.new r) }
-        ensures value { IfOk result (λ r. (vs : List Bool) → reads self.new vs r ≡ (reads self.old vs a && reads self.old vs b)) };
+        ensures value { IfOk result (λ r. (vs : List Bool) →
+            reads self.new vs r ≡ (reads self.old vs a && reads self.old vs b)) };
 
     /// One bit where `c` holds, and another where it doesn't.
     fn choose(&mut self, c: Self::Bit, yes: Self::Bit, no: Self::Bit) -> Result<Self::Bit, NoMemory>
@@ -47,7 +49,9 @@ pub trait Logic {
         requires no { owns self.old no }
         ensures extends { Extends owns reads count self.old self.new }
         ensures owned { IfOk result (λ r. owns self.new r) }
-        ensures value { IfOk result (λ r. (vs : List Bool) → reads self.new vs r ≡ (if reads self.old vs c then reads self.old vs yes else reads self.old vs no)) }
+        ensures value { IfOk result (λ r. (vs : List Bool) →
+            reads self.new vs r
+            ≡ (if reads self.old vs c then reads self.old vs yes else reads self.old vs no)) }
     {
         let other = self.not(c);
         let first = self.and(c, yes)?;
@@ -64,7 +68,8 @@ pub trait Logic {
         requires right { owns self.old b }
         ensures extends { Extends owns reads count self.old self.new }
         ensures owned { IfOk result (λ r. owns self.new r) }
-        ensures value { IfOk result (λ r. (vs : List Bool) → reads self.new vs r ≡ differ (reads self.old vs a) (reads self.old vs b)) }
+        ensures value { IfOk result (λ r. (vs : List Bool) →
+            reads self.new vs r ≡ differ (reads self.old vs a) (reads self.old vs b)) }
     {
         let both = self.and(a, b)?;
         let not_a = self.not(a);
@@ -104,5 +109,6 @@ pub trait Variables: Logic {
         ensures added { OnOk result (Self.count self.new ≡ Self.count self.old + 1) }
         ensures refused { OnErr result (Self.count self.new ≡ Self.count self.old) }
         ensures owned { IfOk result (λ r. Self.owns self.new r) }
-        ensures value { IfOk result (λ r. (vs : List Bool) → Self.reads self.new vs r ≡ slice_index_or vs (Self.count self.old) false) };
+        ensures value { IfOk result (λ r. (vs : List Bool) →
+            Self.reads self.new vs r ≡ slice_index_or vs (Self.count self.old) false) };
 }

@@ -1,12 +1,16 @@
 //! A number's magnitude and its sign.
 
-ghost use Rattle.std.specs.Prelude.{◌≡◌, ◌+◌, ◌<◌, Bool, List, length, map, IfOk, ℕ, pos, neg_ℤ, if◌then◌else◌};
+ghost use Rattle.std.specs.Prelude.{◌≡◌, ◌+◌, ◌<◌, Bool, List, length, IfOk, ℕ, neg_ℤ};
+ghost use Rattle.std.specs.Prelude.{if◌then◌else◌};
 ghost use Rattle.std.specs.Int.RustNames.{unsigned_abs};
 ghost use Rattle.bit_words.specs.Logic.{Extends, OwnsAll};
-ghost use Rattle.bit_words.specs.Words.{nat_read, int_read, is_negative, signed, IsUnsigned, OverflowsAs, Holds};
+ghost use Rattle.bit_words.specs.Results.{IsCheckedIn, IsWordIn};
+ghost use Rattle.bit_words.specs.Words.{nat_read, int_read, is_negative, signed, IsUnsigned};
+ghost use Rattle.bit_words.specs.Words.{OverflowsAs, Holds};
 
 use crate::NoMemory;
 use crate::bitwise::{flip_where, zeros};
+use crate::checked::Checked;
 use crate::gates::or;
 use crate::logic::Logic;
 use crate::narrow::narrow;
@@ -20,7 +24,8 @@ pub fn sign_of<L: Logic>(g: &L, a: &Word<L::Bit>) -> L::Bit
     requires some { 0 < length a.now }
     requires word { OwnsAll L.owns g.now a.now }
     ensures owned { L.owns g.now result }
-    ensures value { (vs : List Bool) → L.reads g.now vs result ≡ is_negative (int_read L.reads g.now vs a.now) }
+    ensures value { (vs : List Bool) →
+        L.reads g.now vs result ≡ is_negative (int_read L.reads g.now vs a.now) }
 {
     let _ = g;
     a.at(a.len() - 1)
@@ -36,9 +41,9 @@ pub fn magnitude<L: Logic>(
     requires some { 0 < length a.now }
     requires word { OwnsAll L.owns g.old a.now }
     ensures extends { Extends L.owns L.reads L.count g.old g.new }
-    ensures owned { IfOk result (λ r. OwnsAll L.owns g.new r) }
-    ensures width { IfOk result (λ r. length r ≡ length a.now) }
-    ensures value { IfOk result (λ r. (vs : List Bool) → nat_read L.reads g.new vs r ≡ unsigned_abs (int_read L.reads g.old vs a.now)) }
+    ensures made { IfOk result (λ r. IsWordIn L.owns g.new (length a.now) r) }
+    ensures value { IfOk result (λ r. (vs : List Bool) →
+        nat_read L.reads g.new vs r ≡ unsigned_abs (int_read L.reads g.old vs a.now)) }
 {
     let sign = sign_of(g, a);
     let flipped = flip_where(alloc, g, sign, a)?;
@@ -60,15 +65,17 @@ fn turn_where<L: Logic>(
     requires test { L.owns g.old test }
     requires word { OwnsAll L.owns g.old a.now }
     ensures extends { Extends L.owns L.reads L.count g.old g.new }
-    ensures owned { IfOk result (λ r. OwnsAll L.owns g.new r) }
-    ensures width { IfOk result (λ r. length r ≡ length a.now) }
-    ensures value { IfOk result (λ r. (vs : List Bool) → Holds (int_read L.reads g.new vs r) (length a.now) (if L.reads g.old vs test then neg_ℤ (int_read L.reads g.old vs a.now) else int_read L.reads g.old vs a.now)) }
+    ensures made { IfOk result (λ r. IsWordIn L.owns g.new (length a.now) r) }
+    ensures value { IfOk result (λ r. (vs : List Bool) →
+        Holds (int_read L.reads g.new vs r) (length a.now)
+        (if L.reads g.old vs test then neg_ℤ (int_read L.reads g.old vs a.now)
+        else int_read L.reads g.old vs a.now)) }
 {
     let flipped = flip_where(alloc, g, test, a)?;
     let width = a.len();
     let nothing = zeros(alloc, g, width)?;
-    let (turned, _) = signed_sum(alloc, g, &flipped, &nothing, test)?;
-    Ok(turned)
+    let turned = signed_sum(alloc, g, &flipped, &nothing, test)?;
+    Ok(turned.word)
 }
 
 /// A number or its opposite, by a test.
@@ -83,9 +90,11 @@ pub fn negate_where<L: Logic>(
     requires test { L.owns g.old test }
     requires word { OwnsAll L.owns g.old a.now }
     ensures extends { Extends L.owns L.reads L.count g.old g.new }
-    ensures owned { IfOk result (λ r. OwnsAll L.owns g.new r) }
-    ensures width { IfOk result (λ r. length r ≡ length a.now + 1) }
-    ensures value { IfOk result (λ r. (vs : List Bool) → int_read L.reads g.new vs r ≡ (if L.reads g.old vs test then neg_ℤ (int_read L.reads g.old vs a.now) else int_read L.reads g.old vs a.now)) }
+    ensures made { IfOk result (λ r. IsWordIn L.owns g.new (length a.now + 1) r) }
+    ensures value { IfOk result (λ r. (vs : List Bool) →
+        int_read L.reads g.new vs r
+        ≡ (if L.reads g.old vs test then neg_ℤ (int_read L.reads g.old vs a.now)
+        else int_read L.reads g.old vs a.now)) }
 {
     let sign = sign_of(g, a);
     let mut wide = a.copy()?;
@@ -105,9 +114,10 @@ pub fn with_sign<L: Logic>(
     requires sign { L.owns g.old sign }
     requires word { OwnsAll L.owns g.old size.now }
     ensures extends { Extends L.owns L.reads L.count g.old g.new }
-    ensures owned { IfOk result (λ r. OwnsAll L.owns g.new r) }
-    ensures width { IfOk result (λ r. length r ≡ length size.now + 1) }
-    ensures value { IfOk result (λ r. (vs : List Bool) → int_read L.reads g.new vs r ≡ signed (L.reads g.old vs sign) (nat_read L.reads g.old vs size.now)) }
+    ensures made { IfOk result (λ r. IsWordIn L.owns g.new (length size.now + 1) r) }
+    ensures value { IfOk result (λ r. (vs : List Bool) →
+        int_read L.reads g.new vs r
+        ≡ signed (L.reads g.old vs sign) (nat_read L.reads g.old vs size.now)) }
 {
     let no = g.constant(false);
     let mut wide = size.copy()?;
@@ -125,21 +135,30 @@ pub fn signed_result<L: Logic>(
     sign: L::Bit,
     size: &Word<L::Bit>,
     over: L::Bit,
-) -> Result<(Word<L::Bit>, L::Bit), NoMemory>
+) -> Result<Checked<L::Bit>, NoMemory>
     requires some { 0 < length size.now }
     requires sign { L.owns g.old sign }
     requires word { OwnsAll L.owns g.old size.now }
     requires over { L.owns g.old over }
     ensures extends { Extends L.owns L.reads L.count g.old g.new }
-    ensures owned { IfOk result (λ r. OwnsAll L.owns g.new r.0) }
-    ensures owned_over { IfOk result (λ r. L.owns g.new r.1) }
-    ensures width { IfOk result (λ r. length r.0 ≡ length size.now) }
-    ensures over { IfOk result (λ r. (vs : List Bool) (number : ℕ) → IsUnsigned (length size.now) number (nat_read L.reads g.old vs size.now) (L.reads g.old vs over) → OverflowsAs (L.reads g.new vs r.1) (length size.now) (signed (L.reads g.old vs sign) number)) }
-    ensures value { IfOk result (λ r. (vs : List Bool) (number : ℕ) → IsUnsigned (length size.now) number (nat_read L.reads g.old vs size.now) (L.reads g.old vs over) → Holds (int_read L.reads g.new vs r.0) (length size.now) (signed (L.reads g.old vs sign) number)) }
+    ensures made { IfOk result (λ r. IsCheckedIn L.owns g.new (length size.now) r.word r.over) }
+    ensures over { IfOk result (λ r. (vs : List Bool) (number : ℕ) →
+        IsUnsigned (length size.now) number (nat_read L.reads g.old vs size.now)
+        (L.reads g.old vs over)
+        → OverflowsAs (L.reads g.new vs r.over) (length size.now)
+        (signed (L.reads g.old vs sign) number)) }
+    ensures value { IfOk result (λ r. (vs : List Bool) (number : ℕ) →
+        IsUnsigned (length size.now) number (nat_read L.reads g.old vs size.now)
+        (L.reads g.old vs over)
+        → Holds (int_read L.reads g.new vs r.word) (length size.now)
+        (signed (L.reads g.old vs sign) number)) }
 {
     let width = size.len();
     let wide = with_sign(alloc, g, sign, size)?;
-    let (number, left) = narrow(g, &wide, width)?;
-    let spilled = or(g, over, left)?;
-    Ok((number, spilled))
+    let number = narrow(g, &wide, width)?;
+    let spilled = or(g, over, number.over)?;
+    Ok(Checked {
+        word: number.word,
+        over: spilled,
+    })
 }

@@ -2,9 +2,11 @@
 
 ghost use Rattle.std.specs.Prelude.{◌≡◌, ◌+◌, ◌<◌, Bool, List, length, IfOk};
 ghost use Rattle.bit_words.specs.Logic.{Extends, OwnsAll};
+ghost use Rattle.bit_words.specs.Results.{IsCheckedIn};
 ghost use Rattle.bit_words.specs.Words.{int_read, Holds, OverflowsAs};
 
 use crate::NoMemory;
+use crate::checked::Checked;
 use crate::logic::Logic;
 use crate::word::Word;
 
@@ -14,20 +16,20 @@ pub fn narrow<L: Logic>(
     g: &mut L,
     wide: &Word<L::Bit>,
     width: usize,
-) -> Result<(Word<L::Bit>, L::Bit), NoMemory>
+) -> Result<Checked<L::Bit>, NoMemory>
     requires some { 0 < width }
     requires wider { length wide.now ≡ width + 1 }
     requires owned { OwnsAll L.owns g.old wide.now }
     ensures extends { Extends L.owns L.reads L.count g.old g.new }
-    ensures owned { IfOk result (λ r. OwnsAll L.owns g.new r.0) }
-    ensures owned_over { IfOk result (λ r. L.owns g.new r.1) }
-    ensures width { IfOk result (λ r. length r.0 ≡ width) }
-    ensures over { IfOk result (λ r. (vs : List Bool) → OverflowsAs (L.reads g.new vs r.1) width (int_read L.reads g.old vs wide.now)) }
-    ensures value { IfOk result (λ r. (vs : List Bool) → Holds (int_read L.reads g.new vs r.0) width (int_read L.reads g.old vs wide.now)) }
+    ensures made { IfOk result (λ r. IsCheckedIn L.owns g.new width r.word r.over) }
+    ensures over { IfOk result (λ r. (vs : List Bool) →
+        OverflowsAs (L.reads g.new vs r.over) width (int_read L.reads g.old vs wide.now)) }
+    ensures value { IfOk result (λ r. (vs : List Bool) →
+        Holds (int_read L.reads g.new vs r.word) width (int_read L.reads g.old vs wide.now)) }
 {
     let top = wide.at(width - 1);
     let sign = wide.at(width);
     let low = wide.low_bits(width)?;
     let over = g.xor(top, sign)?;
-    Ok((low, over))
+    Ok(Checked { word: low, over })
 }

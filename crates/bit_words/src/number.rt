@@ -2,21 +2,16 @@
 
 ghost use Rattle.std.specs.Prelude.{◌≡◌, ◌+◌, ◌*◌, ◌^◌, ◌<◌, Bool, List, length, IfOk};
 ghost use Rattle.bit_words.specs.Logic.{OwnsAll};
+ghost use Rattle.bit_words.specs.Results.{IsCheckedIn};
 ghost use Rattle.bit_words.specs.Words.{int_read, is_negative, nat_read, Holds, OverflowsAs};
 ghost use Rattle.bit_words.specs.Operations.{folded};
 
 use crate::NoMemory;
 use crate::bitwise::flip;
+use crate::checked::Checked;
 use crate::logic::Logic;
 use crate::word::Word;
 use std::alloc::Global;
-
-/// A word, and whether its number leaves the width.
-#[derive(Drop)]
-pub struct Checked<B: Copy> {
-    pub word: Word<B>,
-    pub over: B,
-}
 
 fn is_below_zero(number: i32) -> bool
     ensures { result ≡ is_negative number }
@@ -45,7 +40,8 @@ fn low_digits<L: Logic>(
 ) -> Result<(Word<L::Bit>, u32), NoMemory>
     ensures owned { IfOk result (λ r. OwnsAll L.owns g.now r.0) }
     ensures width { IfOk result (λ r. length r.0 ≡ width) }
-    ensures value { IfOk result (λ r. (vs : List Bool) → nat_read L.reads g.now vs r.0 + 2 ^ width * r.1 ≡ number) }
+    ensures value { IfOk result (λ r. (vs : List Bool) →
+        nat_read L.reads g.now vs r.0 + 2 ^ width * r.1 ≡ number) }
 {
     let mut word = Word::new(alloc);
     let mut rest = number;
@@ -66,11 +62,11 @@ pub fn number_word<L: Logic>(
     width: usize,
 ) -> Result<Checked<L::Bit>, NoMemory>
     requires some { 0 < width }
-    ensures owned { IfOk result (λ r. OwnsAll L.owns g.now r.word) }
-    ensures owned_over { IfOk result (λ r. L.owns g.now r.over) }
-    ensures width { IfOk result (λ r. length r.word ≡ width) }
-    ensures over { IfOk result (λ r. (vs : List Bool) → OverflowsAs (L.reads g.now vs r.over) width number) }
-    ensures value { IfOk result (λ r. (vs : List Bool) → Holds (int_read L.reads g.now vs r.word) width number) }
+    ensures made { IfOk result (λ r. IsCheckedIn L.owns g.now width r.word r.over) }
+    ensures over { IfOk result (λ r. (vs : List Bool) →
+        OverflowsAs (L.reads g.now vs r.over) width number) }
+    ensures value { IfOk result (λ r. (vs : List Bool) →
+        Holds (int_read L.reads g.now vs r.word) width number) }
 {
     let size = folded_size(number);
     let (mut word, rest) = low_digits(alloc, g, size, width - 1)?;

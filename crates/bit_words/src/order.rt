@@ -16,7 +16,9 @@ pub fn equal_bits<L: Logic>(g: &mut L, a: &[L::Bit], b: &[L::Bit]) -> Result<L::
     requires right { OwnsAll L.owns g.old b.now }
     ensures extends { Extends L.owns L.reads L.count g.old g.new }
     ensures owned { IfOk result (λ r. L.owns g.new r) }
-    ensures value { IfOk result (λ r. (vs : List Bool) → L.reads g.new vs r ≡ nat_eq (nat_read L.reads g.old vs a.now) (nat_read L.reads g.old vs b.now)) }
+    ensures value { IfOk result (λ r. (vs : List Bool) →
+        L.reads g.new vs r ≡ nat_eq (nat_read L.reads g.old vs a.now)
+        (nat_read L.reads g.old vs b.now)) }
 {
     let mut alike = g.constant(true);
     for i in 0..a.len() {
@@ -37,7 +39,9 @@ pub fn less_bits<L: Logic>(g: &mut L, a: &[L::Bit], b: &[L::Bit]) -> Result<L::B
     requires right { OwnsAll L.owns g.old b.now }
     ensures extends { Extends L.owns L.reads L.count g.old g.new }
     ensures owned { IfOk result (λ r. L.owns g.new r) }
-    ensures value { IfOk result (λ r. (vs : List Bool) → L.reads g.new vs r ≡ nat_lt (nat_read L.reads g.old vs a.now) (nat_read L.reads g.old vs b.now)) }
+    ensures value { IfOk result (λ r. (vs : List Bool) →
+        L.reads g.new vs r ≡ nat_lt (nat_read L.reads g.old vs a.now)
+        (nat_read L.reads g.old vs b.now)) }
 {
     let mut below = g.constant(false);
     for i in 0..a.len() {
@@ -54,7 +58,8 @@ pub fn equal_number<L: Logic>(g: &mut L, a: &[L::Bit], number: u32) -> Result<L:
     requires { OwnsAll L.owns g.old a.now }
     ensures extends { Extends L.owns L.reads L.count g.old g.new }
     ensures owned { IfOk result (λ r. L.owns g.new r) }
-    ensures value { IfOk result (λ r. (vs : List Bool) → L.reads g.new vs r ≡ nat_eq (nat_read L.reads g.old vs a.now) number) }
+    ensures value { IfOk result (λ r. (vs : List Bool) →
+        L.reads g.new vs r ≡ nat_eq (nat_read L.reads g.old vs a.now) number) }
 {
     let mut alike = g.constant(true);
     let mut rest = number;
@@ -78,7 +83,8 @@ pub fn less_number<L: Logic>(g: &mut L, a: &[L::Bit], number: u32) -> Result<L::
     requires { OwnsAll L.owns g.old a.now }
     ensures extends { Extends L.owns L.reads L.count g.old g.new }
     ensures owned { IfOk result (λ r. L.owns g.new r) }
-    ensures value { IfOk result (λ r. (vs : List Bool) → L.reads g.new vs r ≡ nat_lt (nat_read L.reads g.old vs a.now) number) }
+    ensures value { IfOk result (λ r. (vs : List Bool) →
+        L.reads g.new vs r ≡ nat_lt (nat_read L.reads g.old vs a.now) number) }
 {
     let mut below = g.constant(false);
     let mut rest = number;

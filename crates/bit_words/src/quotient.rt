@@ -1,10 +1,10 @@
 //! Floor division and its remainder.
 
-ghost use Rattle.std.specs.Prelude.{◌≡◌, ◌≢◌, ◌+◌, ◌-◌, ◌*◌, ◌/◌, ◌^◌, ◌<◌, ◌≤◌, ℕ, pos, Bool, true, false, List, nat_eq, length, IfOk, not};
-ghost use Rattle.std.specs.Ordering.{int_eq};
+ghost use Rattle.std.specs.Prelude.{◌≡◌, ◌+◌, ◌-◌, ◌/◌, ◌^◌, ◌<◌, ◌≤◌, Bool, true, false, List};
+ghost use Rattle.std.specs.Prelude.{nat_eq, length, IfOk, not};
 ghost use Rattle.bit_words.specs.Logic.{Extends, OwnsAll};
-ghost use Rattle.bit_words.specs.Words.{bit_value, int_read, nat_read, Holds, OverflowsAs};
-ghost use Rattle.bit_words.specs.Operations.{IsDivided, floor_quotient, floor_remainder};
+ghost use Rattle.bit_words.specs.Words.{bit_value, nat_read};
+ghost use Rattle.bit_words.specs.Operations.{IsDivided};
 
 use crate::NoMemory;
 use crate::bitwise::{choose_word, flip, zeros};
@@ -21,7 +21,8 @@ pub fn is_zero<L: Logic>(alloc: Global, g: &mut L, b: &Word<L::Bit>) -> Result<L
     requires word { OwnsAll L.owns g.old b.now }
     ensures extends { Extends L.owns L.reads L.count g.old g.new }
     ensures owned { IfOk result (λ r. L.owns g.new r) }
-    ensures value { IfOk result (λ r. (vs : List Bool) → L.reads g.new vs r ≡ nat_eq (nat_read L.reads g.old vs b.now) 0) }
+    ensures value { IfOk result (λ r. (vs : List Bool) →
+        L.reads g.new vs r ≡ nat_eq (nat_read L.reads g.old vs b.now) 0) }
 {
     let width = b.len();
     let nothing = zeros(alloc, g, width)?;
@@ -53,8 +54,15 @@ fn divide_digit<L: Logic>(
     ensures owned { IfOk result (λ r. OwnsAll L.owns g.new r.0) }
     ensures owned_digit { IfOk result (λ r. L.owns g.new r.1) }
     ensures width { IfOk result (λ r. length r.0 ≡ length b.now) }
-    ensures none { IfOk result (λ r. (vs : List Bool) → L.reads g.old vs some ≡ false → L.reads g.new vs r.1 ≡ false) }
-    ensures value { IfOk result (λ r. (vs : List Bool) → L.reads g.old vs some ≡ true → nat_read L.reads g.old vs b.now ≤ 2 ^ (length b.now - 1) → nat_read L.reads g.old vs rest.now < nat_read L.reads g.old vs b.now → IsDivided (bit_value (L.reads g.old vs digit) + (nat_read L.reads g.old vs rest.now + nat_read L.reads g.old vs rest.now)) (nat_read L.reads g.old vs b.now) (bit_value (L.reads g.new vs r.1)) (nat_read L.reads g.new vs r.0)) }
+    ensures none { IfOk result (λ r. (vs : List Bool) → L.reads g.old vs some ≡ false
+        → L.reads g.new vs r.1 ≡ false) }
+    ensures value { IfOk result (λ r. (vs : List Bool) → L.reads g.old vs some ≡ true
+        → nat_read L.reads g.old vs b.now ≤ 2 ^ (length b.now - 1)
+        → nat_read L.reads g.old vs rest.now < nat_read L.reads g.old vs b.now
+        → IsDivided (bit_value (L.reads g.old vs digit)
+        + (nat_read L.reads g.old vs rest.now + nat_read L.reads g.old vs rest.now))
+        (nat_read L.reads g.old vs b.now) (bit_value (L.reads g.new vs r.1))
+        (nat_read L.reads g.new vs r.0)) }
 {
     let width = b.len();
     let mut shifted = rest.low_bits(width - 1)?;
@@ -86,8 +94,12 @@ pub fn divide<L: Logic>(
     ensures owned_rest { IfOk result (λ r. OwnsAll L.owns g.new r.1) }
     ensures width { IfOk result (λ r. length r.0 ≡ length a.now) }
     ensures width_rest { IfOk result (λ r. length r.1 ≡ length a.now) }
-    ensures quotient { IfOk result (λ r. (vs : List Bool) → nat_read L.reads g.new vs r.0 ≡ nat_read L.reads g.old vs a.now / nat_read L.reads g.old vs b.now) }
-    ensures rest { IfOk result (λ r. (vs : List Bool) → 0 < nat_read L.reads g.old vs b.now → IsDivided (nat_read L.reads g.old vs a.now) (nat_read L.reads g.old vs b.now) (nat_read L.reads g.new vs r.0) (nat_read L.reads g.new vs r.1)) }
+    ensures quotient { IfOk result (λ r. (vs : List Bool) →
+        nat_read L.reads g.new vs r.0
+        ≡ nat_read L.reads g.old vs a.now / nat_read L.reads g.old vs b.now) }
+    ensures rest { IfOk result (λ r. (vs : List Bool) → 0 < nat_read L.reads g.old vs b.now
+        → IsDivided (nat_read L.reads g.old vs a.now) (nat_read L.reads g.old vs b.now)
+        (nat_read L.reads g.new vs r.0) (nat_read L.reads g.new vs r.1)) }
 {
     let width = a.len();
     let none = is_zero(alloc, g, b)?;

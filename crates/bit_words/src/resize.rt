@@ -2,14 +2,15 @@
 
 ghost use Rattle.std.specs.Prelude.{◌≡◌, ◌+◌, ◌<◌, pos, Bool, List, length, IfOk};
 ghost use Rattle.bit_words.specs.Logic.{Extends, OwnsAll};
+ghost use Rattle.bit_words.specs.Results.{IsCheckedIn, IsWordIn};
 ghost use Rattle.bit_words.specs.Words.{int_read, nat_read, Holds, OverflowsAs};
 
 use crate::NoMemory;
+use crate::checked::Checked;
 use crate::gates::or;
 use crate::logic::Logic;
 use crate::magnitude::sign_of;
 use crate::narrow::narrow;
-use crate::number::Checked;
 use crate::word::Word;
 use std::alloc::Global;
 
@@ -18,9 +19,9 @@ use std::alloc::Global;
 fn widen<L: Logic>(g: &L, word: &Word<L::Bit>, more: usize) -> Result<Word<L::Bit>, NoMemory>
     requires some { 0 < length word.now }
     requires owned { OwnsAll L.owns g.now word.now }
-    ensures owned { IfOk result (λ r. OwnsAll L.owns g.now r) }
-    ensures width { IfOk result (λ r. length r ≡ length word.now + more) }
-    ensures value { IfOk result (λ r. (vs : List Bool) → int_read L.reads g.now vs r ≡ int_read L.reads g.now vs word.now) }
+    ensures made { IfOk result (λ r. IsWordIn L.owns g.now (length word.now + more) r) }
+    ensures value { IfOk result (λ r. (vs : List Bool) →
+        int_read L.reads g.now vs r ≡ int_read L.reads g.now vs word.now) }
 {
     let sign = sign_of(g, word);
     let mut wide = word.copy()?;
@@ -43,16 +44,20 @@ fn shrink<L: Logic>(
     ensures owned { IfOk result (λ r. OwnsAll L.owns g.new r.word) }
     ensures owned_over { IfOk result (λ r. L.owns g.new r.over) }
     ensures width { IfOk result (λ r. length r.word + less ≡ length word.now) }
-    ensures over { IfOk result (λ r. (vs : List Bool) → OverflowsAs (L.reads g.new vs r.over) (length r.word) (int_read L.reads g.old vs word.now)) }
-    ensures value { IfOk result (λ r. (vs : List Bool) → Holds (int_read L.reads g.new vs r.word) (length r.word) (int_read L.reads g.old vs word.now)) }
+    ensures over { IfOk result (λ r. (vs : List Bool) →
+        OverflowsAs (L.reads g.new vs r.over) (length r.word)
+        (int_read L.reads g.old vs word.now)) }
+    ensures value { IfOk result (λ r. (vs : List Bool) →
+        Holds (int_read L.reads g.new vs r.word) (length r.word)
+        (int_read L.reads g.old vs word.now)) }
 {
     let mut number = word.copy()?;
     let mut over = g.constant(false);
     for _ in 0..less {
         let width = number.len() - 1;
-        let (low, left) = narrow(g, &number, width)?;
-        over = or(g, over, left)?;
-        number = low;
+        let low = narrow(g, &number, width)?;
+        over = or(g, over, low.over)?;
+        number = low.word;
     }
     Ok(Checked { word: number, over })
 }
@@ -68,11 +73,11 @@ pub fn resize<L: Logic>(
     requires wide { 0 < width }
     requires owned { OwnsAll L.owns g.old word.now }
     ensures extends { Extends L.owns L.reads L.count g.old g.new }
-    ensures owned { IfOk result (λ r. OwnsAll L.owns g.new r.word) }
-    ensures owned_over { IfOk result (λ r. L.owns g.new r.over) }
-    ensures width { IfOk result (λ r. length r.word ≡ width) }
-    ensures over { IfOk result (λ r. (vs : List Bool) → OverflowsAs (L.reads g.new vs r.over) width (int_read L.reads g.old vs word.now)) }
-    ensures value { IfOk result (λ r. (vs : List Bool) → Holds (int_read L.reads g.new vs r.word) width (int_read L.reads g.old vs word.now)) }
+    ensures made { IfOk result (λ r. IsCheckedIn L.owns g.new width r.word r.over) }
+    ensures over { IfOk result (λ r. (vs : List Bool) →
+        OverflowsAs (L.reads g.new vs r.over) width (int_read L.reads g.old vs word.now)) }
+    ensures value { IfOk result (λ r. (vs : List Bool) →
+        Holds (int_read L.reads g.new vs r.word) width (int_read L.reads g.old vs word.now)) }
 {
     let length = word.len();
     if width < length {
@@ -95,11 +100,11 @@ pub fn signed_word<L: Logic>(
     requires wide { 0 < width }
     requires owned { OwnsAll L.owns g.old bits.now }
     ensures extends { Extends L.owns L.reads L.count g.old g.new }
-    ensures owned { IfOk result (λ r. OwnsAll L.owns g.new r.word) }
-    ensures owned_over { IfOk result (λ r. L.owns g.new r.over) }
-    ensures width { IfOk result (λ r. length r.word ≡ width) }
-    ensures over { IfOk result (λ r. (vs : List Bool) → OverflowsAs (L.reads g.new vs r.over) width (pos (nat_read L.reads g.old vs bits.now))) }
-    ensures value { IfOk result (λ r. (vs : List Bool) → Holds (int_read L.reads g.new vs r.word) width (pos (nat_read L.reads g.old vs bits.now))) }
+    ensures made { IfOk result (λ r. IsCheckedIn L.owns g.new width r.word r.over) }
+    ensures over { IfOk result (λ r. (vs : List Bool) →
+        OverflowsAs (L.reads g.new vs r.over) width (pos (nat_read L.reads g.old vs bits.now))) }
+    ensures value { IfOk result (λ r. (vs : List Bool) →
+        Holds (int_read L.reads g.new vs r.word) width (pos (nat_read L.reads g.old vs bits.now))) }
 {
     let sign = g.constant(false);
     let mut word = Word::from_vec(Vec::from_slice(alloc, bits)?);

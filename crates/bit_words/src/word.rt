@@ -1,6 +1,7 @@
 //! A word: a list of bits, the lowest first.
 
-ghost use Rattle.std.specs.Prelude.{◌≡◌, ◌<◌, ◌≤◌, List, [], ◌∷◌, ◌++◌, length, take, Some, OnOk, OnErr, IfOk, slice_get};
+ghost use Rattle.std.specs.Prelude.{◌≡◌, ◌<◌, ◌≤◌, List, [], ◌∷◌, ◌++◌, length, take, Some, OnOk};
+ghost use Rattle.std.specs.Prelude.{OnErr, IfOk, slice_get};
 
 use crate::NoMemory;
 use std::alloc::Global;

@@ -1,4 +1,5 @@
--- When a clause follows by hints: unit propagation from its negation, as RUP steps with hints in the LRAT format.
+-- When a clause follows by hints: unit propagation from its negation, as RUP steps with hints in
+-- the LRAT format.
 use Rattle.std.specs.Prelude.{ℕ, ◌+◌, ◌-◌, Bool, not, List, [], ◌∷◌, map, filter, slice_get}
 use Rattle.std.specs.Option.{option_map_or}
 use Rattle.std.specs.List.{list_any}
@@ -24,7 +25,8 @@ by_open (l ∷ m ∷ ls) place next = NotUnit place
 -- what the hinted clauses give in turn, from the literals that are true and the place of the first
 abbrev pub follow : List Lit → ℕ → List (List Lit) → StepAnswer
 follow known place [] = NoEnd
-follow known place (c ∷ rest) = by_open (open_literals known c) place (λ l. follow (l ∷ known) (place + 1) rest)
+follow known place (c ∷ rest) = by_open (open_literals known c) place
+    (λ l. follow (l ∷ known) (place + 1) rest)
 
 -- the literals of the clause are taken as false
 abbrev pub answer_of : List Lit → List (List Lit) → StepAnswer

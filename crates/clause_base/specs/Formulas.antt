@@ -1,5 +1,6 @@
 -- Formulas: conjunctions of clauses.
-use Rattle.std.specs.Prelude.{◌≡◌, ℕ, ◌-◌, ◌==◌, ◌<◌, ◌≤◌, Bool, true, false, ◌&&◌, List, length, nat_le, nat_lt, All, slice_get, Some}
+use Rattle.std.specs.Prelude.{◌≡◌, ℕ, ◌-◌, ◌==◌, ◌<◌, ◌≤◌, Bool, true, false, ◌&&◌, List, length}
+use Rattle.std.specs.Prelude.{nat_le, nat_lt, All, slice_get, Some}
 use Rattle.std.specs.List.{list_any, list_all}
 use Rattle.clause_base.specs.declared.lit.Lit.{Lit}
 use Rattle.clause_base.specs.declared.clause.Clause.{Clause}
@@ -24,4 +25,5 @@ pub record IsForcing (v : ℕ) (values : List Bool) (clause : Clause) : Type 0 w
 -- the values of the first d variables decide each of the others in turn
 pub record IsLedBy (d vars : ℕ) (clauses : List Clause) : Type 0 where
   pub forced : (v : ℕ) → d < v → v ≤ vars → (values : List Bool) → length values ≡ v - 1
-      → (k : ℕ) × (clause : Clause) × (slice_get clauses k ≡ Some clause) × IsForcing v values clause
+      → (k : ℕ) × (clause : Clause) × (slice_get clauses k ≡ Some clause)
+      × IsForcing v values clause

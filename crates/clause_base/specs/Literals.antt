@@ -1,5 +1,6 @@
 -- What literals and clauses say under truth values of the variables.
-use Rattle.std.specs.Prelude.{◌≡◌, ◌⊎◌, ℕ, ◌-◌, ◌==◌, ◌<◌, ◌≤◌, Bool, true, false, not, ◌&&◌, List, [], ◌∷◌, slice_index_or, if◌then◌else◌, All}
+use Rattle.std.specs.Prelude.{◌≡◌, ◌⊎◌, ℕ, ◌-◌, ◌==◌, ◌<◌, ◌≤◌, Bool, true, false, not, ◌&&◌, List}
+use Rattle.std.specs.Prelude.{[], ◌∷◌, slice_index_or, if◌then◌else◌, All}
 use Rattle.std.specs.Bool.{beq}
 use Rattle.std.specs.List.{list_any}
 use Rattle.clause_base.specs.declared.lit.Lit.{Lit}
@@ -23,7 +24,8 @@ clause_true values lits = list_any (literal_true values) lits
 
 abbrev pub has_no_variable_twice : List Lit → Bool
 has_no_variable_twice [] = true
-has_no_variable_twice (l ∷ lits) = not (list_any (λ k. k.var == l.var) lits) && has_no_variable_twice lits
+has_no_variable_twice (l ∷ lits) = not (list_any (λ k. k.var == l.var) lits)
+    && has_no_variable_twice lits
 
 -- each variable is one of the first so many
 pub record IsCovered (vars : ℕ) (lits : List Lit) : Type 0 where

@@ -41,4 +41,5 @@ FollowsPushed = (vars : ℕ) (clauses : List Clause) (steps : List Step) (s : St
 
 abbrev pub FreshPushed : Type 0
 FreshPushed = (clauses : List Clause) (steps : List Step) (s : Step)
-    → IsFresh clauses (steps ++ s ∷ []) ↔ (IsFresh clauses steps × IsNew (known_of clauses steps) s.clause)
+    → IsFresh clauses (steps ++ s ∷ [])
+    ↔ (IsFresh clauses steps × IsNew (known_of clauses steps) s.clause)

@@ -8,7 +8,8 @@ use Rattle.clause_base.specs.declared.solved.Solved.TheVariants.{Holds, Refuted,
 use Rattle.clause_base.specs.Formulas.{satisfies}
 use Rattle.clause_base.specs.Logs.{LogFollows, Refutes}
 
--- the steps follow from the formula, and are at most so many; the numbers of clauses keep their limit
+-- the steps follow from the formula, and are at most so many; the numbers of clauses keep their
+-- limit
 pub record IsLog (vars : ℕ) (clauses : List Clause) (budget : ℕ) (steps : List Step) : Type 0 where
   pub follows : LogFollows vars clauses steps
   pub within : length steps ≤ budget

@@ -1,6 +1,7 @@
 //! Formulas: lists of clauses.
 
-ghost use Rattle.std.specs.Prelude.{◌≡◌, ◌↔◌, true, ◌<◌, [], ◌∷◌, ◌++◌, OnOk, OnErr, IfOk, IfSome, IsSome, IsTrue, length, slice_get, Some};
+ghost use Rattle.std.specs.Prelude.{◌≡◌, ◌↔◌, true, ◌<◌, [], ◌∷◌, ◌++◌, OnOk, OnErr, IfOk, IfSome};
+ghost use Rattle.std.specs.Prelude.{IsSome, IsTrue, length, slice_get, Some};
 ghost use Rattle.clause_base.specs.Formulas.{clauses_in_range};
 
 use crate::NoMemory;

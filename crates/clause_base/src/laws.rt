@@ -1,6 +1,7 @@
 //! Laws of logs, over the definitions.
 
-ghost use Rattle.clause_base.specs.LogLaws.{FollowsByPlace, FollowsPushed, FreshByPlace, FreshPushed, KnownByPlace, KnownCounted, KnownPushed};
+ghost use Rattle.clause_base.specs.LogLaws.{FollowsByPlace, FollowsPushed, FreshByPlace};
+ghost use Rattle.clause_base.specs.LogLaws.{FreshPushed, KnownByPlace, KnownCounted, KnownPushed};
 
 /// A law over the definitions: what is known after some steps are the clauses of the formula and
 /// then those of the steps, each in its place.

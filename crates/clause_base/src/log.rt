@@ -1,6 +1,7 @@
 //! Logs: clauses, each with the hints by which it follows from those before it.
 
-ghost use Rattle.std.specs.Prelude.{◌≡◌, ◌<◌, [], ◌∷◌, ◌++◌, OnOk, OnErr, IfOk, length, slice_get, Some, IsTrue, ◌↔◌};
+ghost use Rattle.std.specs.Prelude.{◌≡◌, ◌<◌, [], ◌∷◌, ◌++◌, OnOk, OnErr, IfOk, length, slice_get};
+ghost use Rattle.std.specs.Prelude.{Some, IsTrue, ◌↔◌};
 ghost use Rattle.clause_base.specs.Logs.{Refutes};
 
 use crate::NoMemory;

@@ -1,6 +1,7 @@
 //! Truth values, one for each variable.
 
-ghost use Rattle.std.specs.Prelude.{◌≡◌, ◌<◌, ◌≤◌, [], ◌∷◌, ◌++◌, OnOk, OnErr, IfOk, length, slice_get, Some};
+ghost use Rattle.std.specs.Prelude.{◌≡◌, ◌<◌, ◌≤◌, [], ◌∷◌, ◌++◌, OnOk, OnErr, IfOk, length};
+ghost use Rattle.std.specs.Prelude.{slice_get, Some};
 ghost use Rattle.clause_base.specs.Literals.{clause_true, literal_true, IsCovered};
 
 use crate::NoMemory;

@@ -10,7 +10,7 @@ use Rattle.bit_graph.specs.declared.gate.Source.TheVariants.{Constant, Variable,
 use Rattle.bit_graph.specs.declared.gate.GraphBit.{GraphBit}
 use Rattle.bit_graph.specs.declared.gate.Gate.{Gate}
 use Rattle.bit_graph.specs.Gates.{Gates, Owns, AreGates, IsBelow, source_reads, bit_reads, gate_reads, values_after, reading}
-use Rattle.bit_graph.proofs.Growth.{made_reads, length-values_after}
+use Rattle.bit_graph.specs.Values.{made_reads, length-values_after}
 use Rattle.clause_base.specs.declared.lit.Lit.{Lit}
 use Rattle.clause_base.specs.Literals.{value_of, literal_true, clause_true}
 use Rattle.cnf_build.specs.Gates.{number_of, literal_of, opposite_of, gate_clauses, clauses_from, formula_of}

@@ -13,7 +13,7 @@ use Rattle.std.proofs.lemmas.List.Elements.{All-nil, All-cons}
 use Rattle.clause_base.specs.Formulas.{in_range, clauses_in_range, satisfies}
 use Rattle.clause_base.specs.Literals.{clause_true}
 use Rattle.cnf_build.specs.Gates.{number_of, literal_of, opposite_of, gate_clauses, clauses_from, formula_of, literals, AreValues, IsEncoding, States}
-use Rattle.bit_graph.proofs.Growth.{length-values_after}
+use Rattle.bit_graph.specs.Values.{length-values_after}
 use Rattle.cnf_build.proofs.Meaning.{values_of, all_append, formula_from, formula_to}
 
 pub clauses_push : (n at : ℕ) (xs : List Gate) (x : Gate) → clauses_from n at (xs ++ x ∷ []) ≡ clauses_from n at xs ++ gate_clauses n (at + length xs) x

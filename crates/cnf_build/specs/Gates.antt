@@ -1,5 +1,6 @@
 -- The formula of a graph and a goal.
-use Rattle.std.specs.Prelude.{◌≡◌, ◌↔◌, ℕ, ◌+◌, Bool, true, false, List, [], ◌∷◌, ◌++◌, length, map, take, drop}
+use Rattle.std.specs.Prelude.{◌≡◌, ◌↔◌, ℕ, ◌+◌, Bool, true, false, List, [], ◌∷◌, ◌++◌, length, map}
+use Rattle.std.specs.Prelude.{take, drop}
 use Rattle.bit_graph.specs.declared.gate.Source.{Source}
 use Rattle.bit_graph.specs.declared.gate.Source.TheVariants.{Constant, Variable, Made}
 use Rattle.bit_graph.specs.declared.gate.GraphBit.{GraphBit}
@@ -17,17 +18,20 @@ number_of variables (Variable i) = i + 2
 number_of variables (Made k) = k + (variables + 2)
 
 abbrev pub literal_of : ℕ → GraphBit → Lit
-literal_of variables b = record { var = number_of variables (source_of b); positive = is_positive_bit b }
+literal_of variables b =
+    record { var = number_of variables (source_of b); positive = is_positive_bit b }
 
 abbrev pub opposite_of : ℕ → GraphBit → Lit
 opposite_of variables b = opposite (literal_of variables b)
 
--- the clauses of the gate at a place, which say that it is true where both its parts are (Tseitin's encoding)
+-- the clauses of the gate at a place, which say that it is true where both its parts are (Tseitin's
+-- encoding)
 abbrev pub gate_clauses : ℕ → ℕ → Gate → List (List Lit)
 gate_clauses variables k x =
     (record { var = k + (variables + 2); positive = false } ∷ literal_of variables x.left ∷ [])
     ∷ (record { var = k + (variables + 2); positive = false } ∷ literal_of variables x.right ∷ [])
-    ∷ (record { var = k + (variables + 2); positive = true } ∷ opposite_of variables x.left ∷ opposite_of variables x.right ∷ [])
+    ∷ (record { var = k + (variables + 2); positive = true } ∷ opposite_of variables x.left
+    ∷ opposite_of variables x.right ∷ [])
     ∷ []
 
 abbrev pub clauses_from : ℕ → ℕ → List Gate → List (List Lit)
@@ -36,7 +40,8 @@ clauses_from variables k (x ∷ xs) = gate_clauses variables k x ++ clauses_from
 
 -- variable 1, the gates in order, and the goal
 abbrev pub formula_of : Gates → GraphBit → List (List Lit)
-formula_of g goal = (record { var = 1; positive = true } ∷ []) ∷ (clauses_from g.variables 0 g.gates ++ (literal_of g.variables goal ∷ []) ∷ [])
+formula_of g goal = (record { var = 1; positive = true } ∷ [])
+    ∷ (clauses_from g.variables 0 g.gates ++ (literal_of g.variables goal ∷ []) ∷ [])
 
 -- true, values of the variables, and those of the gates, under which the goal reads true
 pub record AreValues (g : Gates) (goal : GraphBit) (values : List Bool) : Type 0 where
@@ -48,7 +53,8 @@ pub record AreValues (g : Gates) (goal : GraphBit) (values : List Bool) : Type 0
 abbrev pub literals : List Clause → List (List Lit)
 literals clauses = map (λ c. c.lits) clauses
 
--- the values that satisfy the clauses are those of the variables and gates under which the goal reads true
+-- the values that satisfy the clauses are those of the variables and gates under which the goal
+-- reads true
 abbrev pub IsEncoding : Gates → GraphBit → ℕ → List Clause → Type 0
 IsEncoding g goal vars clauses = (values : List Bool) → length values ≡ vars
     → (satisfies values clauses ≡ true) ↔ AreValues g goal values
@@ -60,7 +66,8 @@ pub record Extend (inputs : List Bool) (vars : ℕ) (clauses : List Clause) : Ty
   pub begins : take (length inputs) (drop 1 values) ≡ inputs
   pub satisfied : satisfies values clauses ≡ true
 
--- values of the graph's variables extend to ones that satisfy the formula exactly where the goal reads true
+-- values of the graph's variables extend to ones that satisfy the formula exactly where the goal
+-- reads true
 abbrev pub States : Gates → GraphBit → ℕ → List Clause → Type 0
 States g goal vars clauses = (inputs : List Bool) → length inputs ≡ g.variables
     → Extend inputs vars clauses ↔ (reading g inputs goal ≡ true)

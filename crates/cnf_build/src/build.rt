@@ -1,9 +1,11 @@
 //! The formula of a graph and a goal.
 
-ghost use Rattle.std.specs.Prelude.{◌≡◌, ◌≢◌, ◌+◌, ◌*◌, ◌<◌, ◌≤◌, All, [], ◌∷◌, ◌++◌, OnOk, IfOk, length};
+ghost use Rattle.std.specs.Prelude.{◌≡◌, ◌≢◌, ◌+◌, ◌*◌, ◌<◌, ◌≤◌, All, [], ◌∷◌, ◌++◌, OnOk, IfOk};
+ghost use Rattle.std.specs.Prelude.{length};
 ghost use Rattle.bit_graph.specs.Gates.{IsBelow, IsGateAt, Owns, source_of};
 ghost use Rattle.clause_base.specs.Formulas.{IsLedBy};
-ghost use Rattle.cnf_build.specs.Gates.{IsEncoding, States, formula_of, gate_clauses, literal_of, literals};
+ghost use Rattle.cnf_build.specs.Gates.{IsEncoding, States, formula_of, gate_clauses, literal_of};
+ghost use Rattle.cnf_build.specs.Gates.{literals};
 
 use bit_graph::gate::{Gate, GraphBit, Source};
 use bit_graph::graph::Graph;
@@ -79,7 +81,8 @@ fn push_gate(
 ) -> Result<(), NoMemory>
     requires room { k + (variables + 2) ≤ 2147483647 }
     requires gate { IsGateAt variables k gate }
-    ensures { OnOk result (literals clauses.new ≡ literals clauses.old ++ gate_clauses variables k gate) }
+    ensures { OnOk result
+        (literals clauses.new ≡ literals clauses.old ++ gate_clauses variables k gate) }
 {
     let var = k + (variables + 2);
     let left = literal(variables, k, gate.left);

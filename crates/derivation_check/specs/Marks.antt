@@ -1,5 +1,6 @@
 -- What marks of variables say of literals.
-use Rattle.std.specs.Prelude.{◌≡◌, ℕ, ◌-◌, ◌==◌, ◌<◌, ◌≤◌, Bool, false, ◌&&◌, List, [], ◌∷◌, slice_index_or, slice_get, Some, All, length}
+use Rattle.std.specs.Prelude.{◌≡◌, ℕ, ◌-◌, ◌==◌, ◌<◌, ◌≤◌, Bool, false, ◌&&◌, List, [], ◌∷◌}
+use Rattle.std.specs.Prelude.{slice_index_or, slice_get, Some, All, length}
 use Rattle.std.specs.Bool.{beq}
 use Rattle.clause_base.specs.declared.lit.Lit.{Lit}
 use Rattle.std.specs.List.{list_any}
@@ -14,7 +15,8 @@ mark_at marks var = slice_index_or marks (var - 1) (record { stamp = 0; positive
 
 -- a literal is true where its variable has this mark and this sign
 abbrev pub mark_true : List Mark → ℕ → Lit → Bool
-mark_true marks stamp l = ((mark_at marks l.var).stamp == stamp) && beq (mark_at marks l.var).positive l.positive
+mark_true marks stamp l = ((mark_at marks l.var).stamp == stamp)
+    && beq (mark_at marks l.var).positive l.positive
 
 -- the variables are from 1 to so many
 abbrev pub Covers : ℕ → List Lit → Type 0
@@ -35,4 +37,5 @@ pub record ClausesCovered (vars : ℕ) (clauses : List Clause) : Type 0 where
 
 -- the marks of a step are those of the literals that are true
 pub record Agrees (marks : List Mark) (stamp : ℕ) (known : List Lit) : Type 0 where
-  pub each : (l : Lit) → 0 < l.var → l.var ≤ length marks → mark_true marks stamp l ≡ list_any (same_literal l) known
+  pub each : (l : Lit) → 0 < l.var → l.var ≤ length marks
+      → mark_true marks stamp l ≡ list_any (same_literal l) known

@@ -51,7 +51,7 @@ impl Checker {
     /// Whether a clause follows from known clauses by hints, which are numbers of known clauses
     /// from 1 on. Takes no memory, and the time of looking once at the literals of the clause and
     /// of the hinted clauses.
-    #[tactic(auto, using(crate::proofs::Ranges::clauses_covered, crate::proofs::Ranges::covers_in_range))]
+    #[tactic(auto, using(crate::proofs::Ranges::all_covered, crate::proofs::Ranges::covers_range))]
     pub fn step(&mut self, known: &Clauses, clause: &Clause, hints: &Hints) -> StepAnswer
         requires known { clauses_in_range self.old known.now ≡ true }
         requires covered { list_all (in_range self.old) clause.now.lits ≡ true }

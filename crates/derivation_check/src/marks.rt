@@ -1,9 +1,11 @@
 //! Which literals are true in a step: those whose variable the step has marked with their sign.
 
-ghost use Rattle.std.specs.Prelude.{◌≡◌, ◌<◌, ◌≤◌, ◌+◌, ◌-◌, true, not, List, length, map, filter, slice_set, All};
+ghost use Rattle.std.specs.Prelude.{◌≡◌, ◌<◌, ◌≤◌, ◌+◌, ◌-◌, true, not, List, length, map, filter};
+ghost use Rattle.std.specs.Prelude.{slice_set, All};
 ghost use Rattle.clause_base.specs.declared.lit.Lit.{Lit};
 ghost use Rattle.clause_base.specs.Literals.{has_no_variable_twice, opposite};
-ghost use Rattle.derivation_check.specs.Marks.{mark_true, Agrees, AllBefore, ClausesCovered, Covers, scan_of};
+ghost use Rattle.derivation_check.specs.Marks.{mark_true, Agrees, AllBefore, ClausesCovered};
+ghost use Rattle.derivation_check.specs.Marks.{Covers, scan_of};
 ghost use Rattle.clause_base.specs.Follows.{follow, hinted};
 
 use clause_base::answer::StepAnswer;
@@ -38,7 +40,8 @@ pub fn is_false(marks: &[Mark], stamp: u64, lit: Lit) -> bool
 pub fn set_true(marks: &mut [Mark], stamp: u64, lit: Lit)
     requires some { 0 < lit.var }
     requires within { lit.var ≤ length marks.old }
-    ensures { marks.new ≡ slice_set marks.old (lit.var - 1) (record { stamp = stamp; positive = lit.positive }) }
+    ensures { marks.new ≡ slice_set marks.old (lit.var - 1)
+        (record { stamp = stamp; positive = lit.positive }) }
 {
     marks[lit.var as usize - 1] = Mark {
         stamp,
@@ -49,7 +52,8 @@ pub fn set_true(marks: &mut [Mark], stamp: u64, lit: Lit)
 /// Looks for literals that aren't false, up to the second.
 pub fn look_over(marks: &[Mark], stamp: u64, lits: &[Lit]) -> Scan
     requires { Covers (length marks.now) lits.now }
-    ensures { result ≡ scan_of (filter (λ l. not (mark_true marks.now stamp (opposite l))) lits.now) }
+    ensures { result ≡ scan_of
+        (filter (λ l. not (mark_true marks.now stamp (opposite l))) lits.now) }
 {
     let mut found: Option<Lit> = None;
     for lit in lits {
@@ -86,7 +90,8 @@ pub fn follow_hints(marks: &mut [Mark], stamp: u64, known: &Clauses, hints: &[u3
     requires few { length hints.now ≤ 2147483647 }
     requires named { All (λ h. (0 < h) × (h ≤ length known.now)) hints.now }
     requires upto { AllBefore (stamp + 1) marks.old }
-    ensures answer { (assumed : List Lit) → Agrees marks.old stamp assumed → result ≡ follow assumed 1 (hinted known.now hints.now) }
+    ensures answer { (assumed : List Lit) → Agrees marks.old stamp assumed
+        → result ≡ follow assumed 1 (hinted known.now hints.now) }
     ensures upto { AllBefore (stamp + 1) marks.new }
 {
     for (i, hint) in hints.iter().enumerate() {

@@ -28,7 +28,8 @@ fn both_in_turn<L: Logic>(g: &mut L, bits: &Bits<L::Bit>) -> Result<bool, NoMemo
     Ok(g.same(first, second))
 }
 
-/// The exclusive or of two bits, and of the one and the other's opposite: whether they are opposite.
+/// The exclusive or of two bits, and of the one and the other's opposite: whether the one bit is
+/// the other's opposite.
 #[tactic(auto, using(bit_words::proofs::Kept::steps))]
 fn differ_of_an_opposite<L: Logic>(g: &mut L, bits: &Bits<L::Bit>) -> Result<bool, NoMemory>
     requires two { length bits.now ≡ 2 }
@@ -124,7 +125,7 @@ fn add_narrow<L: Logic>(alloc: Global, g: &mut L, bits: &Bits<L::Bit>) -> Result
 {
     let a = word_of(alloc, g, bits, 0, 3, 16)?;
     let b = word_of(alloc, g, bits, 4, 7, 16)?;
-    let (_, _) = add(alloc, g, &a, &b)?;
+    let _ = add(alloc, g, &a, &b)?;
     Ok(())
 }
 
@@ -141,7 +142,7 @@ fn subtract<L: Logic>(
 {
     let a = word_of(alloc, g, bits, 0, 7, 8)?;
     let b = word_of(alloc, g, bits, 8, 15, 8)?;
-    let (_, _) = sub(alloc, g, &a, &b)?;
+    let _ = sub(alloc, g, &a, &b)?;
     if compared {
         let _ = equal(alloc, g, &a, &b)?;
     }

@@ -4,6 +4,7 @@ ghost use Rattle.std.specs.Prelude.{◌≡◌, ◌<◌, length, IfOk};
 ghost use Rattle.bit_words.specs.Logic.{OwnsAll};
 
 use bit_words::NoMemory;
+use bit_words::checked::{Checked, Partial};
 use bit_words::compare::{equal, less};
 use bit_words::floor::{floor, rem};
 use bit_words::logic::Logic;
@@ -71,7 +72,7 @@ pub(crate) fn sum_of<L: Logic>(
 {
     let a = word_of(alloc, g, x, width)?;
     let b = word_of(alloc, g, y, width)?;
-    let (word, over) = add(alloc, g, &a, &b)?;
+    let Checked { word, over } = add(alloc, g, &a, &b)?;
     Ok((number_of(g, &word), g.known(over), Some(false)))
 }
 
@@ -87,7 +88,7 @@ pub(crate) fn difference_of<L: Logic>(
 {
     let a = word_of(alloc, g, x, width)?;
     let b = word_of(alloc, g, y, width)?;
-    let (word, over) = sub(alloc, g, &a, &b)?;
+    let Checked { word, over } = sub(alloc, g, &a, &b)?;
     Ok((number_of(g, &word), g.known(over), Some(false)))
 }
 
@@ -101,7 +102,7 @@ pub(crate) fn opposite_of<L: Logic>(
     requires { 1 < width }
 {
     let a = word_of(alloc, g, x, width)?;
-    let (word, over) = neg(alloc, g, &a)?;
+    let Checked { word, over } = neg(alloc, g, &a)?;
     Ok((number_of(g, &word), g.known(over), Some(false)))
 }
 
@@ -117,7 +118,7 @@ pub(crate) fn product_of<L: Logic>(
 {
     let a = word_of(alloc, g, x, width)?;
     let b = word_of(alloc, g, y, width)?;
-    let (word, over) = mul(alloc, g, &a, &b)?;
+    let Checked { word, over } = mul(alloc, g, &a, &b)?;
     Ok((number_of(g, &word), g.known(over), Some(false)))
 }
 
@@ -133,7 +134,7 @@ pub(crate) fn quotient_of<L: Logic>(
 {
     let a = word_of(alloc, g, x, width)?;
     let b = word_of(alloc, g, y, width)?;
-    let (word, over, fault) = floor(alloc, g, &a, &b)?;
+    let Partial { word, over, fault } = floor(alloc, g, &a, &b)?;
     Ok((number_of(g, &word), g.known(over), g.known(fault)))
 }
 
@@ -149,7 +150,7 @@ pub(crate) fn remainder_of<L: Logic>(
 {
     let a = word_of(alloc, g, x, width)?;
     let b = word_of(alloc, g, y, width)?;
-    let (word, over, fault) = rem(alloc, g, &a, &b)?;
+    let Partial { word, over, fault } = rem(alloc, g, &a, &b)?;
     Ok((number_of(g, &word), g.known(over), g.known(fault)))
 }
 
@@ -165,7 +166,7 @@ pub(crate) fn power_of<L: Logic>(
 {
     let a = word_of(alloc, g, x, width)?;
     let b = word_of(alloc, g, y, width)?;
-    let (word, over, fault) = power(alloc, g, &a, &b)?;
+    let Partial { word, over, fault } = power(alloc, g, &a, &b)?;
     Ok((number_of(g, &word), g.known(over), g.known(fault)))
 }
 

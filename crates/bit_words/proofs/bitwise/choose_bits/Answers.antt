@@ -40,5 +40,8 @@ returns-in_err-push-clause-extends g c = extends_trans c.loop-i.invariant.extend
 pub returns-clause-extends : goal.returns-clause-extends
 returns-clause-extends g c = c.loop-i.invariant.extends
 
-pub returns-clause-owned : goal.returns-clause-owned
-returns-clause-owned g c = c.loop-i.invariant.owned
+pub returns-clause-made : goal.returns-clause-made
+returns-clause-made g c = record {
+  owned = c.loop-i.invariant.owned;
+  width = omega (arith, c.loop-i.invariant.width);
+}

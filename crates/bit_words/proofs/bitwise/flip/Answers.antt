@@ -17,5 +17,8 @@ loop-i-preserved g c = record {
 pub not-requires : goal.not-requires
 not-requires g c = owns_read _ c.requires c.at-bit.ensures
 
-pub returns-clause-owned : goal.returns-clause-owned
-returns-clause-owned g c = c.loop-i.invariant.owned
+pub returns-clause-made : goal.returns-clause-made
+returns-clause-made g c = record {
+  owned = c.loop-i.invariant.owned;
+  width = omega (arith, c.loop-i.invariant.width);
+}

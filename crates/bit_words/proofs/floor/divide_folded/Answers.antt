@@ -13,10 +13,10 @@ pub divide-requires-clause-half : goal.divide-requires-clause-half
 divide-requires-clause-half g c vs =
     let first = g.L.Logic.reads c.args.g.now vs in
     let steps = extends_trans c.negate_where.ensures.extends (extends_trans c.flip_where.ensures.extends c.is_zero.ensures.extends) in
-    let size = ap nat_of (reads_kept steps c.in_ok-size.ensures.owned vs) ∙ c.in_ok-size.ensures.value vs in
+    let size = ap nat_of (reads_kept steps c.in_ok-size.ensures.made.owned vs) ∙ c.in_ok-size.ensures.value vs in
     let bits = map first c.args.b.now in
-    let long : length bits ≡ length c.in_ok-size.size = simp length-map (omega (arith, c.in_ok-size.ensures.width)) in
-    rw size (subst (λ (k : ℕ). unsigned_abs (int_of bits) ≤ 2 ^ (k - 1)) long (abs_half bits (rw long (omega (arith, c.in_ok-size.ensures.width)))))
+    let long : length bits ≡ length c.in_ok-size.size = simp length-map (omega (arith, c.in_ok-size.ensures.made.width)) in
+    rw size (subst (λ (k : ℕ). unsigned_abs (int_of bits) ≤ 2 ^ (k - 1)) long (abs_half bits (rw long (omega (arith, c.in_ok-size.ensures.made.width)))))
 
 turned_is_by : (g : given.Over) (c : goal.After-drop-size-inside-2 g) (vs : List Bool) →
     int_read g.L.Logic.reads c.negate_where.new.g vs c.in_ok-turned.turned ≡ by_positive (int_read g.L.Logic.reads c.args.g.now vs c.args.a.now) (int_read g.L.Logic.reads c.args.g.now vs c.args.b.now)
@@ -38,8 +38,8 @@ number_is g c vs =
     let flipped = reads c.flip_where.new.g vs in
     let width = c.len-width.result in
     let number = c.in_ok-number.ensures in
-    let owned = subst (OwnsAll g.L.Logic.owns c.flip_where.new.g) (sym number) (owns_taken width c.in_ok-complement.ensures.owned) in
-    let long : length (map turned c.in_ok-turned.turned) ≡ suc width = simp length-map (omega (arith, c.in_ok-turned.ensures.width)) in
+    let owned = subst (OwnsAll g.L.Logic.owns c.flip_where.new.g) (sym number) (owns_taken width c.in_ok-complement.ensures.made.owned) in
+    let long : length (map turned c.in_ok-turned.turned) ≡ suc width = simp length-map (omega (arith, c.in_ok-turned.ensures.made.width)) in
     ap nat_of (reads_kept c.is_zero.ensures.extends owned vs) ∙ ap (λ w. nat_of (map flipped w)) number ∙ ap nat_of (sym (take-map flipped width c.in_ok-complement.complement))
     ∙ ap (λ (v : List Bool). nat_of (take width v)) (c.in_ok-complement.ensures.value vs)
     ∙ folded_nat (map turned c.in_ok-turned.turned) (turned c.sign_of-sign.result) width long (c.sign_of-sign.ensures.value vs)
@@ -48,7 +48,7 @@ number_is g c vs =
 size_is : (g : given.Over) (c : goal.After-drop-size-inside-2 g) (vs : List Bool) → nat_read g.L.Logic.reads c.is_zero.new.g vs c.in_ok-size.size ≡ unsigned_abs (int_read g.L.Logic.reads c.args.g.now vs c.args.b.now)
 size_is g c vs =
     let steps = extends_trans c.negate_where.ensures.extends (extends_trans c.flip_where.ensures.extends c.is_zero.ensures.extends) in
-    ap nat_of (reads_kept steps c.in_ok-size.ensures.owned vs) ∙ c.in_ok-size.ensures.value vs
+    ap nat_of (reads_kept steps c.in_ok-size.ensures.made.owned vs) ∙ c.in_ok-size.ensures.value vs
 
 pub returns-clause-sign : goal.returns-clause-sign
 returns-clause-sign g c vs =
@@ -58,7 +58,7 @@ returns-clause-sign g c vs =
 pub returns-clause-none : goal.returns-clause-none
 returns-clause-none g c vs =
     let steps = extends_trans c.negate_where.ensures.extends c.flip_where.ensures.extends in
-    let size = ap nat_of (reads_kept steps c.in_ok-size.ensures.owned vs) ∙ c.in_ok-size.ensures.value vs in
+    let size = ap nat_of (reads_kept steps c.in_ok-size.ensures.made.owned vs) ∙ c.in_ok-size.ensures.value vs in
     c.divide.ensures.extends.same _ c.in_ok-none.ensures.owned vs ∙ c.in_ok-none.ensures.value vs ∙ ap (λ (n : ℕ). eqb n 0) size
 
 pub returns-clause-quotient : goal.returns-clause-quotient
@@ -76,10 +76,10 @@ pub returns-in_err-turned-clause-extends : goal.returns-in_err-turned-clause-ext
 returns-in_err-turned-clause-extends g c = extends_trans c.magnitude.ensures.extends c.negate_where.ensures.extends
 
 pub sign_of-sign-requires : goal.sign_of-sign-requires
-sign_of-sign-requires g c = record { some = omega (arith, c.in_ok-turned.ensures.width); word = c.in_ok-turned.ensures.owned }
+sign_of-sign-requires g c = record { some = omega (arith, c.in_ok-turned.ensures.made.width); word = c.in_ok-turned.ensures.made.owned }
 
 pub flip_where-requires : goal.flip_where-requires
-flip_where-requires g c = record { test = c.sign_of-sign.ensures.owned; word = c.in_ok-turned.ensures.owned }
+flip_where-requires g c = record { test = c.sign_of-sign.ensures.owned; word = c.in_ok-turned.ensures.made.owned }
 
 pub returns-in_err-complement-clause-extends : goal.returns-in_err-complement-clause-extends
 returns-in_err-complement-clause-extends g c = extends_trans c.magnitude.ensures.extends (extends_trans c.negate_where.ensures.extends c.flip_where.ensures.extends)
@@ -88,16 +88,16 @@ pub returns-in_err-number-clause-extends : goal.returns-in_err-number-clause-ext
 returns-in_err-number-clause-extends g c = extends_trans c.magnitude.ensures.extends (extends_trans c.negate_where.ensures.extends c.flip_where.ensures.extends)
 
 pub is_zero-requires : goal.is_zero-requires
-is_zero-requires g c = record { word = owns_kept (extends_trans c.negate_where.ensures.extends c.flip_where.ensures.extends) c.in_ok-size.ensures.owned }
+is_zero-requires g c = record { word = owns_kept (extends_trans c.negate_where.ensures.extends c.flip_where.ensures.extends) c.in_ok-size.ensures.made.owned }
 
 pub returns-in_err-none-clause-extends : goal.returns-in_err-none-clause-extends
 returns-in_err-none-clause-extends g c = extends_trans c.magnitude.ensures.extends (extends_trans c.negate_where.ensures.extends (extends_trans c.flip_where.ensures.extends c.is_zero.ensures.extends))
 
 pub divide-requires-clause-left : goal.divide-requires-clause-left
-divide-requires-clause-left g c = owns_kept c.is_zero.ensures.extends (subst (OwnsAll g.L.Logic.owns c.flip_where.new.g) (sym c.in_ok-number.ensures) (owns_taken c.len-width.result c.in_ok-complement.ensures.owned))
+divide-requires-clause-left g c = owns_kept c.is_zero.ensures.extends (subst (OwnsAll g.L.Logic.owns c.flip_where.new.g) (sym c.in_ok-number.ensures) (owns_taken c.len-width.result c.in_ok-complement.ensures.made.owned))
 
 pub divide-requires-clause-right : goal.divide-requires-clause-right
-divide-requires-clause-right g c = owns_kept (extends_trans c.negate_where.ensures.extends (extends_trans c.flip_where.ensures.extends c.is_zero.ensures.extends)) c.in_ok-size.ensures.owned
+divide-requires-clause-right g c = owns_kept (extends_trans c.negate_where.ensures.extends (extends_trans c.flip_where.ensures.extends c.is_zero.ensures.extends)) c.in_ok-size.ensures.made.owned
 
 pub returns-in_err-quotient-clause-extends : goal.returns-in_err-quotient-clause-extends
 returns-in_err-quotient-clause-extends g c = extends_trans c.magnitude.ensures.extends (extends_trans c.negate_where.ensures.extends (extends_trans c.flip_where.ensures.extends (extends_trans c.is_zero.ensures.extends c.divide.ensures.extends)))
@@ -118,16 +118,16 @@ pub returns-clause-owned_none : goal.returns-clause-owned_none
 returns-clause-owned_none g c = c.divide.ensures.extends.kept _ c.in_ok-none.ensures.owned
 
 pub low_bits-requires : goal.low_bits-requires
-low_bits-requires g c = omega (arith, c.in_ok-complement.ensures.width, c.in_ok-turned.ensures.width)
+low_bits-requires g c = omega (arith, c.in_ok-complement.ensures.made.width, c.in_ok-turned.ensures.made.width)
 
 pub divide-requires-clause-long : goal.divide-requires-clause-long
-divide-requires-clause-long g c = omega (arith, ap length c.in_ok-number.ensures, length-take c.len-width.result c.in_ok-complement.complement, c.in_ok-complement.ensures.width, c.in_ok-turned.ensures.width)
+divide-requires-clause-long g c = omega (arith, ap length c.in_ok-number.ensures, length-take c.len-width.result c.in_ok-complement.complement, c.in_ok-complement.ensures.made.width, c.in_ok-turned.ensures.made.width)
 
 pub divide-requires-clause-alike : goal.divide-requires-clause-alike
-divide-requires-clause-alike g c = omega (arith, ap length c.in_ok-number.ensures, length-take c.len-width.result c.in_ok-complement.complement, c.in_ok-complement.ensures.width, c.in_ok-turned.ensures.width, c.in_ok-size.ensures.width)
+divide-requires-clause-alike g c = omega (arith, ap length c.in_ok-number.ensures, length-take c.len-width.result c.in_ok-complement.complement, c.in_ok-complement.ensures.made.width, c.in_ok-turned.ensures.made.width, c.in_ok-size.ensures.made.width)
 
 pub returns-clause-width : goal.returns-clause-width
-returns-clause-width g c = omega (arith, c.in_ok-quotient.ensures.width, ap length c.in_ok-number.ensures, length-take c.len-width.result c.in_ok-complement.complement, c.in_ok-complement.ensures.width, c.in_ok-turned.ensures.width)
+returns-clause-width g c = omega (arith, c.in_ok-quotient.ensures.width, ap length c.in_ok-number.ensures, length-take c.len-width.result c.in_ok-complement.complement, c.in_ok-complement.ensures.made.width, c.in_ok-turned.ensures.made.width)
 
 pub returns-clause-width_rest : goal.returns-clause-width_rest
-returns-clause-width_rest g c = omega (arith, c.in_ok-quotient.ensures.width_rest, ap length c.in_ok-number.ensures, length-take c.len-width.result c.in_ok-complement.complement, c.in_ok-complement.ensures.width, c.in_ok-turned.ensures.width)
+returns-clause-width_rest g c = omega (arith, c.in_ok-quotient.ensures.width_rest, ap length c.in_ok-number.ensures, length-take c.len-width.result c.in_ok-complement.complement, c.in_ok-complement.ensures.made.width, c.in_ok-turned.ensures.made.width)

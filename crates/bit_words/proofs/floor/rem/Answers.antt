@@ -51,7 +51,7 @@ returns-clause-value g c vs nonzero =
     let sign_kept = two.same _ more.owned_sign vs ∙ sign in
     let divisor_kept = reads_kept (extends_trans one two) c.requires.right vs in
     let part = ap int_of (rw (sign_kept, divisor_kept) at (c.in_ok-part.ensures.value vs)) ∙ int_masked (is_negative (by_positive a b)) (map first c.args.b.now) in
-    let part_kept = ap int_of (reads_kept four c.in_ok-part.ensures.owned vs) ∙ part in
+    let part_kept = ap int_of (reads_kept four c.in_ok-part.ensures.made.owned vs) ∙ part in
     let turn_kept = three.same _ c.in_ok-turn.ensures.owned vs ∙ turn in
     let rest = map (reads c.divide_folded.new.g vs) divided.rest in
     let rest_kept = reads_kept (extends_trans two three) more.owned_rest vs in
@@ -64,7 +64,7 @@ returns-clause-value g c vs nonzero =
     let below_kept = (extends_trans two (extends_trans three four)).same _ c.sign_of-below.ensures.owned vs ∙ below in
     let z : int_read reads c.flip_where.new.g vs c.in_ok-part.part +ℤ int_read reads c.flip_where.new.g vs c.in_ok-flipped.flipped +ℤ pos (bit_value (reads c.flip_where.new.g vs c.sign_of-below.result)) ≡ floor_remainder a b
     = rw (part_kept, flipped, below_kept) (remainder_is a b (nat_of (map (reads c.divide_folded.new.g vs) divided.quotient)) (nat_of rest) (more.quotient vs) d) in
-    let size : length c.in_ok-part.part ≡ length c.args.a.now = c.in_ok-part.ensures.width ∙ c.requires.alike in
+    let size : length c.in_ok-part.part ≡ length c.args.a.now = c.in_ok-part.ensures.made.width ∙ c.requires.alike in
     c.in_ok-number.ensures.value vs (rw (size, z) (fits_width g c vs)) ∙ z
 
 pub sign_of-below-requires : goal.sign_of-below-requires
@@ -89,7 +89,7 @@ pub returns-in_err-flipped-clause-extends : goal.returns-in_err-flipped-clause-e
 returns-in_err-flipped-clause-extends g c = extends_trans c.divide_folded.ensures.extends (extends_trans c.xor.ensures.extends (extends_trans c.mask.ensures.extends c.flip_where.ensures.extends))
 
 pub signed_sum-requires : goal.signed_sum-requires
-signed_sum-requires g c = record { some = omega (arith, c.in_ok-part.ensures.width); alike = omega (arith, c.in_ok-part.ensures.width, c.in_ok-flipped.ensures.width, c.in_ok-divided.ensures.width_rest); left = owns_kept c.flip_where.ensures.extends c.in_ok-part.ensures.owned; right = c.in_ok-flipped.ensures.owned; carry = (extends_trans c.xor.ensures.extends (extends_trans c.mask.ensures.extends c.flip_where.ensures.extends)).kept _ c.sign_of-below.ensures.owned }
+signed_sum-requires g c = record { some = omega (arith, c.in_ok-part.ensures.made.width); alike = omega (arith, c.in_ok-part.ensures.made.width, c.in_ok-flipped.ensures.made.width, c.in_ok-divided.ensures.width_rest); left = owns_kept c.flip_where.ensures.extends c.in_ok-part.ensures.made.owned; right = c.in_ok-flipped.ensures.made.owned; carry = (extends_trans c.xor.ensures.extends (extends_trans c.mask.ensures.extends c.flip_where.ensures.extends)).kept _ c.sign_of-below.ensures.owned }
 
 pub returns-in_err-number-clause-extends : goal.returns-in_err-number-clause-extends
 returns-in_err-number-clause-extends g c = extends_trans c.divide_folded.ensures.extends (extends_trans c.xor.ensures.extends (extends_trans c.mask.ensures.extends (extends_trans c.flip_where.ensures.extends c.signed_sum.ensures.extends)))
@@ -97,11 +97,10 @@ returns-in_err-number-clause-extends g c = extends_trans c.divide_folded.ensures
 pub returns-clause-extends : goal.returns-clause-extends
 returns-clause-extends g c = extends_trans c.divide_folded.ensures.extends (extends_trans c.xor.ensures.extends (extends_trans c.mask.ensures.extends (extends_trans c.flip_where.ensures.extends c.signed_sum.ensures.extends)))
 
-pub returns-clause-owned : goal.returns-clause-owned
-returns-clause-owned g c = c.in_ok-number.ensures.owned
-
-pub returns-clause-owned_none : goal.returns-clause-owned_none
-returns-clause-owned_none g c = (extends_trans c.xor.ensures.extends (extends_trans c.mask.ensures.extends (extends_trans c.flip_where.ensures.extends c.signed_sum.ensures.extends))).kept _ c.in_ok-divided.ensures.owned_none
-
-pub returns-clause-width : goal.returns-clause-width
-returns-clause-width g c = c.in_ok-number.ensures.width ∙ c.in_ok-part.ensures.width ∙ c.requires.alike
+pub returns-clause-made : goal.returns-clause-made
+returns-clause-made g c = record {
+  owned = c.in_ok-number.ensures.made.owned;
+  owned_over = c.constant-over.ensures.owned;
+  owned_fault = (extends_trans c.xor.ensures.extends (extends_trans c.mask.ensures.extends (extends_trans c.flip_where.ensures.extends c.signed_sum.ensures.extends))).kept _ c.in_ok-divided.ensures.owned_none;
+  width = c.in_ok-number.ensures.made.width ∙ c.in_ok-part.ensures.made.width ∙ c.requires.alike;
+}

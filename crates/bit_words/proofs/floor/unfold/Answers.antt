@@ -22,8 +22,8 @@ returns-in_err-number-clause-extends g c = c.flip_where.ensures.extends
 pub returns-clause-extends : goal.returns-clause-extends
 returns-clause-extends g c = c.flip_where.ensures.extends
 
-pub returns-clause-owned : goal.returns-clause-owned
-returns-clause-owned g c = c.in_ok-number.ensures.owned
-
-pub returns-clause-width : goal.returns-clause-width
-returns-clause-width g c = c.in_ok-number.ensures.width ∙ ap length (c.in_ok-push.ensures.ok ∙ ap (λ w. w ++ c.constant-no.result ∷ []) c.in_ok-wide.ensures) ∙ length-append c.args.size.now (c.constant-no.result ∷ [])
+pub returns-clause-made : goal.returns-clause-made
+returns-clause-made g c = record {
+  owned = c.in_ok-number.ensures.made.owned;
+  width = c.in_ok-number.ensures.made.width ∙ ap length (c.in_ok-push.ensures.ok ∙ ap (λ w. w ++ c.constant-no.result ∷ []) c.in_ok-wide.ensures) ∙ length-append c.args.size.now (c.constant-no.result ∷ []);
+}

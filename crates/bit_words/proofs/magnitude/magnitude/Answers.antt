@@ -14,8 +14,8 @@ returns-clause-value g c vs =
     let width = c.len-width.result in
     let bits = map first c.args.a.now in
     let size : length bits ≡ width = simp length-map (omega arith) in
-    let left = take_all width c.in_ok-flipped.flipped (omega (arith, c.in_ok-flipped.ensures.width)) in
-    let right = take_all width c.in_ok-nothing.nothing (omega (arith, c.in_ok-nothing.ensures.width)) in
+    let left = take_all width c.in_ok-flipped.flipped (omega (arith, c.in_ok-flipped.ensures.made.width)) in
+    let right = take_all width c.in_ok-nothing.nothing (omega (arith, c.in_ok-nothing.ensures.made.width)) in
     let nothing = ap nat_of (c.in_ok-nothing.ensures.value vs) ∙ nat_zeros width in
     let sign = c.flip_where.ensures.extends.same _ c.sign_of-sign.ensures.owned vs in
     let total = rw (left, right, nothing, c.in_ok-flipped.ensures.value vs, sign) at (c.in_ok-size.ensures.total vs) in
@@ -33,10 +33,10 @@ pub returns-in_err-nothing-clause-extends : goal.returns-in_err-nothing-clause-e
 returns-in_err-nothing-clause-extends g c = c.flip_where.ensures.extends
 
 pub carry_sum-requires-clause-left : goal.carry_sum-requires-clause-left
-carry_sum-requires-clause-left g c = c.in_ok-flipped.ensures.owned
+carry_sum-requires-clause-left g c = c.in_ok-flipped.ensures.made.owned
 
 pub carry_sum-requires-clause-right : goal.carry_sum-requires-clause-right
-carry_sum-requires-clause-right g c = c.in_ok-nothing.ensures.owned
+carry_sum-requires-clause-right g c = c.in_ok-nothing.ensures.made.owned
 
 pub carry_sum-requires-clause-carry : goal.carry_sum-requires-clause-carry
 carry_sum-requires-clause-carry g c = c.flip_where.ensures.extends.kept _ c.sign_of-sign.ensures.owned
@@ -47,5 +47,8 @@ returns-in_err-size-clause-extends g c = extends_trans c.flip_where.ensures.exte
 pub returns-clause-extends : goal.returns-clause-extends
 returns-clause-extends g c = extends_trans c.flip_where.ensures.extends c.carry_sum.ensures.extends
 
-pub returns-clause-owned : goal.returns-clause-owned
-returns-clause-owned g c = c.in_ok-size.ensures.owned
+pub returns-clause-made : goal.returns-clause-made
+returns-clause-made g c = record {
+  owned = c.in_ok-size.ensures.owned;
+  width = c.in_ok-size.ensures.width ∙ c.len-width.ensures;
+}

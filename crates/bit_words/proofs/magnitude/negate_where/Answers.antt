@@ -18,12 +18,6 @@ returns-in_err-negated-clause-extends g c = c.turn_where.ensures.extends
 pub returns-clause-extends : goal.returns-clause-extends
 returns-clause-extends g c = c.turn_where.ensures.extends
 
-pub returns-clause-owned : goal.returns-clause-owned
-returns-clause-owned g c = c.in_ok-negated.ensures.owned
-
-pub returns-clause-width : goal.returns-clause-width
-returns-clause-width g c = c.in_ok-negated.ensures.width ∙ ap length (c.in_ok-push.ensures.ok ∙ ap (λ w. w ++ c.sign_of-sign.result ∷ []) c.in_ok-wide.ensures) ∙ length-append c.args.a.now (c.sign_of-sign.result ∷ [])
-
 pub returns-clause-value : goal.returns-clause-value
 returns-clause-value g c vs =
     let first = g.L.Logic.reads c.args.g.now vs in
@@ -35,3 +29,9 @@ returns-clause-value g c vs =
     let width : length c.push.new.self - 1 ≡ length bits = simp length-map (omega (arith, ap length c.in_ok-push.ensures.ok, ap length c.in_ok-wide.ensures, length-append c.in_ok-wide.wide (c.sign_of-sign.result ∷ []))) in
     let turned = rw (same, width) at (c.in_ok-negated.ensures.value vs) in
     turned (negated_fits bits test some)
+
+pub returns-clause-made : goal.returns-clause-made
+returns-clause-made g c = record {
+  owned = c.in_ok-negated.ensures.made.owned;
+  width = c.in_ok-negated.ensures.made.width ∙ ap length (c.in_ok-push.ensures.ok ∙ ap (λ w. w ++ c.sign_of-sign.result ∷ []) c.in_ok-wide.ensures) ∙ length-append c.args.a.now (c.sign_of-sign.result ∷ []);
+}

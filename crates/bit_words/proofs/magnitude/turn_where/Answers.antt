@@ -20,10 +20,10 @@ returns-in_err-nothing-clause-extends g c = c.flip_where.ensures.extends
 
 pub signed_sum-requires : goal.signed_sum-requires
 signed_sum-requires g c = record {
-  some = omega (arith, c.in_ok-flipped.ensures.width);
-  alike = c.in_ok-nothing.ensures.width ∙ c.len-width.ensures ∙ sym c.in_ok-flipped.ensures.width;
-  left = c.in_ok-flipped.ensures.owned;
-  right = c.in_ok-nothing.ensures.owned;
+  some = omega (arith, c.in_ok-flipped.ensures.made.width);
+  alike = c.in_ok-nothing.ensures.made.width ∙ c.len-width.ensures ∙ sym c.in_ok-flipped.ensures.made.width;
+  left = c.in_ok-flipped.ensures.made.owned;
+  right = c.in_ok-nothing.ensures.made.owned;
   carry = c.flip_where.ensures.extends.kept _ c.requires.test;
 }
 
@@ -32,12 +32,6 @@ returns-in_err-turned-clause-extends g c = extends_trans c.flip_where.ensures.ex
 
 pub returns-clause-extends : goal.returns-clause-extends
 returns-clause-extends g c = extends_trans c.flip_where.ensures.extends c.signed_sum.ensures.extends
-
-pub returns-clause-owned : goal.returns-clause-owned
-returns-clause-owned g c = c.in_ok-turned.ensures.owned
-
-pub returns-clause-width : goal.returns-clause-width
-returns-clause-width g c = c.in_ok-turned.ensures.width ∙ c.in_ok-flipped.ensures.width
 
 pub returns-clause-value : goal.returns-clause-value
 returns-clause-value g c vs fit =
@@ -51,4 +45,10 @@ returns-clause-value g c vs fit =
     let nothing = ap int_of (c.in_ok-nothing.ensures.value vs) ∙ int_zeros c.len-width.result in
     let z : int_of (map (reads c.flip_where.new.g vs) c.in_ok-flipped.flipped) +ℤ int_of (map (reads c.flip_where.new.g vs) c.in_ok-nothing.nothing) +ℤ pos (bit_value (reads c.flip_where.new.g vs c.args.test)) ≡ cond test (neg_ℤ (int_of bits)) (int_of bits)
     = rw (kept, flipped, nothing) (drop_zero (int_of (map (differ test) bits)) (pos (bit_value test)) ∙ flipped_int test bits some) in
-    c.in_ok-turned.ensures.value vs (rw (c.in_ok-flipped.ensures.width, z) fit) ∙ z
+    c.in_ok-turned.ensures.value vs (rw (c.in_ok-flipped.ensures.made.width, z) fit) ∙ z
+
+pub returns-clause-made : goal.returns-clause-made
+returns-clause-made g c = record {
+  owned = c.in_ok-turned.ensures.made.owned;
+  width = c.in_ok-turned.ensures.made.width ∙ c.in_ok-flipped.ensures.made.width;
+}

@@ -18,12 +18,6 @@ returns-in_err-number-clause-extends g c = c.turn_where.ensures.extends
 pub returns-clause-extends : goal.returns-clause-extends
 returns-clause-extends g c = c.turn_where.ensures.extends
 
-pub returns-clause-owned : goal.returns-clause-owned
-returns-clause-owned g c = c.in_ok-number.ensures.owned
-
-pub returns-clause-width : goal.returns-clause-width
-returns-clause-width g c = c.in_ok-number.ensures.width ∙ ap length (c.in_ok-push.ensures.ok ∙ ap (λ w. w ++ c.constant-no.result ∷ []) c.in_ok-wide.ensures) ∙ length-append c.args.size.now (c.constant-no.result ∷ [])
-
 pub returns-clause-value : goal.returns-clause-value
 returns-clause-value g c vs =
     let first = g.L.Logic.reads c.args.g.now vs in
@@ -34,3 +28,9 @@ returns-clause-value g c vs =
     let width : length c.push.new.self - 1 ≡ length bits = simp length-map (omega (arith, ap length c.in_ok-push.ensures.ok, ap length c.in_ok-wide.ensures, length-append c.in_ok-wide.wide (c.constant-no.result ∷ []))) in
     let turned = rw (same, cond_signed sign (nat_of bits), width) at (c.in_ok-number.ensures.value vs) in
     turned (signed_fits bits sign)
+
+pub returns-clause-made : goal.returns-clause-made
+returns-clause-made g c = record {
+  owned = c.in_ok-number.ensures.made.owned;
+  width = c.in_ok-number.ensures.made.width ∙ ap length (c.in_ok-push.ensures.ok ∙ ap (λ w. w ++ c.constant-no.result ∷ []) c.in_ok-wide.ensures) ∙ length-append c.args.size.now (c.constant-no.result ∷ []);
+}

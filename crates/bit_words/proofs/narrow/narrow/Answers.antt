@@ -1,4 +1,4 @@
-use Rattle.std.proofs.Common.{◌≡◌, ◌∙◌, ◌+◌, ◌-◌, ◌^◌, ap, List, Bool, true, not, map, take, arith, ◌++◌, ◌∷◌, [], length-take, subst, sym}
+use Rattle.std.proofs.Common.{◌≡◌, ◌∙◌, ◌+◌, ◌-◌, ◌^◌, ap, List, Bool, true, not, map, take, arith, length, ◌++◌, ◌∷◌, [], length-take, subst, sym}
 use Rattle.bit_words.specs.Words.{int_read, is_within, nat_of}
 use Rattle.bit_words.proofs.Kept.{reads_kept, take_read, owns_read, owns_taken, owns_kept}
 use Rattle.bit_words.proofs.Naturals.{power_double, nat_more}
@@ -42,8 +42,9 @@ returns-in_err-over-clause-extends g c = c.xor.ensures.extends
 pub returns-clause-extends : goal.returns-clause-extends
 returns-clause-extends g c = c.xor.ensures.extends
 
-pub returns-clause-owned : goal.returns-clause-owned
-returns-clause-owned g c = owns_kept c.xor.ensures.extends (subst (OwnsAll g.L.Logic.owns c.args.g.now) (sym c.in_ok-low.ensures) (owns_taken c.args.width c.requires.owned))
-
-pub returns-clause-owned_over : goal.returns-clause-owned_over
-returns-clause-owned_over g c = c.in_ok-over.ensures.owned
+pub returns-clause-made : goal.returns-clause-made
+returns-clause-made g c = record {
+  owned = owns_kept c.xor.ensures.extends (subst (OwnsAll g.L.Logic.owns c.args.g.now) (sym c.in_ok-low.ensures) (owns_taken c.args.width c.requires.owned));
+  owned_over = c.in_ok-over.ensures.owned;
+  width = ap length c.in_ok-low.ensures ∙ simp length-take (omega (arith, c.requires.wider));
+}

@@ -8,9 +8,6 @@ use Rattle.bit_words.proofs.Integers.{int_not, nat_read_below}
 use Rattle.bit_words.proofs.Kept.{owns_push}
 use Rattle.bit_words.proofs.number.number_word.Goals as goal
 
-pub returns-clause-owned : goal.returns-clause-owned
-returns-clause-owned g c = owns_push c.in_ok-word.ensures.owned c.constant-sign.ensures.owned c.in_ok-push.ensures.ok
-
 pub returns-clause-over : goal.returns-clause-over
 returns-clause-over g c vs =
     let f = g.L.Logic.reads c.args.g.now vs in
@@ -46,3 +43,10 @@ returns-then-is_below_zero-clause-value g c vs fit =
     let sum = rw plain at turned in
     ap int_of (c.in_ok-word-2.ensures.value vs)
     ∙ complement_is (2 ^ (c.args.width - 1)) c.args.number (int_of (map not (map f c.push.new.self))) (nat_of (map f c.in_ok-word.word)) c.in_ok-word.rest (sym (c.if-is_below_zero.ensures ∙ ap is_negative written)) (c.in_ok-word.ensures.value vs ∙ c.folded_size-size.ensures ∙ ap folded written) fit sum
+
+pub returns-clause-made : goal.returns-clause-made
+returns-clause-made g c = record {
+  owned = owns_push c.in_ok-word.ensures.owned c.constant-sign.ensures.owned c.in_ok-push.ensures.ok;
+  owned_over = c.constant-over.ensures.owned;
+  width = omega (arith, simp length-append at (ap length c.in_ok-push.ensures.ok), c.in_ok-word.ensures.width, c.requires.some);
+}

@@ -28,7 +28,7 @@ number_is g c vs =
     let masked = reads c.mask.new.g vs in
     let a = int_read reads c.args.g.now vs c.args.a.now in
     let exponent = c.in_ok-exponent.exponent in
-    let odd_owned = owns_read zero c.in_ok-exponent.ensures.owned c.at-odd.ensures in
+    let odd_owned = owns_read zero c.in_ok-exponent.ensures.made.owned c.at-odd.ensures in
     let steps = extends_trans c.magnitude.ensures.extends (extends_trans c.mask.ensures.extends c.unsigned_power.ensures.extends) in
     let below = steps.same _ c.sign_of-below.ensures.owned vs ∙ c.sign_of-below.ensures.value vs in
     let odd = c.unsigned_power.ensures.extends.same _ odd_owned vs in
@@ -39,25 +39,25 @@ number_is g c vs =
     rw sign (raised ∙ ap (int_power a) (exponent_read g c vs))
 
 size_is : (g : given.Over) (c : goal.After-drop-size-inside-2 g) (vs : List Bool) →
-    IsUnsigned (length c.in_ok-raised.raised) (unsigned_abs (int_read g.L.Logic.reads c.args.g.now vs c.args.a.now) ^ nat_read g.L.Logic.reads c.mask.new.g vs c.in_ok-exponent.exponent)
-    (nat_read g.L.Logic.reads c.and.new.self vs c.in_ok-raised.raised) (g.L.Logic.reads c.and.new.self vs c.in_ok-raised.spilled)
+    IsUnsigned (length c.in_ok-raised.raised.word) (unsigned_abs (int_read g.L.Logic.reads c.args.g.now vs c.args.a.now) ^ nat_read g.L.Logic.reads c.mask.new.g vs c.in_ok-exponent.exponent)
+    (nat_read g.L.Logic.reads c.and.new.self vs c.in_ok-raised.raised.word) (g.L.Logic.reads c.and.new.self vs c.in_ok-raised.raised.over)
 size_is g c vs =
     let four = c.and.ensures.extends in
-    let base = ap nat_of (reads_kept c.mask.ensures.extends c.in_ok-size.ensures.owned vs) ∙ c.in_ok-size.ensures.value vs in
-    let kept = ap nat_of (reads_kept four c.in_ok-raised.ensures.owned vs) in
-    let spilled = four.same _ c.in_ok-raised.ensures.owned_over vs in
-    rw (kept, spilled, c.in_ok-raised.ensures.width) (rw base at (c.in_ok-raised.ensures.value vs))
+    let base = ap nat_of (reads_kept c.mask.ensures.extends c.in_ok-size.ensures.made.owned vs) ∙ c.in_ok-size.ensures.value vs in
+    let kept = ap nat_of (reads_kept four c.in_ok-raised.ensures.made.owned vs) in
+    let spilled = four.same _ c.in_ok-raised.ensures.made.owned_over vs in
+    rw (kept, spilled, c.in_ok-raised.ensures.made.width) (rw base at (c.in_ok-raised.ensures.value vs))
 
 pub returns-clause-over : goal.returns-clause-over
 returns-clause-over g c vs =
-    let width = c.in_ok-raised.ensures.width ∙ c.in_ok-size.ensures.width in
-    power_over (length c.args.a.now) (int_read g.L.Logic.reads c.args.g.now vs c.args.a.now) (int_read g.L.Logic.reads c.args.g.now vs c.args.b.now) (g.L.Logic.reads c.signed_result.new.g vs c.in_ok-number.over) c.requires.long
-    (subst (λ (z : ℤ). OverflowsAs (g.L.Logic.reads c.signed_result.new.g vs c.in_ok-number.over) (length c.args.a.now) z) (number_is g c vs) (rw width at (c.in_ok-number.ensures.over vs _ (size_is g c vs))))
+    let width = c.in_ok-raised.ensures.made.width ∙ c.in_ok-size.ensures.made.width in
+    power_over (length c.args.a.now) (int_read g.L.Logic.reads c.args.g.now vs c.args.a.now) (int_read g.L.Logic.reads c.args.g.now vs c.args.b.now) (g.L.Logic.reads c.signed_result.new.g vs c.in_ok-number.number.over) c.requires.long
+    (subst (λ (z : ℤ). OverflowsAs (g.L.Logic.reads c.signed_result.new.g vs c.in_ok-number.number.over) (length c.args.a.now) z) (number_is g c vs) (rw width at (c.in_ok-number.ensures.over vs _ (size_is g c vs))))
 
 pub returns-clause-value : goal.returns-clause-value
 returns-clause-value g c vs =
-    let width = c.in_ok-raised.ensures.width ∙ c.in_ok-size.ensures.width in
-    subst (λ (z : ℤ). Holds (int_read g.L.Logic.reads c.signed_result.new.g vs c.in_ok-number.number) (length c.args.a.now) z) (number_is g c vs) (rw width at (c.in_ok-number.ensures.value vs _ (size_is g c vs)))
+    let width = c.in_ok-raised.ensures.made.width ∙ c.in_ok-size.ensures.made.width in
+    subst (λ (z : ℤ). Holds (int_read g.L.Logic.reads c.signed_result.new.g vs c.in_ok-number.number.word) (length c.args.a.now) z) (number_is g c vs) (rw width at (c.in_ok-number.ensures.value vs _ (size_is g c vs)))
 
 pub mask-requires : goal.mask-requires
 mask-requires g c = record { test = c.magnitude.ensures.extends.kept _ c.not-positive.ensures.owned; word = owns_kept c.magnitude.ensures.extends c.requires.right }
@@ -66,19 +66,19 @@ pub returns-in_err-exponent-clause-extends : goal.returns-in_err-exponent-clause
 returns-in_err-exponent-clause-extends g c = extends_trans c.magnitude.ensures.extends c.mask.ensures.extends
 
 pub unsigned_power-requires : goal.unsigned_power-requires
-unsigned_power-requires g c = record { long = omega (arith, c.in_ok-size.ensures.width); base = owns_kept c.mask.ensures.extends c.in_ok-size.ensures.owned; exponent = c.in_ok-exponent.ensures.owned }
+unsigned_power-requires g c = record { long = omega (arith, c.in_ok-size.ensures.made.width); base = owns_kept c.mask.ensures.extends c.in_ok-size.ensures.made.owned; exponent = c.in_ok-exponent.ensures.made.owned }
 
 pub returns-in_err-raised-clause-extends : goal.returns-in_err-raised-clause-extends
 returns-in_err-raised-clause-extends g c = extends_trans c.magnitude.ensures.extends (extends_trans c.mask.ensures.extends c.unsigned_power.ensures.extends)
 
 pub and-requires : goal.and-requires
-and-requires g c = record { left = (extends_trans c.magnitude.ensures.extends (extends_trans c.mask.ensures.extends c.unsigned_power.ensures.extends)).kept _ c.sign_of-below.ensures.owned; right = c.unsigned_power.ensures.extends.kept _ (owns_read zero c.in_ok-exponent.ensures.owned c.at-odd.ensures) }
+and-requires g c = record { left = (extends_trans c.magnitude.ensures.extends (extends_trans c.mask.ensures.extends c.unsigned_power.ensures.extends)).kept _ c.sign_of-below.ensures.owned; right = c.unsigned_power.ensures.extends.kept _ (owns_read zero c.in_ok-exponent.ensures.made.owned c.at-odd.ensures) }
 
 pub returns-in_err-sign-clause-extends : goal.returns-in_err-sign-clause-extends
 returns-in_err-sign-clause-extends g c = extends_trans c.magnitude.ensures.extends (extends_trans c.mask.ensures.extends (extends_trans c.unsigned_power.ensures.extends c.and.ensures.extends))
 
 pub signed_result-requires : goal.signed_result-requires
-signed_result-requires g c = record { some = omega (arith, c.in_ok-raised.ensures.width, c.in_ok-size.ensures.width); sign = c.in_ok-sign.ensures.owned; word = owns_kept c.and.ensures.extends c.in_ok-raised.ensures.owned; over = c.and.ensures.extends.kept _ c.in_ok-raised.ensures.owned_over }
+signed_result-requires g c = record { some = omega (arith, c.in_ok-raised.ensures.made.width, c.in_ok-size.ensures.made.width); sign = c.in_ok-sign.ensures.owned; word = owns_kept c.and.ensures.extends c.in_ok-raised.ensures.made.owned; over = c.and.ensures.extends.kept _ c.in_ok-raised.ensures.made.owned_over }
 
 pub returns-in_err-number-clause-extends : goal.returns-in_err-number-clause-extends
 returns-in_err-number-clause-extends g c = extends_trans c.magnitude.ensures.extends (extends_trans c.mask.ensures.extends (extends_trans c.unsigned_power.ensures.extends (extends_trans c.and.ensures.extends c.signed_result.ensures.extends)))
@@ -86,11 +86,9 @@ returns-in_err-number-clause-extends g c = extends_trans c.magnitude.ensures.ext
 pub returns-clause-extends : goal.returns-clause-extends
 returns-clause-extends g c = extends_trans c.magnitude.ensures.extends (extends_trans c.mask.ensures.extends (extends_trans c.unsigned_power.ensures.extends (extends_trans c.and.ensures.extends c.signed_result.ensures.extends)))
 
-pub returns-clause-owned : goal.returns-clause-owned
-returns-clause-owned g c = c.in_ok-number.ensures.owned
-
-pub returns-clause-owned_over : goal.returns-clause-owned_over
-returns-clause-owned_over g c = c.in_ok-number.ensures.owned_over
-
-pub returns-clause-width : goal.returns-clause-width
-returns-clause-width g c = c.in_ok-number.ensures.width ∙ c.in_ok-raised.ensures.width ∙ c.in_ok-size.ensures.width
+pub returns-clause-made : goal.returns-clause-made
+returns-clause-made g c = record {
+  owned = c.in_ok-number.ensures.made.owned;
+  owned_over = c.in_ok-number.ensures.made.owned_over;
+  width = c.in_ok-number.ensures.made.width ∙ c.in_ok-raised.ensures.made.width ∙ c.in_ok-size.ensures.made.width;
+}

@@ -12,8 +12,8 @@ loop-k-init g c =
     let digits = c.len-digits.result in
     record {
       extends = extends_refl;
-      width = c.in_ok-power.ensures.width ∙ c.len.ensures;
-      owned = c.in_ok-power.ensures.owned;
+      width = c.in_ok-power.ensures.made.width ∙ c.len.ensures;
+      owned = c.in_ok-power.ensures.made.owned;
       owned_over = c.constant-over.ensures.owned;
       value = λ vs.
           let none : drop (digits - 0) (map (first vs) c.args.b.now) ≡ [] = drop_all (digits - 0) (map (first vs) c.args.b.now) (simp length-map (omega arith)) in
@@ -30,9 +30,9 @@ loop-k-preserved g c =
     let more = c.in_ok-next.ensures in
     record {
       extends = extends_trans before.extends step;
-      width = more.width;
-      owned = more.owned;
-      owned_over = more.owned_over;
+      width = more.made.width;
+      owned = more.made.owned;
+      owned_over = more.made.owned_over;
       value = λ vs.
           let first = reads c.args.g.now vs in
           let base = ap nat_of (reads_kept before.extends c.requires.base vs) in
@@ -59,11 +59,9 @@ returns-in_err-next-clause-extends g c = extends_trans c.loop-k.invariant.extend
 pub returns-clause-extends : goal.returns-clause-extends
 returns-clause-extends g c = c.loop-k.invariant.extends
 
-pub returns-clause-owned : goal.returns-clause-owned
-returns-clause-owned g c = c.loop-k.invariant.owned
-
-pub returns-clause-owned_over : goal.returns-clause-owned_over
-returns-clause-owned_over g c = c.loop-k.invariant.owned_over
-
-pub returns-clause-width : goal.returns-clause-width
-returns-clause-width g c = c.loop-k.invariant.width
+pub returns-clause-made : goal.returns-clause-made
+returns-clause-made g c = record {
+  owned = c.loop-k.invariant.owned;
+  owned_over = c.loop-k.invariant.owned_over;
+  width = c.loop-k.invariant.width;
+}

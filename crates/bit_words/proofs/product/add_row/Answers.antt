@@ -29,8 +29,8 @@ returns-clause-value g c vs digits some higher =
     let spilled = rw (carried, lost) at (c.in_ok-spilled.ensures.value vs) in
     let sum_kept = ap nat_of (reads_kept (extends_trans two (extends_trans three four)) c.in_ok-sum.ensures.owned vs) in
     let split = ap (λ k. nat_of (map first (take k c.args.a.now))) width ∙ nat_more first c.args.a.now w c.at-top.result c.at-top.ensures in
-    let more = row_more c.args.width w (nat_of (map first (take c.args.width c.args.a.now))) (nat_of (map first (take w c.args.a.now))) (nat_of (map first c.args.higher.now)) (nat_of (map summed c.in_ok-sum.sum)) digits
-    (first c.at-top.result) (first c.args.digit) (first c.args.over) (summed c.in_ok-sum.carry) (first c.args.some)
+    let more = row_more c.args.width w (nat_of (map first (take c.args.width c.args.a.now))) (nat_of (map first (take w c.args.a.now))) (nat_of (map first c.args.higher.now.number)) (nat_of (map summed c.in_ok-sum.sum)) digits
+    (first c.at-top.result) (first c.args.digit) (first c.args.higher.now.over) (summed c.in_ok-sum.carry) (first c.args.higher.now.some)
     width split (nat_read_below summed c.in_ok-sum.sum c.args.width c.in_ok-sum.ensures.width) some higher (c.in_ok-sum.ensures.total vs) in
     rw (sum_kept, spilled) more
 
@@ -58,11 +58,9 @@ returns-in_err-spilled-clause-extends g c = extends_trans c.row_sum.ensures.exte
 pub returns-clause-extends : goal.returns-clause-extends
 returns-clause-extends g c = extends_trans c.row_sum.ensures.extends (extends_trans c.and.ensures.extends (extends_trans c.or.ensures.extends c.or-2.ensures.extends))
 
-pub returns-clause-owned : goal.returns-clause-owned
-returns-clause-owned g c = owns_kept (extends_trans c.and.ensures.extends (extends_trans c.or.ensures.extends c.or-2.ensures.extends)) c.in_ok-sum.ensures.owned
-
-pub returns-clause-owned_over : goal.returns-clause-owned_over
-returns-clause-owned_over g c = c.in_ok-spilled.ensures.owned
-
-pub returns-clause-width : goal.returns-clause-width
-returns-clause-width g c = c.in_ok-sum.ensures.width
+pub returns-clause-made : goal.returns-clause-made
+returns-clause-made g c = record {
+  owned = owns_kept (extends_trans c.and.ensures.extends (extends_trans c.or.ensures.extends c.or-2.ensures.extends)) c.in_ok-sum.ensures.owned;
+  owned_over = c.in_ok-spilled.ensures.owned;
+  width = c.in_ok-sum.ensures.width;
+}

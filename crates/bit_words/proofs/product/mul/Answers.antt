@@ -9,17 +9,17 @@ use Rattle.bit_words.proofs.product.mul.Given as given
 use Rattle.bit_words.proofs.product.mul.Goals as goal
 
 size_is : (g : given.Over) (c : goal.After-drop-left-inside-2 g) (vs : List Bool) →
-    IsUnsigned (length c.in_ok-size.size) (unsigned_abs (int_read g.L.Logic.reads c.args.g.now vs c.args.a.now) * unsigned_abs (int_read g.L.Logic.reads c.args.g.now vs c.args.b.now))
-    (nat_read g.L.Logic.reads c.xor.new.self vs c.in_ok-size.size) (g.L.Logic.reads c.xor.new.self vs c.in_ok-size.spilled)
+    IsUnsigned (length c.in_ok-size.size.word) (unsigned_abs (int_read g.L.Logic.reads c.args.g.now vs c.args.a.now) * unsigned_abs (int_read g.L.Logic.reads c.args.g.now vs c.args.b.now))
+    (nat_read g.L.Logic.reads c.xor.new.self vs c.in_ok-size.size.word) (g.L.Logic.reads c.xor.new.self vs c.in_ok-size.size.over)
 size_is g c vs =
     let one = c.magnitude.ensures.extends in
     let two = c.magnitude-2.ensures.extends in
     let four = c.xor.ensures.extends in
-    let left = ap nat_of (reads_kept two c.in_ok-left.ensures.owned vs) ∙ c.in_ok-left.ensures.value vs in
+    let left = ap nat_of (reads_kept two c.in_ok-left.ensures.made.owned vs) ∙ c.in_ok-left.ensures.value vs in
     let right = c.in_ok-right.ensures.value vs ∙ ap (λ v. unsigned_abs (int_of v)) (reads_kept one c.requires.right vs) in
-    let kept = ap nat_of (reads_kept four c.in_ok-size.ensures.owned vs) in
-    let spilled = four.same _ c.in_ok-size.ensures.owned_over vs in
-    rw (kept, spilled, c.in_ok-size.ensures.width) (rw (left, right) at (c.in_ok-size.ensures.value vs))
+    let kept = ap nat_of (reads_kept four c.in_ok-size.ensures.made.owned vs) in
+    let spilled = four.same _ c.in_ok-size.ensures.made.owned_over vs in
+    rw (kept, spilled, c.in_ok-size.ensures.made.width) (rw (left, right) at (c.in_ok-size.ensures.value vs))
 
 number_is : (g : given.Over) (c : goal.After-drop-left-inside-2 g) (vs : List Bool) →
     signed (g.L.Logic.reads c.xor.new.self vs c.in_ok-sign.sign) (unsigned_abs (int_read g.L.Logic.reads c.args.g.now vs c.args.a.now) * unsigned_abs (int_read g.L.Logic.reads c.args.g.now vs c.args.b.now))
@@ -32,14 +32,14 @@ number_is g c vs =
 
 pub returns-clause-over : goal.returns-clause-over
 returns-clause-over g c vs =
-    let width = c.in_ok-size.ensures.width ∙ c.in_ok-left.ensures.width in
-    subst (λ (z : ℤ). OverflowsAs (g.L.Logic.reads c.signed_result.new.g vs c.in_ok-number.over) (length c.args.a.now) z) (number_is g c vs)
+    let width = c.in_ok-size.ensures.made.width ∙ c.in_ok-left.ensures.made.width in
+    subst (λ (z : ℤ). OverflowsAs (g.L.Logic.reads c.signed_result.new.g vs c.in_ok-number.number.over) (length c.args.a.now) z) (number_is g c vs)
     (rw width at (c.in_ok-number.ensures.over vs _ (size_is g c vs)))
 
 pub returns-clause-value : goal.returns-clause-value
 returns-clause-value g c vs =
-    let width = c.in_ok-size.ensures.width ∙ c.in_ok-left.ensures.width in
-    subst (λ (z : ℤ). Holds (int_read g.L.Logic.reads c.signed_result.new.g vs c.in_ok-number.number) (length c.args.a.now) z) (number_is g c vs)
+    let width = c.in_ok-size.ensures.made.width ∙ c.in_ok-left.ensures.made.width in
+    subst (λ (z : ℤ). Holds (int_read g.L.Logic.reads c.signed_result.new.g vs c.in_ok-number.number.word) (length c.args.a.now) z) (number_is g c vs)
     (rw width at (c.in_ok-number.ensures.value vs _ (size_is g c vs)))
 
 pub magnitude-requires-2 : goal.magnitude-requires-2
@@ -49,7 +49,7 @@ pub returns-in_err-right-clause-extends : goal.returns-in_err-right-clause-exten
 returns-in_err-right-clause-extends g c = extends_trans c.magnitude.ensures.extends c.magnitude-2.ensures.extends
 
 pub product-requires : goal.product-requires
-product-requires g c = record { alike = omega (arith, c.in_ok-left.ensures.width, c.in_ok-right.ensures.width); left = owns_kept c.magnitude-2.ensures.extends c.in_ok-left.ensures.owned; right = c.in_ok-right.ensures.owned }
+product-requires g c = record { alike = omega (arith, c.in_ok-left.ensures.made.width, c.in_ok-right.ensures.made.width); left = owns_kept c.magnitude-2.ensures.extends c.in_ok-left.ensures.made.owned; right = c.in_ok-right.ensures.made.owned }
 
 pub returns-in_err-size-clause-extends : goal.returns-in_err-size-clause-extends
 returns-in_err-size-clause-extends g c = extends_trans c.magnitude.ensures.extends (extends_trans c.magnitude-2.ensures.extends c.product.ensures.extends)
@@ -61,7 +61,7 @@ pub returns-in_err-sign-clause-extends : goal.returns-in_err-sign-clause-extends
 returns-in_err-sign-clause-extends g c = extends_trans c.magnitude.ensures.extends (extends_trans c.magnitude-2.ensures.extends (extends_trans c.product.ensures.extends c.xor.ensures.extends))
 
 pub signed_result-requires : goal.signed_result-requires
-signed_result-requires g c = record { some = omega (arith, c.in_ok-size.ensures.width, c.in_ok-left.ensures.width); sign = c.in_ok-sign.ensures.owned; word = owns_kept c.xor.ensures.extends c.in_ok-size.ensures.owned; over = c.xor.ensures.extends.kept _ c.in_ok-size.ensures.owned_over }
+signed_result-requires g c = record { some = omega (arith, c.in_ok-size.ensures.made.width, c.in_ok-left.ensures.made.width); sign = c.in_ok-sign.ensures.owned; word = owns_kept c.xor.ensures.extends c.in_ok-size.ensures.made.owned; over = c.xor.ensures.extends.kept _ c.in_ok-size.ensures.made.owned_over }
 
 pub returns-in_err-number-clause-extends : goal.returns-in_err-number-clause-extends
 returns-in_err-number-clause-extends g c = extends_trans c.magnitude.ensures.extends (extends_trans c.magnitude-2.ensures.extends (extends_trans c.product.ensures.extends (extends_trans c.xor.ensures.extends c.signed_result.ensures.extends)))
@@ -69,11 +69,9 @@ returns-in_err-number-clause-extends g c = extends_trans c.magnitude.ensures.ext
 pub returns-clause-extends : goal.returns-clause-extends
 returns-clause-extends g c = extends_trans c.magnitude.ensures.extends (extends_trans c.magnitude-2.ensures.extends (extends_trans c.product.ensures.extends (extends_trans c.xor.ensures.extends c.signed_result.ensures.extends)))
 
-pub returns-clause-owned : goal.returns-clause-owned
-returns-clause-owned g c = c.in_ok-number.ensures.owned
-
-pub returns-clause-owned_over : goal.returns-clause-owned_over
-returns-clause-owned_over g c = c.in_ok-number.ensures.owned_over
-
-pub returns-clause-width : goal.returns-clause-width
-returns-clause-width g c = c.in_ok-number.ensures.width ∙ c.in_ok-size.ensures.width ∙ c.in_ok-left.ensures.width
+pub returns-clause-made : goal.returns-clause-made
+returns-clause-made g c = record {
+  owned = c.in_ok-number.ensures.made.owned;
+  owned_over = c.in_ok-number.ensures.made.owned_over;
+  width = c.in_ok-number.ensures.made.width ∙ c.in_ok-size.ensures.made.width ∙ c.in_ok-left.ensures.made.width;
+}

@@ -10,18 +10,18 @@ pub loop-k-init : goal.loop-k-init
 loop-k-init g c =
     let first = g.L.Logic.reads c.args.g.now in
     let width = c.len-width.result in
-    let no = c.constant-over.ensures in
+    let no = c.constant-no.ensures in
     let none : (vs : List Bool) → drop (width - 0) (map (first vs) c.args.b.now) ≡ [] = λ vs. drop_all (width - 0) (map (first vs) c.args.b.now) (simp length-map (omega arith)) in
     record {
       extends = extends_refl;
-      width = ap length c.new-higher.ensures;
-      owned = subst (OwnsAll g.L.Logic.owns c.args.g.now) (sym c.new-higher.ensures) owns_none;
+      width = ap length c.new-nothing.ensures;
+      owned = subst (OwnsAll g.L.Logic.owns c.args.g.now) (sym c.new-nothing.ensures) owns_none;
       owned_over = no.owned;
       owned_some = no.owned;
       some = λ vs. no.value vs ∙ ap (λ v. ltb 0 (nat_of v)) (sym (none vs));
       value = λ vs.
           let nothing : nat_of (map (first vs) (take 0 c.args.a.now)) * nat_of (drop (width - 0) (map (first vs) c.args.b.now)) ≡ 0 = rw (none vs) (omega arith) in
-          subst (λ w. IsUnsigned 0 (nat_of (map (first vs) (take 0 c.args.a.now)) * nat_of (drop (width - 0) (map (first vs) c.args.b.now))) (nat_of (map (first vs) w)) (first vs c.constant-over.result)) (sym c.new-higher.ensures)
+          subst (λ w. IsUnsigned 0 (nat_of (map (first vs) (take 0 c.args.a.now)) * nat_of (drop (width - 0) (map (first vs) c.args.b.now))) (nat_of (map (first vs) w)) (first vs c.constant-no.result)) (sym c.new-nothing.ensures)
           (no_digits _ _ nothing (no.value vs));
     }
 
@@ -37,9 +37,9 @@ loop-k-preserved g c =
     let digit_owned = owns_read _ c.requires.right c.at-digit.ensures in
     record {
       extends = extends_trans before.extends (extends_trans one two);
-      width = more.width;
-      owned = owns_kept two more.owned;
-      owned_over = two.kept _ more.owned_over;
+      width = more.made.width;
+      owned = owns_kept two more.made.owned;
+      owned_over = two.kept _ more.made.owned_over;
       owned_some = c.in_ok-some.ensures.owned;
       some = λ vs.
           let first = reads c.args.g.now vs in
@@ -50,7 +50,7 @@ loop-k-preserved g c =
           let here : width - (k + 1) ≡ width - 1 - k = omega arith in
           let next : width - 1 - k + 1 ≡ width - k = omega arith in
           let now = rw (some, digit) at (c.in_ok-some.ensures.value vs) in
-          rw (now, here, step, next) (some_more (first c.at-digit.result) e (reads c.loop-k.g vs c.loop-k.some) (before.some vs));
+          rw (now, here, step, next) (some_more (first c.at-digit.result) e (reads c.loop-k.g vs c.loop-k.higher.some) (before.some vs));
       value = λ vs.
           let first = reads c.args.g.now vs in
           let e = nat_of (drop (width - k) (map first c.args.b.now)) in
@@ -61,9 +61,9 @@ loop-k-preserved g c =
           let back : k + 1 - 1 ≡ k = omega arith in
           let low = reads_kept before.extends (owns_taken k c.requires.left) vs in
           let low_more = reads_kept before.extends (owns_taken (k + 1) c.requires.left) vs in
-          let sum_kept = reads_kept two more.owned vs in
-          let over_kept = two.same _ more.owned_over vs in
-          let so_far : IsUnsigned (k + 1 - 1) (nat_of (map (reads c.loop-k.g vs) (take (k + 1 - 1) c.args.a.now)) * e) (nat_of (map (reads c.loop-k.g vs) c.loop-k.higher)) (reads c.loop-k.g vs c.loop-k.over) = rw (back, low) (before.value vs) in
+          let sum_kept = reads_kept two more.made.owned vs in
+          let over_kept = two.same _ more.made.owned_over vs in
+          let so_far : IsUnsigned (k + 1 - 1) (nat_of (map (reads c.loop-k.g vs) (take (k + 1 - 1) c.args.a.now)) * e) (nat_of (map (reads c.loop-k.g vs) c.loop-k.higher.number)) (reads c.loop-k.g vs c.loop-k.higher.over) = rw (back, low) (before.value vs) in
           let now = more.value vs e (before.some vs) so_far in
           rw (here, step, next, sum_kept, over_kept) (rw (low_more, digit) at now);
     }
@@ -77,7 +77,7 @@ returns-clause-value g c vs =
     let none : width - width ≡ 0 = omega arith in
     let size : width ≡ length c.args.a.now = omega arith in
     let whole = rw (last, all, none) at (c.loop-k.invariant.value vs) in
-    subst (λ (k : ℕ). IsUnsigned k (nat_of (map first c.args.a.now) * nat_of (map first c.args.b.now)) (nat_of (map (g.L.Logic.reads c.loop-k.g vs) c.loop-k.higher)) (g.L.Logic.reads c.loop-k.g vs c.loop-k.over)) size whole
+    subst (λ (k : ℕ). IsUnsigned k (nat_of (map first c.args.a.now) * nat_of (map first c.args.b.now)) (nat_of (map (g.L.Logic.reads c.loop-k.g vs) c.loop-k.higher.number)) (g.L.Logic.reads c.loop-k.g vs c.loop-k.higher.over)) size whole
 
 pub add_row-requires-clause-factor : goal.add_row-requires-clause-factor
 add_row-requires-clause-factor g c = owns_kept c.loop-k.invariant.extends c.requires.left
@@ -106,8 +106,9 @@ returns-in_err-some-clause-extends g c = extends_trans c.loop-k.invariant.extend
 pub returns-clause-extends : goal.returns-clause-extends
 returns-clause-extends g c = c.loop-k.invariant.extends
 
-pub returns-clause-owned : goal.returns-clause-owned
-returns-clause-owned g c = c.loop-k.invariant.owned
-
-pub returns-clause-owned_over : goal.returns-clause-owned_over
-returns-clause-owned_over g c = c.loop-k.invariant.owned_over
+pub returns-clause-made : goal.returns-clause-made
+returns-clause-made g c = record {
+  owned = c.loop-k.invariant.owned;
+  owned_over = c.loop-k.invariant.owned_over;
+  width = omega (arith, c.loop-k.invariant.width);
+}

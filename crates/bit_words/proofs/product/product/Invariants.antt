@@ -10,10 +10,10 @@ invariant-loop-k g l =
     let reads = g.L.Logic.reads in
     record {
       extends : Extends owns reads g.L.Logic.count l.fn.g l.g;
-      width : length l.higher ≡ l.k;
-      owned : OwnsAll owns l.g l.higher;
-      owned_over : owns l.g l.over;
-      owned_some : owns l.g l.some;
-      some : (vs : List Bool) → reads l.g vs l.some ≡ ltb 0 (nat_of (drop (l.width - l.k) (map (reads l.fn.g vs) l.b)));
-      value : (vs : List Bool) → IsUnsigned l.k (nat_of (map (reads l.fn.g vs) (take l.k l.a)) * nat_of (drop (l.width - l.k) (map (reads l.fn.g vs) l.b))) (nat_of (map (reads l.g vs) l.higher)) (reads l.g vs l.over);
+      width : length l.higher.number ≡ l.k;
+      owned : OwnsAll owns l.g l.higher.number;
+      owned_over : owns l.g l.higher.over;
+      owned_some : owns l.g l.higher.some;
+      some : (vs : List Bool) → reads l.g vs l.higher.some ≡ ltb 0 (nat_of (drop (l.width - l.k) (map (reads l.fn.g vs) l.b)));
+      value : (vs : List Bool) → IsUnsigned l.k (nat_of (map (reads l.fn.g vs) (take l.k l.a)) * nat_of (drop (l.width - l.k) (map (reads l.fn.g vs) l.b))) (nat_of (map (reads l.g vs) l.higher.number)) (reads l.g vs l.higher.over);
     }

@@ -11,7 +11,7 @@ returns-clause-total g c vs =
     let reads = g.L.Logic.reads in
     let first = reads c.args.g.now vs in
     let next = reads c.mask.new.g vs in
-    let left = take_all c.args.width c.in_ok-row.row (omega (arith, c.in_ok-row.ensures.width, ap length c.in_ok-low.ensures, length-take c.args.width c.args.a.now)) in
+    let left = take_all c.args.width c.in_ok-row.row (omega (arith, c.in_ok-row.ensures.made.width, ap length c.in_ok-low.ensures, length-take c.args.width c.args.a.now)) in
     let doubled = c.in_ok-push_low.ensures.ok in
     let right = take_all c.args.width c.push_low.new.self (omega (arith, ap length doubled, ap length c.in_ok-doubled.ensures)) in
     let row = ap nat_of (c.in_ok-row.ensures.value vs) ∙ nat_masked (first c.args.digit) (map first c.in_ok-low.low) ∙ ap (λ w. cond (first c.args.digit) (nat_of (map first w)) 0) c.in_ok-low.ensures in
@@ -35,7 +35,7 @@ pub returns-in_err-push_low-clause-extends : goal.returns-in_err-push_low-clause
 returns-in_err-push_low-clause-extends g c = c.mask.ensures.extends
 
 pub carry_sum-requires-clause-left : goal.carry_sum-requires-clause-left
-carry_sum-requires-clause-left g c = c.in_ok-row.ensures.owned
+carry_sum-requires-clause-left g c = c.in_ok-row.ensures.made.owned
 
 pub carry_sum-requires-clause-right : goal.carry_sum-requires-clause-right
 carry_sum-requires-clause-right g c = owns_low_push c.constant-no.ensures.owned (owns_kept c.mask.ensures.extends c.requires.higher) (c.in_ok-push_low.ensures.ok ∙ ap (λ w. c.constant-no.result ∷ w) c.in_ok-doubled.ensures)

@@ -17,9 +17,9 @@ loop-k-init g c =
     record {
       extends = c.is_zero.ensures.extends;
       width = ap length c.new-quotient.ensures;
-      width_rest = c.in_ok-rest.ensures.width;
+      width_rest = c.in_ok-rest.ensures.made.width;
       owned = subst (OwnsAll g.L.Logic.owns c.is_zero.new.g) (sym c.new-quotient.ensures) owns_none;
-      owned_rest = c.in_ok-rest.ensures.owned;
+      owned_rest = c.in_ok-rest.ensures.made.owned;
       owned_some = c.not-some.ensures.owned;
       some = λ vs. c.not-some.ensures.value vs ∙ ap not (c.in_ok-none.ensures.value vs) ∙ not_zero (nat_of (map (first vs) c.args.b.now));
       none = λ vs h. empty vs;

@@ -27,7 +27,7 @@ returns-clause-value g c vs some half below =
     let shifted_is = c.in_ok-push_low.ensures.ok ∙ ap (λ w. c.args.digit ∷ w) c.in_ok-shifted.ensures in
     let shifted_long : length c.push_low.new.self ≤ width = omega (arith, ap length shifted_is, length-take (width - 1) c.args.rest.now) in
     let left = take_all width c.push_low.new.self shifted_long in
-    let right = take_all width c.in_ok-flipped.flipped (omega (arith, c.in_ok-flipped.ensures.width)) in
+    let right = take_all width c.in_ok-flipped.flipped (omega (arith, c.in_ok-flipped.ensures.made.width)) in
     let flipped = ap nat_of (c.in_ok-flipped.ensures.value vs) in
     let total = rw (left, right, flipped, c.constant-yes.ensures.value vs) at (c.in_ok-difference.ensures.total vs) in
     let turned = subst (λ (k : ℕ). nat_of (map not bits) + nat_of bits + 1 ≡ 2 ^ k) size (nat_not bits) in
@@ -51,7 +51,7 @@ pub carry_sum-requires-clause-left : goal.carry_sum-requires-clause-left
 carry_sum-requires-clause-left g c = owns_low_push c.requires.digit (owns_taken (c.len-width.result - 1) c.requires.rest) (c.in_ok-push_low.ensures.ok ∙ ap (λ w. c.args.digit ∷ w) c.in_ok-shifted.ensures)
 
 pub carry_sum-requires-clause-right : goal.carry_sum-requires-clause-right
-carry_sum-requires-clause-right g c = c.in_ok-flipped.ensures.owned
+carry_sum-requires-clause-right g c = c.in_ok-flipped.ensures.made.owned
 
 pub carry_sum-requires-clause-carry : goal.carry_sum-requires-clause-carry
 carry_sum-requires-clause-carry g c = c.constant-yes.ensures.owned
@@ -81,10 +81,10 @@ pub returns-clause-extends : goal.returns-clause-extends
 returns-clause-extends g c = extends_trans c.carry_sum.ensures.extends (extends_trans c.and.ensures.extends c.choose_word.ensures.extends)
 
 pub returns-clause-owned : goal.returns-clause-owned
-returns-clause-owned g c = c.in_ok-left.ensures.owned
+returns-clause-owned g c = c.in_ok-left.ensures.made.owned
 
 pub returns-clause-owned_digit : goal.returns-clause-owned_digit
 returns-clause-owned_digit g c = c.choose_word.ensures.extends.kept _ c.in_ok-taken.ensures.owned
 
 pub returns-clause-width : goal.returns-clause-width
-returns-clause-width g c = c.in_ok-left.ensures.width ∙ c.in_ok-difference.ensures.width ∙ c.len-width.ensures
+returns-clause-width g c = c.in_ok-left.ensures.made.width ∙ c.in_ok-difference.ensures.width ∙ c.len-width.ensures

@@ -26,21 +26,21 @@ loop-init g c =
 
 both : (g : given.Over) (c : goal.After-drop-number-inside-in-loop g) (vs : List Bool) →
     let z = int_read g.L.Logic.reads c.args.g.now vs c.args.word.now in
-    (g.L.Logic.reads c.or.new.g vs c.in_ok-over.over ≡ not (is_within (2 ^ (length c.in_ok-low.low - 1)) z))
-    × (is_within (2 ^ (length c.in_ok-low.low - 1)) z ≡ true → int_read g.L.Logic.reads c.or.new.g vs c.in_ok-low.low ≡ z)
+    (g.L.Logic.reads c.or.new.g vs c.in_ok-over.over ≡ not (is_within (2 ^ (length c.in_ok-low.low.word - 1)) z))
+    × (is_within (2 ^ (length c.in_ok-low.low.word - 1)) z ≡ true → int_read g.L.Logic.reads c.or.new.g vs c.in_ok-low.low.word ≡ z)
 both g c vs =
     let reads = g.L.Logic.reads in
     let before = c.loop.invariant in
     let z = int_read reads c.args.g.now vs c.args.word.now in
-    let n : ℕ = length c.in_ok-low.low - 1 in
-    let size : length c.loop.number - 1 ≡ length c.in_ok-low.low = omega (arith, c.in_ok-low.ensures.width, c.len-width.ensures) in
-    let some : 0 < length c.in_ok-low.low = omega (arith, before.width, c.requires.some) in
-    let width : c.len-width.result - 1 ≡ length c.in_ok-low.low = omega (arith, c.in_ok-low.ensures.width) in
-    let next : length c.in_ok-low.low ≡ suc n = omega arith in
+    let n : ℕ = length c.in_ok-low.low.word - 1 in
+    let size : length c.loop.number - 1 ≡ length c.in_ok-low.low.word = omega (arith, c.in_ok-low.ensures.made.width, c.len-width.ensures) in
+    let some : 0 < length c.in_ok-low.low.word = omega (arith, before.width, c.requires.some) in
+    let width : c.len-width.result - 1 ≡ length c.in_ok-low.low.word = omega (arith, c.in_ok-low.ensures.made.width) in
+    let next : length c.in_ok-low.low.word ≡ suc n = omega arith in
     let whole : 2 ^ (length c.loop.number - 1) ≡ 2 ^ n + 2 ^ n = ap (λ (k : ℕ). 2 ^ k) (size ∙ next) ∙ power_double n in
     let over = c.narrow.ensures.extends.same c.loop.over before.owned_over vs in
-    let kept = ap int_of (reads_kept c.or.ensures.extends c.in_ok-low.ensures.owned vs) in
-    let fit = narrow_more (2 ^ n) z (int_of (map (reads c.loop.g vs) c.loop.number)) (int_of (map (reads c.narrow.new.g vs) c.in_ok-low.low)) (reads c.loop.g vs c.loop.over) (reads c.narrow.new.g vs c.in_ok-low.left)
+    let kept = ap int_of (reads_kept c.or.ensures.extends c.in_ok-low.ensures.made.owned vs) in
+    let fit = narrow_more (2 ^ n) z (int_of (map (reads c.loop.g vs) c.loop.number)) (int_of (map (reads c.narrow.new.g vs) c.in_ok-low.low.word)) (reads c.loop.g vs c.loop.over) (reads c.narrow.new.g vs c.in_ok-low.low.over)
     (rw whole at (before.over vs)) (rw whole at (before.value vs)) (rw width at (c.in_ok-low.ensures.over vs)) (rw width at (c.in_ok-low.ensures.value vs)) in
     rw (c.in_ok-over.ensures.value vs, over, kept) fit
 
@@ -49,9 +49,9 @@ loop-preserved g c =
     let before = c.loop.invariant in
     record {
       extends = extends_trans before.extends (extends_trans c.narrow.ensures.extends c.or.ensures.extends);
-      owned = owns_kept c.or.ensures.extends c.in_ok-low.ensures.owned;
+      owned = owns_kept c.or.ensures.extends c.in_ok-low.ensures.made.owned;
       owned_over = c.in_ok-over.ensures.owned;
-      width = omega (arith, before.width, c.in_ok-low.ensures.width, c.len-width.ensures, c.requires.some);
+      width = omega (arith, before.width, c.in_ok-low.ensures.made.width, c.len-width.ensures, c.requires.some);
       over = λ vs. (both g c vs).0;
       value = λ vs. (both g c vs).1;
     }

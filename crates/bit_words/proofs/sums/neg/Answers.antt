@@ -14,10 +14,10 @@ nothing g c vs = ap int_of (c.in_ok-nothing.ensures.value vs) ∙ int_zeros c.le
 
 pub returns-clause-over : goal.returns-clause-over
 returns-clause-over g c vs =
-    subst (λ (z : ℤ). OverflowsAs (g.L.Logic.reads c.sub.new.g vs c.in_ok-opposite.over) (length c.args.a.now) z) (from_zero _ _ (nothing g c vs))
-    (rw (c.in_ok-nothing.ensures.width, c.len.ensures) at (c.in_ok-opposite.ensures.over vs))
+    subst (λ (z : ℤ). OverflowsAs (g.L.Logic.reads c.sub.new.g vs c.in_ok-opposite.opposite.over) (length c.args.a.now) z) (from_zero _ _ (nothing g c vs))
+    (rw (c.in_ok-nothing.ensures.made.width, c.len.ensures) at (c.in_ok-opposite.ensures.over vs))
 
 pub returns-clause-value : goal.returns-clause-value
 returns-clause-value g c vs =
-    subst (λ (z : ℤ). Holds (int_read g.L.Logic.reads c.sub.new.g vs c.in_ok-opposite.opposite) (length c.args.a.now) z) (from_zero _ _ (nothing g c vs))
-    (rw (c.in_ok-nothing.ensures.width, c.len.ensures) at (c.in_ok-opposite.ensures.value vs))
+    subst (λ (z : ℤ). Holds (int_read g.L.Logic.reads c.sub.new.g vs c.in_ok-opposite.opposite.word) (length c.args.a.now) z) (from_zero _ _ (nothing g c vs))
+    (rw (c.in_ok-nothing.ensures.made.width, c.len.ensures) at (c.in_ok-opposite.ensures.value vs))

@@ -50,11 +50,9 @@ returns-in_err-push-clause-extends g c = extends_trans c.carry_sum.ensures.exten
 pub returns-clause-extends : goal.returns-clause-extends
 returns-clause-extends g c = extends_trans c.carry_sum.ensures.extends c.top_digit.ensures.extends
 
-pub returns-clause-owned : goal.returns-clause-owned
-returns-clause-owned g c = owns_push (owns_kept c.top_digit.ensures.extends c.in_ok-sum.ensures.owned) c.in_ok-digit.ensures.owned c.in_ok-push.ensures.ok
-
-pub returns-clause-owned_over : goal.returns-clause-owned_over
-returns-clause-owned_over g c = c.in_ok-digit.ensures.owned_over
-
-pub returns-clause-width : goal.returns-clause-width
-returns-clause-width g c = omega (arith, simp length-append at (ap length c.in_ok-push.ensures.ok), c.in_ok-sum.ensures.width)
+pub returns-clause-made : goal.returns-clause-made
+returns-clause-made g c = record {
+  owned = owns_push (owns_kept c.top_digit.ensures.extends c.in_ok-sum.ensures.owned) c.in_ok-digit.ensures.owned c.in_ok-push.ensures.ok;
+  owned_over = c.in_ok-digit.ensures.owned_over;
+  width = omega (arith, simp length-append at (ap length c.in_ok-push.ensures.ok), c.in_ok-sum.ensures.width);
+}

@@ -17,7 +17,7 @@ taken_away g c vs =
     rw (c.in_ok-flipped.ensures.value vs, c.constant-yes.ensures.value vs) (omega (arith, ints))
 
 pub returns-clause-over : goal.returns-clause-over
-returns-clause-over g c vs = subst (λ (z : ℤ). OverflowsAs (g.L.Logic.reads c.signed_sum.new.g vs c.in_ok-difference.over) (length c.args.a.now) z) (taken_away g c vs) (c.in_ok-difference.ensures.over vs)
+returns-clause-over g c vs = subst (λ (z : ℤ). OverflowsAs (g.L.Logic.reads c.signed_sum.new.g vs c.in_ok-difference.difference.over) (length c.args.a.now) z) (taken_away g c vs) (c.in_ok-difference.ensures.over vs)
 
 pub returns-clause-value : goal.returns-clause-value
-returns-clause-value g c vs = subst (λ (z : ℤ). Holds (int_read g.L.Logic.reads c.signed_sum.new.g vs c.in_ok-difference.difference) (length c.args.a.now) z) (taken_away g c vs) (c.in_ok-difference.ensures.value vs)
+returns-clause-value g c vs = subst (λ (z : ℤ). Holds (int_read g.L.Logic.reads c.signed_sum.new.g vs c.in_ok-difference.difference.word) (length c.args.a.now) z) (taken_away g c vs) (c.in_ok-difference.ensures.value vs)

@@ -1,6 +1,6 @@
 use Rattle.std.proofs.Common.{◌≡◌, ◌∙◌, subst, get_or, [], false}
 use Rattle.bit_graph.specs.Gates.{Gates, gate_reads, values_after}
-use Rattle.bit_graph.proofs.Growth.{made_reads}
+use Rattle.bit_graph.specs.Values.{made_reads}
 use Rattle.bit_graph.proofs.graph.Graph.find.Goals as goal
 
 pub returns-in_ok-made-in-New-clause-value : goal.returns-in_ok-made-in-New-clause-value

@@ -1,6 +1,7 @@
 use Rattle.std.proofs.Common.{◌≡◌, ◌∙◌, ap, subst, []}
 use Rattle.bit_graph.specs.Gates.{Gates, Owns, source_reads, gate_reads, values_after, source_of}
-use Rattle.bit_graph.proofs.Growth.{made_reads, owns_parts}
+use Rattle.bit_graph.specs.Values.{made_reads}
+use Rattle.bit_graph.proofs.Growth.{owns_parts}
 use Rattle.bit_graph.proofs.graph.Graph.parts.Goals as goal
 
 pub returns-in-Made-clause-value : goal.returns-in-Made-clause-value

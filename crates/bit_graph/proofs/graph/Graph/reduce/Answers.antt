@@ -1,4 +1,5 @@
-use Rattle.std.proofs.Common.{◌∙◌, length, []}
+use Rattle.std.proofs.Common.{◌≡◌, ◌∙◌, length, [], subst}
+use Rattle.bit_graph.specs.Rules.{IsNeeded}
 use Rattle.bit_graph.specs.Gates.{reading, values_after}
 use Rattle.bit_graph.proofs.Conjunctions.{replaced}
 use Rattle.bit_graph.proofs.graph.Graph.reduce.Goals as goal
@@ -19,3 +20,16 @@ returns-clause-value c vs =
     let read = reading c.args.self.now vs in
     c.in_order.ensures.value vs (values_after vs [] c.args.self.now.gates)
     ∙ replaced (read c.args.a) (read c.args.b) (read c.shorten-right.result) (read c.shorten-left.result) (c.shorten-right.ensures.value vs) (c.shorten-left.ensures.value vs)
+
+pub returns-clause-needed : goal.returns-clause-needed
+returns-clause-needed c x e =
+    let same : c.in_order.result ≡ x = cc in
+    subst (IsNeeded c.args.self.now c.args.a c.args.b) same (record {
+      whole = c.in_default.ensures.open;
+      right = c.shorten-right.result;
+      left = c.shorten-left.result;
+      right_short = c.shorten-right.ensures.exact;
+      left_short = c.shorten-left.ensures.exact;
+      short = c.in_default-simplify.ensures.open;
+      joins = c.in_order.ensures.joins;
+    })
