@@ -7,4 +7,5 @@ pub mod Progressions
 pub mod Repetition
 pub mod Sameness
 pub mod Texts
+mod TypingExamples
 mod WorkedExamples

@@ -28,7 +28,7 @@ pub use outcome::{FaultKind, Halt, Halted, Outcome};
 pub use refusal::{Cause, Refusal, Source};
 use std::alloc::AllocError;
 pub use tree::{Act, Arm, Arms, Expr, Exprs, Func, Funcs, Prog, Stmt, Stmts};
-pub use typing::{Fact, Facts, Signature, Slot, Ty, Types, Tys};
+pub use typing::{Fact, Facts, Signature, Slot, Ty, TypeError, TypeSet, Types, Tys};
 pub use value::{Value, Values};
 
 /// Want of memory, where a call has no other refusal.

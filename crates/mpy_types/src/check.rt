@@ -1,0 +1,82 @@
+//! The typing of a program.
+ghost use Rattle.std.specs.Prelude.{◌≡◌, ◌<◌, ◌^◌, length, map, IfOk};
+ghost use Rattle.mpy_tree.specs.Running.{found};
+ghost use Rattle.mpy_tree.specs.View.{routine_of, routines_of};
+ghost use Rattle.mpy_tree.specs.Typings.{Checks};
+ghost use Rattle.mpy_tree.specs.Flows.{flows, IsLeast};
+ghost use Rattle.mpy_tree.specs.Leasts.{least};
+ghost use Rattle.mpy_tree.specs.Rules.{single};
+ghost use Rattle.mpy_tree.specs.Faults.{or_fault, names_fault, entry_fault, slots_fault, nodes_fault, slots, fault_on, broken_from};
+ghost use Rattle.mpy_types.specs.Tables.{facts_of};
+ghost use Rattle.mpy_types.specs.Views.{place_of};
+
+use crate::broken::least_broken;
+use crate::collect::flows;
+use crate::faults::{entry_fault, names_fault};
+use crate::slots::{Place, facts_at, slots, slots_fault};
+use crate::solve::least_facts;
+use crate::table::Table;
+use mpy_tree::{Cause, Facts, Func, NoMemory, Prog, Signature, TypeError, Types};
+use std::alloc::Global;
+
+/// The typing of a program that is entered so: the least set of facts, if it gives each slot one type and no
+/// name, call or node is at fault. Else the first fault.
+pub fn check_types(alloc: Global, p: &Prog, s: &Signature) -> Result<Types, TypeError>
+    ensures { Checks result (routines_of p.now) s.now.entry s.now.params }
+{
+    let funcs = p.funcs.items.as_slice();
+    if let Some(e) = early_fault(alloc, funcs, s)? {
+        return Err(e);
+    }
+    let table = least_set(alloc, funcs, s)?;
+    let places = slots(alloc, funcs)?;
+    if let Some(e) = late_fault(alloc, funcs, &table, &places)? {
+        return Err(e);
+    }
+    let facts = facts_at(alloc, &table, &places)?;
+    Ok(Types {
+        facts: Facts::from_vec(facts),
+    })
+}
+
+// The first fault of names, numbers of arguments or the entry.
+fn early_fault(alloc: Global, funcs: &[Func], s: &Signature) -> Result<Option<TypeError>, NoMemory>
+    ensures { IfOk result (λ e. e ≡ or_fault (names_fault (map routine_of funcs.now)) (entry_fault (found (map routine_of funcs.now) s.now.entry) (length s.now.params))) }
+{
+    let fault = names_fault(alloc, funcs)?;
+    if fault.is_some() {
+        return Ok(fault);
+    }
+    Ok(entry_fault(funcs, &s.entry, s.params.items().len()))
+}
+
+// The least set of facts.
+fn least_set<'a>(alloc: Global, funcs: &'a [Func], s: &Signature) -> Result<Table<'a>, NoMemory>
+    ensures { IfOk result (λ t. IsLeast (facts_of t) (map routine_of funcs.now) s.now.entry s.now.params) }
+{
+    let flows = flows(alloc, funcs, &s.entry, s.params.items())?;
+    least_facts(alloc, funcs, &flows)
+}
+
+// The first fault of a slot, or else of a node, by the facts of a table.
+fn late_fault(
+    alloc: Global,
+    funcs: &[Func],
+    table: &Table<'_>,
+    places: &[Place<'_>],
+) -> Result<Option<TypeError>, NoMemory>
+    requires { map place_of places.now ≡ slots (map routine_of funcs.now) }
+    ensures { IfOk result (λ e. e ≡ or_fault (slots_fault (facts_of table.now) (slots (map routine_of funcs.now))) (nodes_fault (single (facts_of table.now)) (map routine_of funcs.now))) }
+{
+    let fault = slots_fault(table, places);
+    if fault.is_some() {
+        return Ok(fault);
+    }
+    match least_broken(alloc, table, funcs)? {
+        None => Ok(None),
+        Some(line) => Ok(Some(TypeError::Fault {
+            cause: Cause::TypeFault,
+            line,
+        })),
+    }
+}
