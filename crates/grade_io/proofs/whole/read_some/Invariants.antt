@@ -1,7 +1,8 @@
--- The buffer keeps its length, and a read that failed took nothing.
+-- The buffer keeps its length; a read that was interrupted took nothing, and is no fault.
 use Rattle.std.proofs.Common.{◌≡◌, length}
 use Rattle.std.specs.Io.KnownBytes.{Keeps}
+use Rattle.grade_io.specs.Counting.{faults_of, inner_of}
 use Rattle.grade_io.proofs.whole.read_some.Given as goal
 
 abbrev pub invariant-loop : goal.invariant-loop
-invariant-loop g l = (length l.buf ≡ length l.fn.buf) × Keeps (g.F.Read.remaining l.fn.file) (g.F.Read.remaining l.file)
+invariant-loop g l = (length l.buf ≡ length l.fn.buf) × Keeps (g.F.Read.remaining (inner_of l.fn.file)) (g.F.Read.remaining (inner_of l.file)) × (faults_of l.file ≡ faults_of l.fn.file)
