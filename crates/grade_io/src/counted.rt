@@ -1,4 +1,5 @@
-//! Readers and writers of the system, one call at a time, with a count of the calls that failed.
+//! Readers and writers of the system, with a count of the calls that failed. Only here a fault is
+//! counted for one of them, so nothing else can be told as one.
 ghost use Rattle.std.specs.Prelude.{◌≡◌, ◌<◌, ◌≤◌, ◌↔◌, Ok, Err, IfErr, IfOk, IsErr, IsErrAnd};
 ghost use Rattle.std.specs.Prelude.{OnErr, length, take};
 ghost use Rattle.std.specs.Io.KnownBytes.{Appends, Consumes, IsAtEnd, Keeps};
@@ -10,13 +11,16 @@ use crate::plan::count_fault;
 use std::io;
 use std::io::{ErrorKind, Read, Write};
 
+/// How often a read or a write is tried that a signal interrupts each time.
+const TRIES: u32 = 1000;
+
 /// A call of the system failed, and was counted.
 #[derive(Clone, Copy, Debug, PartialEq, Eq)]
 pub struct Fault;
 
 /// Why one call moved no byte.
 #[derive(Clone, Copy, Debug, PartialEq, Eq)]
-pub(crate) enum Stall {
+enum Stall {
     /// A signal interrupted the call. This is no fault.
     Interrupted,
     /// The call failed, and was counted.
@@ -94,7 +98,7 @@ impl<T> Counted<T> {
     }
 
     /// Counts a fault, and nothing else.
-    pub(crate) fn fail(&mut self) -> Fault
+    fn fail(&mut self) -> Fault
         ensures counted { self.new
             ≡ counted (inner_of self.old) (one_more (faults_of self.old)) }
         ensures later { faults_of self.old ≤ faults_of self.new }
@@ -117,7 +121,7 @@ impl<T> Counted<T> {
 
 impl<F: Read> Counted<F> {
     /// One read.
-    pub(crate) fn read_once(&mut self, buf: &mut [u8]) -> Result<usize, Stall>
+    fn read_once(&mut self, buf: &mut [u8]) -> Result<usize, Stall>
         ensures most { IfOk result (λ n. n ≤ length buf.new) }
         ensures ok { IfOk result (λ n. Consumes (F.remaining (inner_of self.old))
             (F.remaining (inner_of self.new)) (take n buf.new)) }
@@ -131,11 +135,32 @@ impl<F: Read> Counted<F> {
         self.count(&read);
         read
     }
+
+    /// Reads once, and again where a signal interrupted the read. One that failed isn't made again.
+    pub(crate) fn read_some(&mut self, buf: &mut [u8]) -> Result<usize, Fault>
+        ensures most { IfOk result (λ n. n ≤ length buf.new) }
+        ensures ok { IfOk result (λ n. Consumes (F.remaining (inner_of self.old))
+            (F.remaining (inner_of self.new)) (take n buf.new)) }
+        ensures end { IfOk result (λ n. n ≡ 0 → 0 < length buf.old
+            → IsAtEnd (F.remaining (inner_of self.new))) }
+        ensures err { OnErr result (Keeps (F.remaining (inner_of self.old))
+            (F.remaining (inner_of self.new))) }
+        ensures faults { CallFaults result (faults_of self.old) (faults_of self.new) }
+    {
+        for _ in 0..TRIES {
+            match self.read_once(buf) {
+                Ok(count) => return Ok(count),
+                Err(Stall::Failed) => return Err(Fault),
+                Err(Stall::Interrupted) => {}
+            }
+        }
+        Err(self.fail())
+    }
 }
 
 impl<W: Write> Counted<W> {
     /// One write. One that takes no byte is a fault.
-    pub(crate) fn write_once(&mut self, piece: &[u8]) -> Result<usize, Stall>
+    fn write_once(&mut self, piece: &[u8]) -> Result<usize, Stall>
         ensures most { IfOk result (λ n. n ≤ length piece.now) }
         ensures some { IfOk result (λ n. 0 < n) }
         ensures ok { IfOk result (λ n. Appends (W.contents (inner_of self.old))
@@ -148,5 +173,27 @@ impl<W: Write> Counted<W> {
         let written = taken_by(self.inner.write(piece));
         self.count(&written);
         written
+    }
+
+    /// Writes once, and again where a signal interrupted the write. One that failed isn't made
+    /// again.
+    pub(crate) fn write_some(&mut self, piece: &[u8]) -> Result<usize, Fault>
+        ensures most { IfOk result (λ n. n ≤ length piece.now) }
+        ensures some { IfOk result (λ n. 0 < n) }
+        ensures ok { IfOk result (λ n. Appends (W.contents (inner_of self.old))
+            (W.contents (inner_of self.new)) (take n piece.now)) }
+        ensures err { OnErr result (Keeps (W.contents (inner_of self.old))
+            (W.contents (inner_of self.new))) }
+        ensures faults { CallFaults result (faults_of self.old) (faults_of self.new) }
+        ensures later { faults_of self.old ≤ faults_of self.new }
+    {
+        for _ in 0..TRIES {
+            match self.write_once(piece) {
+                Ok(count) => return Ok(count),
+                Err(Stall::Failed) => return Err(Fault),
+                Err(Stall::Interrupted) => {}
+            }
+        }
+        Err(self.fail())
     }
 }

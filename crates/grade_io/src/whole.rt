@@ -5,34 +5,10 @@ ghost use Rattle.std.specs.Io.KnownBytes.{Appends, Consumes, IsAtEnd, Keeps};
 ghost use Rattle.grade_io.specs.Counting.{CallFaults, ReadFaults, faults_of, inner_of};
 ghost use Rattle.grade_io.specs.Moves.{AppendsFront, TakesSo};
 
-use crate::counted::{Counted, Fault, Stall};
+use crate::counted::{Counted, Fault};
 use crate::devices::FetchError;
 use std::alloc::Global;
 use std::io::{Read, Write};
-
-/// How often a read or a write is tried that a signal interrupts each time.
-const TRIES: u32 = 1000;
-
-/// Reads once, and again where a signal interrupted the read.
-fn read_some<F: Read>(file: &mut Counted<F>, buf: &mut [u8]) -> Result<usize, Fault>
-    ensures most { IfOk result (λ n. n ≤ length buf.new) }
-    ensures ok { IfOk result (λ n. Consumes (F.remaining (inner_of file.old))
-        (F.remaining (inner_of file.new)) (take n buf.new)) }
-    ensures end { IfOk result (λ n. n ≡ 0 → 0 < length buf.old
-        → IsAtEnd (F.remaining (inner_of file.new))) }
-    ensures err { OnErr result (Keeps (F.remaining (inner_of file.old))
-        (F.remaining (inner_of file.new))) }
-    ensures faults { CallFaults result (faults_of file.old) (faults_of file.new) }
-{
-    for _ in 0..TRIES {
-        match file.read_once(buf) {
-            Ok(count) => return Ok(count),
-            Err(Stall::Failed) => return Err(Fault),
-            Err(Stall::Interrupted) => {}
-        }
-    }
-    Err(file.fail())
-}
 
 /// Reads to the end of the file, or one byte past `most`.
 fn read_within<F: Read>(
@@ -56,7 +32,7 @@ fn read_within<F: Read>(
     'fill: while bytes.len() as u64 <= most {
         let room = most + 1 - bytes.len() as u64;
         let want = room.min(4096) as usize;
-        let count = read_some(file, &mut buf[..want])?;
+        let count = file.read_some(&mut buf[..want])?;
         if count == 0 {
             return Ok(bytes);
         }
@@ -125,14 +101,7 @@ pub fn put_piece<W: Write>(out: &mut Counted<W>, piece: &[u8]) -> Result<usize, 
     if piece.is_empty() {
         return Ok(0);
     }
-    for _ in 0..TRIES {
-        match out.write_once(piece) {
-            Ok(count) => return Ok(count),
-            Err(Stall::Failed) => return Err(Fault),
-            Err(Stall::Interrupted) => {}
-        }
-    }
-    Err(out.fail())
+    out.write_some(piece)
 }
 
 /// Writes all of the bytes. A write of no byte is a fault.

@@ -32,17 +32,28 @@ fn moves_bytes(rt: HostRuntime) -> Result<(), Fail> {
         let given = fetched.as_ref().map(|text| text.as_slice()).map_err(|e| *e);
         assert!(rt; given == wanted, "{name} up to {most}");
     }
-    assert!(rt; fs::read(&rt, "kept")? == bytes, "other names keep their bytes");
+    assert!(rt;
+        fs::read(&rt, "kept")? == bytes,
+        "other names keep their bytes"
+    );
     // Each row: the name, and what the store answers for bytes and for none.
     let stores: [(&str, Result<(), StoreError>, Result<(), StoreError>); 3] = [
-        ("absent/file", Err(StoreError::Failed), Err(StoreError::Failed)),
+        (
+            "absent/file",
+            Err(StoreError::Failed),
+            Err(StoreError::Failed),
+        ),
         ("folder", Err(StoreError::Failed), Err(StoreError::Failed)),
         // A device that opens, and takes no byte.
         ("/dev/full", Err(StoreError::Failed), Ok(())),
     ];
     for (name, with_bytes, with_none) in stores {
         assert_eq!(rt; shelf.store(name, &bytes), with_bytes, "to {name}");
-        assert_eq!(rt; shelf.store(name, &Vec::new(alloc)), with_none, "nothing to {name}");
+        assert_eq!(rt;
+            shelf.store(name, &Vec::new(alloc)),
+            with_none,
+            "nothing to {name}"
+        );
     }
     let mut out = HostSink::new(&rt);
     assert_eq!(rt; out.put(b"")?, 0);

@@ -57,7 +57,7 @@ impl Write for Slow {
 }
 
 /// With so much room, or so many bytes to read, and no fault so far.
-fn slow(bytes: Vec<u8>, room: usize, fails: u32) -> Counted<Slow> {
+fn counted(bytes: Vec<u8>, room: usize, fails: u32) -> Counted<Slow> {
     let file = Slow {
         bytes,
         moved: 0,
@@ -82,7 +82,7 @@ fn reads_one_byte_a_call(rt: HostRuntime) -> Result<(), Fail> {
         (5, 13, Ok(b"12345"), 12),
     ];
     for (most, fails, wanted, last) in rows {
-        let mut file = slow(b"12345".to_vec(alloc)?, 5, fails);
+        let mut file = counted(b"12345".to_vec(alloc)?, 5, fails);
         let read = read_whole(&mut file, alloc, most);
         let given = read.as_ref().map(|bytes| bytes.as_slice()).map_err(|e| *e);
         assert!(rt; given == wanted, "up to {most}, with call {fails} failing");
@@ -104,7 +104,7 @@ fn writes_one_byte_a_call(rt: HostRuntime) -> Result<(), Fail> {
         (5, 11, Ok(()), b"12345"),
     ];
     for (room, fails, wanted, written) in rows {
-        let mut file = slow(Vec::new(alloc), room, fails);
+        let mut file = counted(Vec::new(alloc), room, fails);
         assert_eq!(rt;
             write_whole(&mut file, b"12345"),
             wanted,
@@ -128,7 +128,7 @@ fn puts_one_byte_a_call(rt: HostRuntime) -> Result<(), Fail> {
         (0, 1, b"", Ok(0), 0),
     ];
     for (room, fails, piece, wanted, last) in rows {
-        let mut out = slow(Vec::new(alloc), room, fails);
+        let mut out = counted(Vec::new(alloc), room, fails);
         assert_eq!(rt;
             put_piece(&mut out, piece),
             wanted,
