@@ -1,9 +1,7 @@
 -- A file that is known to be too long, by its told bytes or by some.
-use Rattle.std.proofs.Common.{◌≡◌, ◌+◌, ◌<◌, ℕ, List, length, replicate, Option, Some, None, sym, arith, refl}
+use Rattle.std.proofs.Common.{◌≡◌, ◌+◌, ◌<◌, ℕ, List, length, replicate, Option, Some, None, arith, refl}
 use Rattle.std.proofs.lemmas.Option.{same_Some}
 use Rattle.std.proofs.lemmas.List.{length-replicate}
-use Rattle.grade_io.specs.Devices.{ShelfState}
-use Rattle.grade_io.specs.Kept.{Holds}
 
 pub record LongFile (o : Option (List ℕ)) (most : ℕ) : Type 0 where
   pub bytes : List ℕ

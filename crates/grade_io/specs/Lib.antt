@@ -1,4 +1,5 @@
 pub mod Calls
+pub mod Counting
 pub mod Devices
 pub mod Faults
 pub mod Files

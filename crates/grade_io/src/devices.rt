@@ -14,6 +14,7 @@ ghost use Rattle.grade_io.specs.Plans.{IsToFail, after_call};
 ghost use Rattle.grade_io.specs.Kept.{FilesLeft, OthersKept};
 ghost use Rattle.grade_io.specs.Written.{Wrote, WroteNothing};
 
+use crate::counted::Fault;
 use std::alloc::{AllocError, AllocFailed, Global};
 
 /// Want of memory, where a call has no other refusal.
@@ -48,6 +49,14 @@ pub enum PutError {
     NoMemory,
 }
 
+impl From<Fault> for FetchError {
+    ghost from_gives = { λ _ e. e ≡ fetch_error.Failed };
+
+    fn from(_fault: Fault) -> FetchError {
+        FetchError::Failed
+    }
+}
+
 impl From<AllocError> for FetchError {
     ghost from_gives = { λ _ e. e ≡ fetch_error.NoMemory };
 
@@ -64,6 +73,14 @@ impl<T: Drop> From<AllocFailed<T>> for FetchError {
     }
 }
 
+impl From<Fault> for StoreError {
+    ghost from_gives = { λ _ e. e ≡ store_error.Failed };
+
+    fn from(_fault: Fault) -> StoreError {
+        StoreError::Failed
+    }
+}
+
 impl From<AllocError> for StoreError {
     ghost from_gives = { λ _ e. e ≡ store_error.NoMemory };
 
@@ -77,6 +94,14 @@ impl<T: Drop> From<AllocFailed<T>> for StoreError {
 
     fn from(_error: AllocFailed<T>) -> StoreError {
         StoreError::NoMemory
+    }
+}
+
+impl From<Fault> for PutError {
+    ghost from_gives = { λ _ e. e ≡ put_error.Failed };
+
+    fn from(_fault: Fault) -> PutError {
+        PutError::Failed
     }
 }
 

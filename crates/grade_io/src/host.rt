@@ -1,32 +1,17 @@
 //! The real files and the standard output. What they hold isn't told.
 //!
-//! What is said of a read or a write stands in `whole`, over any reader and writer; here the calls
-//! of the system are made, and what they answered is counted.
-ghost use Rattle.std.specs.Prelude.{◌≡◌, ◌≢◌, ◌≤◌, None, IfErr, IfOk, false, vec_len};
+//! What is said of a read or a write stands in `counted` and `whole`, over any reader and writer.
+//! Here files are opened by the names that were given, and nothing is decided.
+ghost use Rattle.std.specs.Prelude.{◌≡◌, None, false};
+ghost use Rattle.grade_io.specs.Counting.{faults_of};
 
+use crate::counted::Counted;
 use crate::devices::{FetchError, PutError, Shelf, Sink, StoreError};
-use crate::plan::count_fault;
-use crate::whole::{put_piece, read_whole, write_whole};
+use crate::whole::{put_piece, read_whole, taken_of, write_whole};
 use std::alloc::Global;
+use std::io::Printer;
 use std::rt::Files;
 use std::{fs, io};
-
-/// Reads a file of at most `most` bytes to its end.
-fn read_file<R: Files>(rt: &R, alloc: Global, name: &str, most: u64) -> Result<Vec<u8>, FetchError>
-    requires { most ≤ 1073741824 }
-    ensures { IfOk result (λ v. vec_len v ≤ most) }
-{
-    let mut file = fs::open(rt, name).map_err(|_| FetchError::Failed)?;
-    read_whole(&mut file, alloc, most)
-}
-
-/// Writes all of the bytes to a file, in place of what it held.
-fn write_file<R: Files>(rt: &R, name: &str, bytes: &[u8]) -> Result<(), StoreError>
-    ensures { IfErr result (λ e. e ≡ StoreError.Failed) }
-{
-    let mut file = fs::create(rt, name).map_err(|_| StoreError::Failed)?;
-    write_whole(&mut file, bytes)
-}
 
 /// The real files, by their paths. Each error of the system raises the count of faults.
 #[derive(Drop)]
@@ -60,30 +45,25 @@ impl<R: Files> Shelf for HostShelf<'_, R> {
     } };
 
     fn fetch(&mut self, alloc: Global, name: &str, most: u64) -> Result<Vec<u8>, FetchError> {
-        let fetched = read_file(self.rt, alloc, name, most);
-        match &fetched {
-            Ok(bytes) => self.taken = bytes.len() as u64,
-            Err(FetchError::Long) => self.taken = most + 1,
-            Err(FetchError::Failed) => count_fault(&mut self.faults),
-            Err(FetchError::NoMemory) => {}
-        }
+        let mut file = Counted::opened(fs::open(self.rt, name), &mut self.faults)?;
+        let fetched = read_whole(&mut file, alloc, most);
+        self.faults = file.faults();
+        self.taken = taken_of(&fetched, most);
         fetched
     }
 
     fn store(&mut self, name: &str, bytes: &Vec<u8>) -> Result<(), StoreError> {
-        let stored = write_file(self.rt, name, bytes);
-        if stored.is_err() {
-            count_fault(&mut self.faults);
-        }
-        stored
+        let mut file = Counted::opened(fs::create(self.rt, name), &mut self.faults)?;
+        let stored = write_whole(&mut file, bytes);
+        self.faults = file.faults();
+        Ok(stored?)
     }
 }
 
 /// The standard output. Each error of the system raises the count of faults.
 #[derive(Drop)]
 pub struct HostSink<'a, R> {
-    rt: &'a R,
-    faults: u64,
+    out: Counted<Printer<'a, R>>,
 }
 
 impl<'a, R: Print> HostSink<'a, R> {
@@ -91,18 +71,21 @@ impl<'a, R: Print> HostSink<'a, R> {
     pub fn new(rt: &'a R) -> HostSink<'a, R>
         ensures { (⟦<HostSink<'a, R> as Sink>⟧.seen result).faults ≡ 0 }
     {
-        HostSink { rt, faults: 0 }
+        HostSink {
+            out: Counted::new(io::writer(rt), 0),
+        }
     }
 }
 
 impl<R: Print> Sink for HostSink<'_, R> {
-    ghost seen = { λ s. record { written = None; faults = s.faults; plan = None; share = None } };
+    ghost seen = { λ s. record {
+      written = None;
+      faults = faults_of s.out;
+      plan = None;
+      share = None;
+    } };
 
     fn put(&mut self, piece: &[u8]) -> Result<usize, PutError> {
-        let taken = put_piece(&mut io::writer(self.rt), piece);
-        if taken.is_err() {
-            count_fault(&mut self.faults);
-        }
-        taken
+        Ok(put_piece(&mut self.out, piece)?)
     }
 }

@@ -3,6 +3,7 @@
 #![tactic(auto)]
 
 mod calls;
+mod counted;
 mod devices;
 mod files;
 mod host;
@@ -14,6 +15,7 @@ mod text;
 mod whole;
 mod words;
 
+pub use counted::{Counted, Fault};
 pub use devices::{FetchError, NoMemory, PutError, Shelf, Sink, StoreError};
 pub use host::{HostShelf, HostSink};
 pub use mem::{MemShelf, MemSink};

@@ -1,6 +1,7 @@
 //! The words of a command line.
-ghost use Rattle.std.specs.Prelude.{◌≡◌, IfOk, IsErr, drop};
-ghost use Rattle.std.specs.Vec.Iter.{into_iter_items};
+ghost use Rattle.std.specs.Prelude.{◌≡◌, ◌≢◌, ◌≤◌, IfErr, IfOk, IsErr, IsOk, drop, length};
+ghost use Rattle.std.specs.IoError.{error_kind};
+ghost use Rattle.std.specs.Vec.Iter.{into_iter_items, into_iter_len};
 ghost use Rattle.grade_io.specs.Words.{IsUnread, words_in};
 
 use crate::devices::NoMemory;
@@ -11,7 +12,8 @@ use std::io::ErrorKind;
 
 /// All words but the first.
 fn behind_first(alloc: Global, all: Args) -> Result<Vec<String>, NoMemory>
-    ensures { IfOk result (λ v. v.items ≡ drop 1 (into_iter_items all)) }
+    ensures words { IfOk result (λ v. v.items ≡ drop 1 (into_iter_items all)) }
+    ensures none { into_iter_len all ≤ 1 → IsOk result }
 {
     let mut rest = all;
     let _name = rest.next();
@@ -31,6 +33,9 @@ fn behind_first(alloc: Global, all: Args) -> Result<Vec<String>, NoMemory>
 pub fn words_from(alloc: Global, all: io::Result<Args>) -> Result<Vec<String>, NoMemory>
     ensures words { IfOk result (λ v. v.items ≡ words_in all) }
     ensures unread { IsUnread all → IsErr result }
+    // Only a word that has to be kept needs memory here.
+    ensures no_text { IfErr all (λ e. error_kind e ≢ ErrorKind.OutOfMemory → IsOk result) }
+    ensures none { IfOk all (λ words. into_iter_len words ≤ 1 → IsOk result) }
 {
     match all {
         Ok(all) => behind_first(alloc, all),

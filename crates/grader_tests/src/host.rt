@@ -1,5 +1,5 @@
 //! The real devices, of whose content no clause speaks.
-use grade_io::{FetchError, HostShelf, HostSink, Shelf, Sink};
+use grade_io::{FetchError, HostShelf, HostSink, Shelf, Sink, StoreError};
 use std::fs;
 use std::test::Fail;
 
@@ -31,6 +31,29 @@ fn moves_bytes(rt: HostRuntime) -> Result<(), Fail> {
         let fetched = shelf.fetch(alloc, name, most);
         let given = fetched.as_ref().map(|text| text.as_slice()).map_err(|e| *e);
         assert!(rt; given == wanted, "{name} up to {most}");
+    }
+    assert!(rt;
+        fs::read(&rt, "kept")? == bytes,
+        "other names keep their bytes"
+    );
+    // Each row: the name, and what the store answers for bytes and for none.
+    let stores: [(&str, Result<(), StoreError>, Result<(), StoreError>); 3] = [
+        (
+            "absent/file",
+            Err(StoreError::Failed),
+            Err(StoreError::Failed),
+        ),
+        ("folder", Err(StoreError::Failed), Err(StoreError::Failed)),
+        // A device that opens, and takes no byte.
+        ("/dev/full", Err(StoreError::Failed), Ok(())),
+    ];
+    for (name, with_bytes, with_none) in stores {
+        assert_eq!(rt; shelf.store(name, &bytes), with_bytes, "to {name}");
+        assert_eq!(rt;
+            shelf.store(name, &Vec::new(alloc)),
+            with_none,
+            "nothing to {name}"
+        );
     }
     let mut out = HostSink::new(&rt);
     assert_eq!(rt; out.put(b"")?, 0);

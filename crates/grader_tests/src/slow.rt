@@ -1,6 +1,6 @@
 //! Files and pieces over a reader and a writer that move one byte a call, are interrupted, and
 //! fail.
-use grade_io::{FetchError, PutError, StoreError, put_piece, read_whole, write_whole};
+use grade_io::{Counted, Fault, FetchError, put_piece, read_whole, write_whole};
 use std::io;
 use std::io::{ErrorKind, Read, Write};
 use std::test::Fail;
@@ -56,29 +56,38 @@ impl Write for Slow {
     }
 }
 
-/// Each row: the limit, the call that fails (0: none), and what is read of five bytes.
+/// With so much room, or so many bytes to read, and no fault so far.
+fn counted(bytes: Vec<u8>, room: usize, fails: u32) -> Counted<Slow> {
+    let file = Slow {
+        bytes,
+        moved: 0,
+        room,
+        number: 0,
+        fails,
+    };
+    Counted::new(file, 0)
+}
+
+/// Each row: the limit, the call that fails (0: none), what is read of five bytes, and the number
+/// of the last call. One that fails isn't made again.
 #[test]
 fn reads_one_byte_a_call(rt: HostRuntime) -> Result<(), Fail> {
     let alloc = rt.alloc();
-    let rows: [(u64, u32, Result<&[u8], FetchError>); 6] = [
-        (5, 0, Ok(b"12345")),
-        (9, 0, Ok(b"12345")),
-        (4, 0, Err(FetchError::Long)),
-        (5, 4, Err(FetchError::Failed)),
-        (5, 12, Err(FetchError::Failed)),
-        (5, 13, Ok(b"12345")),
+    let rows: [(u64, u32, Result<&[u8], FetchError>, u32); 6] = [
+        (5, 0, Ok(b"12345"), 12),
+        (9, 0, Ok(b"12345"), 12),
+        (4, 0, Err(FetchError::Long), 10),
+        (5, 4, Err(FetchError::Failed), 4),
+        (5, 12, Err(FetchError::Failed), 12),
+        (5, 13, Ok(b"12345"), 12),
     ];
-    for (most, fails, wanted) in rows {
-        let mut file = Slow {
-            bytes: b"12345".to_vec(alloc)?,
-            moved: 0,
-            room: 5,
-            number: 0,
-            fails,
-        };
+    for (most, fails, wanted, last) in rows {
+        let mut file = counted(b"12345".to_vec(alloc)?, 5, fails);
         let read = read_whole(&mut file, alloc, most);
         let given = read.as_ref().map(|bytes| bytes.as_slice()).map_err(|e| *e);
         assert!(rt; given == wanted, "up to {most}, with call {fails} failing");
+        assert_eq!(rt; file.inner().number, last, "with call {fails} failing");
+        assert_eq!(rt; file.faults(), u64::from(wanted == Err(FetchError::Failed)));
     }
     Ok(())
 }
@@ -88,53 +97,44 @@ fn reads_one_byte_a_call(rt: HostRuntime) -> Result<(), Fail> {
 #[test]
 fn writes_one_byte_a_call(rt: HostRuntime) -> Result<(), Fail> {
     let alloc = rt.alloc();
-    let rows: [(usize, u32, Result<(), StoreError>, &[u8]); 4] = [
+    let rows: [(usize, u32, Result<(), Fault>, &[u8]); 4] = [
         (5, 0, Ok(()), b"12345"),
-        (3, 0, Err(StoreError::Failed), b"123"),
-        (5, 6, Err(StoreError::Failed), b"12"),
+        (3, 0, Err(Fault), b"123"),
+        (5, 6, Err(Fault), b"12"),
         (5, 11, Ok(()), b"12345"),
     ];
     for (room, fails, wanted, written) in rows {
-        let mut file = Slow {
-            bytes: Vec::new(alloc),
-            moved: 0,
-            room,
-            number: 0,
-            fails,
-        };
+        let mut file = counted(Vec::new(alloc), room, fails);
         assert_eq!(rt;
             write_whole(&mut file, b"12345"),
             wanted,
             "with call {fails} failing"
         );
-        assert!(rt; file.bytes.as_slice() == written);
+        assert!(rt; file.inner().bytes.as_slice() == written);
+        assert_eq!(rt; file.faults(), u64::from(wanted.is_err()));
     }
     Ok(())
 }
 
-/// Each row: the room, the call that fails (0: none), the piece, and the answer.
+/// Each row: the room, the call that fails (0: none), the piece, the answer, and the number of the
+/// last call. One that fails isn't made again.
 #[test]
 fn puts_one_byte_a_call(rt: HostRuntime) -> Result<(), Fail> {
     let alloc = rt.alloc();
-    let rows: [(usize, u32, &[u8], Result<usize, PutError>); 4] = [
-        (1, 0, b"123", Ok(1)),
-        (0, 0, b"123", Err(PutError::Failed)),
-        (1, 2, b"123", Err(PutError::Failed)),
-        (0, 1, b"", Ok(0)),
+    let rows: [(usize, u32, &[u8], Result<usize, Fault>, u32); 4] = [
+        (1, 0, b"123", Ok(1), 2),
+        (0, 0, b"123", Err(Fault), 2),
+        (1, 2, b"123", Err(Fault), 2),
+        (0, 1, b"", Ok(0), 0),
     ];
-    for (room, fails, piece, wanted) in rows {
-        let mut out = Slow {
-            bytes: Vec::new(alloc),
-            moved: 0,
-            room,
-            number: 0,
-            fails,
-        };
+    for (room, fails, piece, wanted, last) in rows {
+        let mut out = counted(Vec::new(alloc), room, fails);
         assert_eq!(rt;
             put_piece(&mut out, piece),
             wanted,
             "with call {fails} failing"
         );
+        assert_eq!(rt; out.inner().number, last, "with call {fails} failing");
     }
     Ok(())
 }

@@ -1,6 +1,0 @@
--- A write that failed added nothing.
-use Rattle.std.specs.Io.KnownBytes.{Keeps}
-use Rattle.grade_io.proofs.whole.write_some.Given as goal
-
-abbrev pub invariant-loop : goal.invariant-loop
-invariant-loop g l = Keeps (g.W.Write.contents l.fn.writer) (g.W.Write.contents l.writer)
