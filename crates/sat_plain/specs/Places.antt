@@ -1,5 +1,6 @@
 -- Where literals stand: for each literal the places of its clauses, one list after the other.
-use Rattle.std.specs.Prelude.{◌≡◌, ℕ, zero, suc, ◌+◌, ◌-◌, ◌*◌, ◌<◌, ◌≤◌, ◌==◌, true, List, [], ◌∷◌, length, slice_get, slice_index_or, Some, All, if◌then◌else◌}
+use Rattle.std.specs.Prelude.{◌≡◌, ℕ, zero, suc, ◌+◌, ◌-◌, ◌*◌, ◌<◌, ◌≤◌, ◌==◌, true, List, [], ◌∷◌}
+use Rattle.std.specs.Prelude.{length, slice_get, slice_index_or, Some, All, if◌then◌else◌}
 use Rattle.clause_base.specs.declared.lit.Lit.{Lit}
 use Rattle.clause_base.specs.declared.clause.Clause.{Clause}
 use Rattle.sat_plain.specs.Trails.{is_among}
@@ -28,7 +29,8 @@ pub record IsIndexOf (vars : ℕ) (clauses : List Clause) (index : Index) : Type
   pub many : length index.starts ≡ 2 * vars + 1
   pub ends : All (λ e. e ≤ length index.places) index.starts
   pub within : All (λ k. k < length clauses) index.places
-  pub holds : (k : ℕ) (c : Clause) (l : Lit) → slice_get clauses k ≡ Some c → is_among l c.lits ≡ true
+  pub holds : (k : ℕ) (c : Clause) (l : Lit) → slice_get clauses k ≡ Some c
+      → is_among l c.lits ≡ true
       → StandsIn index (list_of l) k
 
 -- how many literals have the list of a number

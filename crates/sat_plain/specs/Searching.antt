@@ -1,5 +1,6 @@
 -- A search: the decisions, the queue of propagation, and what the log keeps clear of.
-use Rattle.std.specs.Prelude.{◌≡◌, ◌≢◌, ◌⊎◌, ℕ, ◌+◌, ◌<◌, ◌≤◌, true, false, List, [], ◌∷◌, ◌++◌, length, slice_get, Option, Some, None, MatchOption, All}
+use Rattle.std.specs.Prelude.{◌≡◌, ◌≢◌, ◌⊎◌, ℕ, ◌+◌, ◌<◌, ◌≤◌, true, false, List, [], ◌∷◌, ◌++◌}
+use Rattle.std.specs.Prelude.{length, slice_get, Option, Some, None, MatchOption, All}
 use Rattle.std.specs.Option.{is_some}
 use Rattle.clause_base.specs.declared.lit.Lit.{Lit}
 use Rattle.clause_base.specs.declared.clause.Clause.{Clause}
@@ -9,9 +10,11 @@ use Rattle.clause_base.specs.Literals.{opposite}
 use Rattle.clause_base.specs.Logs.{IsFresh, LogFollows, Refutes, known_of}
 use Rattle.sat_plain.specs.declared.trail.Entry.{Entry}
 use Rattle.sat_plain.specs.Places.{Index, IsIndexOf}
-use Rattle.sat_plain.specs.Trails.{IsTrail, IsValued, IsWatched, Path, decided, is_among, literals_of, oldest, standing}
+use Rattle.sat_plain.specs.Trails.{IsTrail, IsValued, IsWatched, Path, decided, is_among}
+use Rattle.sat_plain.specs.Trails.{literals_of, oldest, standing}
 
--- a formula, where its literals stand, the steps that were logged, and the entries with the newest first
+-- a formula, where its literals stand, the steps that were logged, and the entries with the newest
+-- first
 pub record State : Type 0 where
   pub vars : ℕ
   pub clauses : List Clause
@@ -33,7 +36,8 @@ pub record IsSeen (old new : State) (l : Lit) : Type 0 where
   pub each : (k : ℕ) (c : Clause) → slice_get new.clauses k ≡ Some c → is_among l c.lits ≡ true
       → IsWatched (literals_of new.entries) (literals_of old.entries) c.lits
 
--- a decision is negative, of the least variable without a value, and taken where no clause is unit or false
+-- a decision is negative, of the least variable without a value, and taken where no clause is unit
+-- or false
 pub record IsDecision (clauses : List Clause) (before : List Lit) (l : Lit) : Type 0 where
   pub negative : l.positive ≡ false
   pub least : (v : ℕ) → 0 < v → v < l.var → IsValued before v
@@ -56,7 +60,8 @@ pub record Denies (entries : List Entry) (lits : List Lit) : Type 0 where
 abbrev pub IsGuarded : List Entry → List Lit → Type 0
 IsGuarded [] lits = ⊥
 IsGuarded (e ∷ older) lits =
-    ((is_some e.reason ≡ true) × (is_among e.lit lits ≡ true) × Denies older lits) ⊎ IsGuarded older lits
+    ((is_some e.reason ≡ true) × (is_among e.lit lits ≡ true) × Denies older lits)
+    ⊎ IsGuarded older lits
 
 -- no clause is empty
 abbrev pub NoneEmpty : List Clause → Type 0

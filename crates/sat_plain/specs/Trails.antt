@@ -1,5 +1,6 @@
 -- Trails: the literals that are true, with the newest first, and why.
-use Rattle.std.specs.Prelude.{◌≡◌, ℕ, ◌+◌, ◌-◌, ◌<◌, ◌≤◌, Bool, true, false, List, [], ◌∷◌, length, map, drop, slice_index_or, if◌then◌else◌, Option, Some, None, ◌⊎◌}
+use Rattle.std.specs.Prelude.{◌≡◌, ℕ, ◌+◌, ◌-◌, ◌<◌, ◌≤◌, Bool, true, false, List, [], ◌∷◌, length}
+use Rattle.std.specs.Prelude.{map, drop, slice_index_or, if◌then◌else◌, Option, Some, None, ◌⊎◌}
 use Rattle.std.specs.Bool.{beq}
 use Rattle.std.specs.Option.{option_map_or}
 use Rattle.std.specs.List.{list_any, sum_by}
@@ -25,10 +26,12 @@ is_among l known = list_any (same_literal l) known
 
 -- whether a literal is true or false
 abbrev pub standing : List Lit → Lit → Option Bool
-standing known l = if is_among l known then Some true else (if is_false known l then Some false else None)
+standing known l = if is_among l known then Some true
+    else (if is_false known l then Some false else None)
 
 abbrev pub IsValued : List Lit → ℕ → Type 0
-IsValued known v = (is_among (record { var = v; positive = true }) known ≡ true) ⊎ (is_among (record { var = v; positive = false }) known ≡ true)
+IsValued known v = (is_among (record { var = v; positive = true }) known ≡ true)
+    ⊎ (is_among (record { var = v; positive = false }) known ≡ true)
 
 -- the literals that were decided
 abbrev pub decided : List Entry → List Lit
@@ -38,12 +41,15 @@ decided (e ∷ older) = option_map_or (λ number. decided older) e.reason (e.lit
 -- no variable has two entries
 abbrev pub IsOrdered : ℕ → List Entry → Type 0
 IsOrdered vars [] = Unit {0}
-IsOrdered vars (e ∷ older) = (in_range vars e.lit ≡ true) × (standing (literals_of older) e.lit ≡ None) × IsOrdered vars older
+IsOrdered vars (e ∷ older) = (in_range vars e.lit ≡ true)
+    × (standing (literals_of older) e.lit ≡ None) × IsOrdered vars older
 
--- a literal that wasn't decided is the one open literal of a known clause, under the literals before it
+-- a literal that wasn't decided is the one open literal of a known clause, under the literals
+-- before it
 abbrev pub IsImplied : List Clause → List Lit → Lit → Option ℕ → Type 0
 IsImplied known before l None = Unit {0}
-IsImplied known before l (Some number) = (0 < number) × (number ≤ length known) × (open_literals before (literals_at known (number - 1)) ≡ l ∷ [])
+IsImplied known before l (Some number) = (0 < number) × (number ≤ length known)
+    × (open_literals before (literals_at known (number - 1)) ≡ l ∷ [])
 
 abbrev pub IsTrail : List Clause → List Entry → Type 0
 IsTrail known [] = Unit {0}
@@ -82,7 +88,8 @@ is_open value = option_map_or (λ b. 0) value 1
 
 -- the values are those of the literals that are true
 pub record AreTrue (values : List (Option Bool)) (entries : List Entry) : Type 0 where
-  pub agree : (l : Lit) → 0 < l.var → l.var ≤ length values → says l (value_at values l.var) ≡ is_among l (literals_of entries)
+  pub agree : (l : Lit) → 0 < l.var → l.var ≤ length values
+      → says l (value_at values l.var) ≡ is_among l (literals_of entries)
   pub ordered : IsOrdered (length values) entries
   pub counted : length entries + sum_by is_open values ≡ length values
 

@@ -1,13 +1,15 @@
 //! Why a conflict shows that one of the decisions is wrong.
 
-ghost use Rattle.std.specs.Prelude.{◌≡◌, ℕ, ◌+◌, ◌-◌, ◌<◌, ◌≤◌, true, List, All, Some, IfOk, length, map, reverse, slice_get};
+ghost use Rattle.std.specs.Prelude.{◌≡◌, ℕ, ◌+◌, ◌-◌, ◌<◌, ◌≤◌, true, List, All, Some, IfOk};
+ghost use Rattle.std.specs.Prelude.{length, map, reverse, slice_get};
 ghost use Rattle.clause_base.specs.declared.lit.Lit.{Lit};
 ghost use Rattle.clause_base.specs.Follows.{answer_of, hinted};
 ghost use Rattle.clause_base.specs.declared.answer.StepAnswer.TheVariants.{Good};
 ghost use Rattle.clause_base.specs.Logs.{StepFollows, known_of};
 ghost use Rattle.clause_base.specs.Formulas.{clauses_in_range};
 ghost use Rattle.clause_base.specs.Literals.{IsCovered, opposite};
-ghost use Rattle.sat_plain.specs.Trails.{IsConflict, IsOrdered, IsTrail, is_among, is_wanted, decided};
+ghost use Rattle.sat_plain.specs.Trails.{IsConflict, IsOrdered, IsTrail, is_among, is_wanted};
+ghost use Rattle.sat_plain.specs.Trails.{decided};
 
 use crate::trail::Entry;
 use clause_base::NoMemory;
@@ -73,8 +75,11 @@ fn hints_of(
     requires ordered { IsOrdered (length wanted.old) (reverse entries.now) }
     requires trail { IsTrail (known_of clauses.now steps.now) (reverse entries.now) }
     requires conflict { IsConflict (known_of clauses.now steps.now) (reverse entries.now) conflict }
-    ensures named { IfOk result (λ hints. All (λ h. (0 < h) × (h ≤ length (known_of clauses.now steps.now))) hints.items) }
-    ensures good { IfOk result (λ hints. answer_of (map opposite (decided (reverse entries.now))) (hinted (known_of clauses.now steps.now) hints.items) ≡ Good) }
+    ensures named { IfOk result
+        (λ hints. All (λ h. (0 < h) × (h ≤ length (known_of clauses.now steps.now))) hints.items) }
+    ensures good { IfOk result
+        (λ hints. answer_of (map opposite (decided (reverse entries.now)))
+        (hinted (known_of clauses.now steps.now) hints.items) ≡ Good) }
 {
     let mut hints = vec![in alloc; conflict]?;
     let first = clause_of(clauses, steps, conflict);
@@ -94,7 +99,8 @@ fn hints_of(
     Ok(hints)
 }
 
-/// The step that says that not all decisions can stand, given a clause whose literals are all false.
+/// The step that says that not all decisions can stand, given a clause whose literals are all
+/// false.
 pub fn explanation(
     alloc: Global,
     clauses: &Clauses,
@@ -107,7 +113,8 @@ pub fn explanation(
     requires ordered { IsOrdered vars (reverse entries.now) }
     requires trail { IsTrail (known_of clauses.now steps.now) (reverse entries.now) }
     requires conflict { IsConflict (known_of clauses.now steps.now) (reverse entries.now) conflict }
-    ensures clause { IfOk result (λ step. step.clause.lits ≡ map opposite (decided (reverse entries.now))) }
+    ensures clause { IfOk result
+        (λ step. step.clause.lits ≡ map opposite (decided (reverse entries.now))) }
     ensures follows { IfOk result (λ step. StepFollows vars (known_of clauses.now steps.now) step) }
 {
     let lits = opposite_decisions(alloc, entries)?;

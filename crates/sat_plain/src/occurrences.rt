@@ -1,7 +1,9 @@
 //! In which clauses of a formula a literal stands.
 
-ghost use Rattle.std.specs.Prelude.{◌≡◌, ℕ, ◌+◌, ◌-◌, ◌*◌, ◌<◌, ◌≤◌, All, IfOk, OnOk, Some, length, slice_get, slice_index_or, slice_set};
-ghost use Rattle.sat_plain.specs.Places.{AreCounted, AreSums, AreTotals, IsEmpty, IsIndexOf, list_of, start_of, sum_of};
+ghost use Rattle.std.specs.Prelude.{◌≡◌, ℕ, ◌+◌, ◌-◌, ◌*◌, ◌<◌, ◌≤◌, All, IfOk, OnOk, Some, length};
+ghost use Rattle.std.specs.Prelude.{slice_get, slice_index_or, slice_set};
+ghost use Rattle.sat_plain.specs.Places.{AreCounted, AreSums, AreTotals, IsEmpty, IsIndexOf};
+ghost use Rattle.sat_plain.specs.Places.{list_of, start_of, sum_of};
 
 use clause_base::NoMemory;
 use clause_base::formula::Formula;
@@ -83,8 +85,10 @@ fn put(starts: &mut [u32], places: &mut [u32], number: usize, place: u32)
     requires number { number < length starts.old }
     requires some { 0 < slice_index_or starts.old number 0 }
     requires room { slice_index_or starts.old number 0 - 1 < length places.old }
-    ensures starts { starts.new ≡ slice_set starts.old number (slice_index_or starts.old number 0 - 1) }
-    ensures places { places.new ≡ slice_set places.old (slice_index_or starts.old number 0 - 1) place }
+    ensures starts { starts.new
+        ≡ slice_set starts.old number (slice_index_or starts.old number 0 - 1) }
+    ensures places { places.new
+        ≡ slice_set places.old (slice_index_or starts.old number 0 - 1) place }
 {
     let at = starts[number] - 1;
     starts[number] = at;
@@ -96,7 +100,8 @@ fn fill(starts: &mut [u32], places: &mut [u32], f: &Formula)
     requires few { length f.now.clauses ≤ 2147483647 }
     requires many { length starts.old ≡ 2 * f.now.vars + 1 }
     requires empty { IsEmpty f.now.clauses starts.old places.old }
-    ensures { IsIndexOf f.now.vars f.now.clauses (record { starts = starts.new; places = places.new }) }
+    ensures { IsIndexOf f.now.vars f.now.clauses
+        (record { starts = starts.new; places = places.new }) }
 {
     for place in 0..f.clauses.len() {
         for lit in f.clauses.at(place).lits.as_slice() {

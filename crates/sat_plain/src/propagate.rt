@@ -1,6 +1,7 @@
 //! Unit propagation and decisions.
 
-ghost use Rattle.std.specs.Prelude.{◌≡◌, ℕ, ◌<◌, ◌≤◌, true, false, [], MatchOption, length, slice_get, Some};
+ghost use Rattle.std.specs.Prelude.{◌≡◌, ℕ, ◌<◌, ◌≤◌, true, false, [], MatchOption, length};
+ghost use Rattle.std.specs.Prelude.{slice_get, Some};
 ghost use Rattle.clause_base.specs.declared.clause.Clause.{Clause};
 ghost use Rattle.clause_base.specs.Follows.{literals_at, open_literals};
 ghost use Rattle.clause_base.specs.Formulas.{in_range};
@@ -17,8 +18,12 @@ impl<'a> Search<'a> {
     fn visit(&mut self, place: u32) -> bool
         requires { place < length self.old.clauses }
         ensures grows { Grows self.old self.new }
-        ensures closed { result ≡ true → open_literals (literals_of self.new.entries) (literals_at self.new.clauses place) ≡ [] }
-        ensures watched { result ≡ false → let known = literals_of self.new.entries in IsWatched known known (literals_at self.new.clauses place) }
+        ensures closed { result ≡ true
+            → open_literals (literals_of self.new.entries) (literals_at self.new.clauses place)
+            ≡ [] }
+        ensures watched { result ≡ false
+            → let known = literals_of self.new.entries
+            in IsWatched known known (literals_at self.new.clauses place) }
     {
         let clause = self.f.clauses.at(place as usize);
         match self.trail.look_over(clause.lits.as_slice()) {
@@ -35,7 +40,8 @@ impl<'a> Search<'a> {
     fn visit_clauses(&mut self, lit: Lit) -> Option<u32>
         requires { in_range self.old.vars lit ≡ true }
         ensures grows { Grows self.old self.new }
-        ensures answer { MatchOption result (IsSeen self.old self.new lit) (IsConflict self.new.clauses self.new.entries) }
+        ensures answer { MatchOption result (IsSeen self.old self.new lit)
+            (IsConflict self.new.clauses self.new.entries) }
     {
         for i in self.occurrences.first(lit)..self.occurrences.end(lit) {
             let place = self.occurrences.place(i);
@@ -46,13 +52,17 @@ impl<'a> Search<'a> {
         None
     }
 
-    /// Makes true what follows from the literals from a place on, each in its turn. Gives the number
-    /// of a clause whose literals are all false; where there is none, no clause is unit either.
+    /// Makes true what follows from the literals from a place on, each in its turn. Gives the
+    /// number of a clause whose literals are all false; where there is none, no clause is unit
+    /// either.
     fn propagate(&mut self, from: usize) -> Option<u32>
         requires within { from ≤ length self.old.entries }
-        requires settled { let known = literals_of self.old.entries in AllWatched self.old.clauses known (oldest from known) }
+        requires settled { let known = literals_of self.old.entries
+            in AllWatched self.old.clauses known (oldest from known) }
         ensures grows { Grows self.old self.new }
-        ensures answer { MatchOption result (let known = literals_of self.new.entries in AllWatched self.new.clauses known known) (IsConflict self.new.clauses self.new.entries) }
+        ensures answer { MatchOption result
+            (let known = literals_of self.new.entries in AllWatched self.new.clauses known known)
+            (IsConflict self.new.clauses self.new.entries) }
     {
         let mut next = from;
         while next < self.trail.len() {
@@ -68,7 +78,9 @@ impl<'a> Search<'a> {
     /// Looks once at each clause.
     fn visit_all(&mut self) -> Option<u32>
         ensures grows { Grows self.old self.new }
-        ensures answer { MatchOption result (AllWatched self.new.clauses (literals_of self.new.entries) []) (IsConflict self.new.clauses self.new.entries) }
+        ensures answer { MatchOption result
+            (AllWatched self.new.clauses (literals_of self.new.entries) [])
+            (IsConflict self.new.clauses self.new.entries) }
     {
         for place in 0..self.f.clauses.len() as u32 {
             if self.visit(place) {
@@ -79,13 +91,15 @@ impl<'a> Search<'a> {
     }
 
     /// Propagates from a place on, and then decides the least variable that has no value as false,
-    /// for as long as there is one. Gives the number of a clause whose literals are all false; where
-    /// there is none, the values satisfy the formula.
+    /// for as long as there is one. Gives the number of a clause whose literals are all false;
+    /// where there is none, the values satisfy the formula.
     pub fn next_conflict(&mut self, from: usize) -> Option<u32>
         requires within { from ≤ length self.old.entries }
-        requires settled { let known = literals_of self.old.entries in AllWatched self.old.clauses known (oldest from known) }
+        requires settled { let known = literals_of self.old.entries
+            in AllWatched self.old.clauses known (oldest from known) }
         ensures grows { Grows self.old self.new }
-        ensures answer { MatchOption result (IsFull self.new) (IsConflict self.new.clauses self.new.entries) }
+        ensures answer { MatchOption result (IsFull self.new)
+            (IsConflict self.new.clauses self.new.entries) }
     {
         if let Some(number) = self.propagate(from) {
             return Some(number);
@@ -110,7 +124,8 @@ impl<'a> Search<'a> {
     /// As `next_conflict` from the first literal on, after a look at each clause.
     pub fn first_conflict(&mut self) -> Option<u32>
         ensures grows { Grows self.old self.new }
-        ensures answer { MatchOption result (IsFull self.new) (IsConflict self.new.clauses self.new.entries) }
+        ensures answer { MatchOption result (IsFull self.new)
+            (IsConflict self.new.clauses self.new.entries) }
     {
         if let Some(number) = self.visit_all() {
             return Some(number);

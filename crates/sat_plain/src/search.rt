@@ -4,7 +4,8 @@ ghost use Rattle.std.specs.Prelude.{◌≡◌, ◌≤◌, ◌<◌, ◌+◌, true
 ghost use Rattle.clause_base.specs.Follows.{literals_at, open_literals};
 ghost use Rattle.clause_base.specs.Formulas.{in_range, satisfies};
 ghost use Rattle.clause_base.specs.Logs.{known_of};
-ghost use Rattle.sat_plain.specs.Searching.{IsDecision, IsFull, IsLogged, IsTaken, IsUndone, NoneRefutes};
+ghost use Rattle.sat_plain.specs.Searching.{IsDecision, IsFull, IsLogged, IsTaken, IsUndone};
+ghost use Rattle.sat_plain.specs.Searching.{NoneRefutes};
 ghost use Rattle.sat_plain.specs.Trails.{IsConflict, literals_of, standing};
 
 use crate::explain::explanation;
@@ -37,11 +38,24 @@ impl<'a> Model for Search<'a> {
 
     ghost Value = { State };
 
-    ghost view = { λ s. record { vars = s.f.now.vars; clauses = s.f.now.clauses; index = s.occurrences; steps = s.steps; entries = s.trail.entries } };
+    ghost view = { λ s. record {
+      vars = s.f.now.vars;
+      clauses = s.f.now.clauses;
+      index = s.occurrences;
+      steps = s.steps;
+      entries = s.trail.entries;
+    } };
 
     ghost use Rattle.std.specs.Prelude.{◌≡◌};
 
-    ghost invariant = { λ s. (s.trail.vars ≡ s.f.now.vars) × IsSearch (record { vars = s.f.now.vars; clauses = s.f.now.clauses; index = s.occurrences; steps = s.steps; entries = s.trail.entries }) };
+    ghost invariant = { λ s. (s.trail.vars ≡ s.f.now.vars)
+        × IsSearch (record {
+          vars = s.f.now.vars;
+          clauses = s.f.now.clauses;
+          index = s.occurrences;
+          steps = s.steps;
+          entries = s.trail.entries;
+        }) };
 }
 
 /// Takes the newest entries away, up to the newest decision and with it.
@@ -77,9 +91,12 @@ impl<'a> Search<'a> {
     /// Makes the one open literal of a clause of the formula true.
     pub fn imply(&mut self, place: u32, lit: Lit)
         requires within { place < length self.old.clauses }
-        requires unit { open_literals (literals_of self.old.entries) (literals_at self.old.clauses place) ≡ lit ∷ [] }
+        requires unit { open_literals (literals_of self.old.entries)
+            (literals_at self.old.clauses place) ≡ lit ∷ [] }
         requires unset { standing (literals_of self.old.entries) lit ≡ None }
-        ensures { self.new ≡ record self.old { entries = (record { lit = lit; reason = Some (place + 1) }) ∷ self.old.entries } }
+        ensures { self.new ≡ record self.old {
+          entries = (record { lit = lit; reason = Some (place + 1) }) ∷ self.old.entries;
+        } }
     {
         self.trail.push(Entry {
             lit,
@@ -92,15 +109,18 @@ impl<'a> Search<'a> {
         requires range { in_range self.old.vars lit ≡ true }
         requires unset { standing (literals_of self.old.entries) lit ≡ None }
         requires decision { IsDecision self.old.clauses (literals_of self.old.entries) lit }
-        ensures { self.new ≡ record self.old { entries = (record { lit = lit; reason = None }) ∷ self.old.entries } }
+        ensures { self.new ≡ record self.old {
+          entries = (record { lit = lit; reason = None }) ∷ self.old.entries;
+        } }
     {
         self.trail.push(Entry { lit, reason: None });
     }
 
-    /// Logs that not all decisions can stand, and takes back the newest: its opposite follows. Gives
-    /// the place of that literal, or none where there is no decision.
+    /// Logs that not all decisions can stand, and takes back the newest: its opposite follows.
+    /// Gives the place of that literal, or none where there is no decision.
     pub fn take_back(&mut self, alloc: Global, conflict: u32) -> Result<Option<usize>, NoMemory>
-        requires conflict { IsConflict (known_of self.old.clauses self.old.steps) self.old.entries conflict }
+        requires conflict { IsConflict
+            (known_of self.old.clauses self.old.steps) self.old.entries conflict }
         requires going { NoneRefutes self.old.steps }
         ensures { IfOk result (IsTaken self.old self.new) }
     {
@@ -132,7 +152,8 @@ impl<'a> Search<'a> {
     /// The values of the variables; false for one that has none.
     pub fn truths(&self, alloc: Global) -> Result<Truths, NoMemory>
         ensures many { IfOk result (λ values. length values ≡ self.now.vars) }
-        ensures satisfied { IsFull self.now → IfOk result (λ values. satisfies values self.now.clauses ≡ true) }
+        ensures satisfied { IsFull self.now
+            → IfOk result (λ values. satisfies values self.now.clauses ≡ true) }
     {
         let _entries = self.trail.entries();
         let values = self.trail.truths(alloc)?;

@@ -1,11 +1,13 @@
 //! The literals that are true, in the order in which they became so.
 
-ghost use Rattle.std.specs.Prelude.{◌≡◌, ◌+◌, ◌<◌, ◌≤◌, ◌≢◌, true, false, [], ◌∷◌, List, OnOk, IfOk, IfSome, MatchOption, length, reverse, None};
+ghost use Rattle.std.specs.Prelude.{◌≡◌, ◌+◌, ◌<◌, ◌≤◌, ◌≢◌, true, false, [], ◌∷◌, List, OnOk};
+ghost use Rattle.std.specs.Prelude.{IfOk, IfSome, MatchOption, length, reverse, None};
 ghost use Rattle.clause_base.specs.declared.lit.Lit.{Lit};
 ghost use Rattle.clause_base.specs.Follows.{is_false};
 ghost use Rattle.clause_base.specs.Formulas.{in_range};
 ghost use Rattle.clause_base.specs.Literals.{literal_true, IsCovered};
-ghost use Rattle.sat_plain.specs.Trails.{IsOrdered, IsScan, is_among, literals_of, oldest, standing};
+ghost use Rattle.sat_plain.specs.Trails.{IsOrdered, IsScan, is_among, literals_of, oldest};
+ghost use Rattle.sat_plain.specs.Trails.{standing};
 
 use clause_base::NoMemory;
 use clause_base::lit::Lit;
@@ -44,9 +46,13 @@ impl Model for Trail {
 
     ghost Value = { Path };
 
-    ghost view = { λ t. record { vars = length t.values.items; entries = reverse t.entries.items } };
+    ghost view = { λ t. record {
+      vars = length t.values.items;
+      entries = reverse t.entries.items;
+    } };
 
-    ghost invariant = { λ t. AreTrue t.values.items (reverse t.entries.items) × (length t.values.items ≤ vec_capacity t.entries) };
+    ghost invariant = { λ t. AreTrue t.values.items (reverse t.entries.items)
+        × (length t.values.items ≤ vec_capacity t.entries) };
 }
 
 impl Trail {
@@ -71,7 +77,8 @@ impl Trail {
     /// The literal at a place, counted from 0 with the oldest first.
     pub fn at(&self, i: usize) -> Lit
         requires { i < length self.now.entries }
-        ensures value { let known = literals_of self.now.entries in oldest (i + 1) known ≡ result ∷ oldest i known }
+        ensures value { let known = literals_of self.now.entries
+            in oldest (i + 1) known ≡ result ∷ oldest i known }
         ensures range { in_range self.now.vars result ≡ true }
     {
         self.entries[i].lit
@@ -90,7 +97,8 @@ impl Trail {
         requires some { 0 < lit.var }
         requires within { lit.var ≤ self.now.vars }
         ensures value { result ≡ standing (literals_of self.now.entries) lit }
-        ensures not_both { is_among lit (literals_of self.now.entries) ≡ true → is_false (literals_of self.now.entries) lit ≡ false }
+        ensures not_both { is_among lit (literals_of self.now.entries) ≡ true
+            → is_false (literals_of self.now.entries) lit ≡ false }
     {
         match self.values[lit.var as usize - 1] {
             Some(value) => Some(value == lit.positive),
@@ -133,7 +141,8 @@ impl Trail {
     /// Takes the newest entry away.
     pub fn pop(&mut self) -> Option<Entry>
         ensures vars { self.new.vars ≡ self.old.vars }
-        ensures entry { MatchOption result (self.old.entries ≡ []) (λ e. self.old.entries ≡ e ∷ self.new.entries) }
+        ensures entry { MatchOption result (self.old.entries ≡ [])
+            (λ e. self.old.entries ≡ e ∷ self.new.entries) }
         ensures unset { IfSome result (λ e. standing (literals_of self.new.entries) e.lit ≡ None) }
         ensures range { IfSome result (λ e. in_range self.new.vars e.lit ≡ true) }
     {
@@ -145,7 +154,9 @@ impl Trail {
     /// The values of the variables; false for one that has none.
     pub fn truths(&self, alloc: Global) -> Result<Truths, NoMemory>
         ensures many { IfOk result (λ values. length values ≡ self.now.vars) }
-        ensures agree { IfOk result (λ values. (l : Lit) → 0 < l.var → l.var ≤ self.now.vars → is_among l (literals_of self.now.entries) ≡ true → literal_true values l ≡ true) }
+        ensures agree { IfOk result
+            (λ values. (l : Lit) → 0 < l.var → l.var ≤ self.now.vars
+            → is_among l (literals_of self.now.entries) ≡ true → literal_true values l ≡ true) }
     {
         let mut truths = Truths::new(alloc);
         for value in &self.values {

@@ -1,4 +1,5 @@
-//! Tests of the solver's crates over one another: words and graphs of bits, clauses, formulas, steps and logs.
+//! Tests of the solver's crates over one another: words and graphs of bits, clauses, formulas,
+//! steps and logs.
 #![tactic(auto)]
 
 #[cfg(test)]

@@ -14,7 +14,8 @@ use bit_words::sums::{add, neg, sub};
 use bit_words::word::Word;
 use std::alloc::Global;
 
-/// What an operation gives: the number that its word reads as, and its two faults. A bit that isn't known is none.
+/// What an operation gives: the number that its word reads as, and its two faults. A bit that isn't
+/// known is none.
 pub(crate) type Outcome = (Option<i32>, Option<bool>, Option<bool>);
 
 /// The lowest bits of a number.

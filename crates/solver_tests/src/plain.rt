@@ -116,7 +116,8 @@ fn digest_of_width(alloc: Global, width: usize, half: i32, pairs: u32) -> Result
         let (second, x) = random(state, half);
         let (third, y) = random(second, half);
         state = third;
-        // Every other pair has a small second number, as most quotients and powers of large ones are 0 or too large.
+        // Every other pair has a small second number, as most quotients and powers of large ones
+        // are 0 or too large.
         let small = if third & 0x80000000 == 0 { y } else { y % 8 };
         all = digest_of(alloc, all, x, small, width)?;
     }
