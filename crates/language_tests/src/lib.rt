@@ -17,3 +17,5 @@ mod reading;
 mod runs;
 #[cfg(test)]
 mod tokens;
+#[cfg(test)]
+mod typing;

@@ -17,6 +17,7 @@ pub mod Rules
 pub mod Running
 pub mod SetTypes
 pub mod Shapes
+pub mod Sharing
 pub mod Sites
 pub mod Statements
 pub mod Syntax
