@@ -27,7 +27,10 @@ fn names(alloc: Global, ts: &[Terminal<()>]) -> Result<Option<(Names, &[Terminal
     Ok(None)
 }
 
-fn parameters(alloc: Global, ts: &[Terminal<()>]) -> Result<Option<(Names, &[Terminal<()>])>, NoMemory>
+fn parameters(
+    alloc: Global,
+    ts: &[Terminal<()>],
+) -> Result<Option<(Names, &[Terminal<()>])>, NoMemory>
     ensures { IfOk result (λ r. option_map (λ x. (x.0, x.1.now)) r ≡ parameters_at ts.now) }
 {
     match ts {
@@ -38,7 +41,10 @@ fn parameters(alloc: Global, ts: &[Terminal<()>]) -> Result<Option<(Names, &[Ter
     }
 }
 
-fn function(alloc: Global, ts: &[Terminal<()>]) -> Result<Option<(Header, &[Terminal<()>])>, NoMemory>
+fn function(
+    alloc: Global,
+    ts: &[Terminal<()>],
+) -> Result<Option<(Header, &[Terminal<()>])>, NoMemory>
     ensures { IfOk result (λ r. option_map (λ x. (opening_of x.0, x.1.now)) r ≡ function_at ts.now) }
 {
     let [
