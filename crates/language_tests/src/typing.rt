@@ -9,20 +9,47 @@ use std::test::Fail;
 
 /// Programs, each with how it is typed or refused.
 const ROWS: [(&str, &str); 14] = [
-    ("def f(x):\n    y = [x]\n    for a in y:\n        x += a\n    return g(x)\ndef g(z):\n    return z * 2\n", "6 facts"),
+    (
+        "def f(x):\n    y = [x]\n    for a in y:\n        x += a\n    return g(x)\ndef g(z):\n    return z * 2\n",
+        "6 facts",
+    ),
     ("def f(x):\n    return y\n", "Name 2"),
-    ("def f(x):\n    y = 1\n    y.append(len(x, x))\n    z.append(1)\n    return x\n", "Arity 3"),
+    (
+        "def f(x):\n    y = 1\n    y.append(len(x, x))\n    z.append(1)\n    return x\n",
+        "Arity 3",
+    ),
     ("def f(x, y):\n    return x\n", "Entry 1"),
     ("def g(x):\n    return x\n", "Entry 1"),
-    ("def f(x):\n    x *= 2\n    y = x\n    y = 'a'\n    return x\n", "Type 3 Int Text"),
-    ("def f(x):\n    for c in 'ab':\n        pass\n    c = [1]\n    return x\n", "Type 2 List Text"),
+    (
+        "def f(x):\n    x *= 2\n    y = x\n    y = 'a'\n    return x\n",
+        "Type 3 Int Text",
+    ),
+    (
+        "def f(x):\n    for c in 'ab':\n        pass\n    c = [1]\n    return x\n",
+        "Type 2 List Text",
+    ),
     ("def f(x):\n    y *= 2\n    return x\n", "Undetermined 2"),
     ("def f(x):\n    return f(x)\n", "Undetermined 1"),
-    ("def f(x):\n    y = 2 * [1]\n    z = x and x\n    return x\n", "Type 2 Int List"),
-    ("def f(x):\n    y = True\n    while y == x:\n        pass\n    return -y\n", "Type 3"),
-    ("def f(x):\n    v = [x]\n    w = v if x else []\n    return x\n", "Shared 3"),
-    ("def f(x):\n    v = [x]\n    for a in v:\n        if a:\n            v[0] += 1\n    return x\n", "Shared 5"),
-    ("def f(x):\n    return len(g([x]))\ndef g(v):\n    return v\n", "Shared 4"),
+    (
+        "def f(x):\n    y = 2 * [1]\n    z = x and x\n    return x\n",
+        "Type 2",
+    ),
+    (
+        "def f(x):\n    y = True\n    while y == x:\n        pass\n    return -y\n",
+        "Type 3",
+    ),
+    (
+        "def f(x):\n    v = [x]\n    w = v if x else []\n    return x\n",
+        "Shared 3",
+    ),
+    (
+        "def f(x):\n    v = [x]\n    for a in v:\n        if a:\n            v[0] += 1\n    return x\n",
+        "Shared 5",
+    ),
+    (
+        "def f(x):\n    return len(g([x]))\ndef g(v):\n    return v\n",
+        "Shared 4",
+    ),
 ];
 
 fn name(ty: Ty) -> &'static str {
