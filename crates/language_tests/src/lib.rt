@@ -17,5 +17,3 @@ mod reading;
 mod runs;
 #[cfg(test)]
 mod tokens;
-#[cfg(test)]
-mod typing;

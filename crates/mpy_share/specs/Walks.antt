@@ -1,6 +1,7 @@
 -- The lesser of a line and the least one for the statements of a body, by the form of the body.
 use Rattle.std.specs.Prelude.{ℕ, List, Option}
-use Rattle.mpy_tree.specs.Syntax.{at, Action, Block, end, step, MaybeBlock, no_block, a_block, arm, Branches, no_arms, arm_and}
+use Rattle.mpy_tree.specs.Syntax.{at, Action, Block, end, step, MaybeBlock, no_block, a_block, arm}
+use Rattle.mpy_tree.specs.Syntax.{Branches, no_arms, arm_and}
 use Rattle.mpy_tree.specs.Syntax as ast
 use Rattle.mpy_tree.specs.Leasts.{lesser, least}
 use Rattle.mpy_tree.specs.Sites.{Site, does, asks}

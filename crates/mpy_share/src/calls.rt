@@ -93,7 +93,8 @@ fn one_calls(e: &Expr, f: &Name) -> bool
 // Whether a call in the two expressions of a statement names a function.
 #[tactic(auto, using(crate::proofs::Leasts::any_of_either))]
 fn two_call(a: &Expr, b: &Expr, f: &Name) -> bool
-    ensures { result ≡ list_any (is_call_of f.now) (flat_map nodes (term_of a.now ∷ term_of b.now ∷ [])) }
+    ensures { result ≡ list_any (is_call_of f.now) (flat_map nodes
+        (term_of a.now ∷ term_of b.now ∷ [])) }
 {
     calls(a, f) || calls(b, f)
 }

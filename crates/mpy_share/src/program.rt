@@ -14,10 +14,15 @@ use crate::walk::least_in;
 use mpy_tree::{Fact, Func, Prog, Types};
 use mpy_types::{FactList, sooner};
 
-/// Whether no two names of a typed program share a list, or the least line on which they do.
+/// Whether no two names of a program with these types share a list. It takes no memory.
+///
+/// # Errors
+///
+/// The least line of a statement that shares one.
 #[tactic(auto, using(crate::proofs::Leasts::nothing_shared))]
 pub fn unshared(p: &Prog, t: &Types) -> Result<(), u32>
-    ensures { MatchResult result (λ _. shared (single (set_of t.now.facts)) (routines_of p.now) ≡ []) (λ l. least (shared (single (set_of t.now.facts)) (routines_of p.now)) ≡ Some l) }
+    ensures { MatchResult result (λ _. shared (single (set_of t.now.facts)) (routines_of p.now) ≡
+        []) (λ l. least (shared (single (set_of t.now.facts)) (routines_of p.now)) ≡ Some l) }
 {
     match least_shared(&p.funcs.items, t.facts.items()) {
         None => Ok(()),
@@ -40,7 +45,9 @@ fn least_shared(funcs: &[Func], facts: &[Fact]) -> Option<u32>
 
 // The least line of a function.
 fn shared_in(known: &FactList<'_>, funcs: &[Func], i: usize, func: &Func) -> Option<u32>
-    ensures { result ≡ least (flat_map (shared_on (single (set_of known.now.facts.now)) (map routine_of funcs.now) i (is_called (map routine_of funcs.now) func.now.name) func.now.params) (sites (block_of func.now.body))) }
+    ensures { result ≡ least (flat_map (shared_on (single (set_of known.now.facts.now))
+        (map routine_of funcs.now) i (is_called (map routine_of funcs.now) func.now.name)
+        func.now.params) (sites (block_of func.now.body))) }
 {
     let place = Place {
         known,

@@ -8,7 +8,8 @@ ghost use Rattle.mpy_tree.specs.Leasts.{least};
 ghost use Rattle.mpy_tree.specs.Rules.{single, type_in, is_type};
 ghost use Rattle.mpy_tree.specs.Sites.{sites};
 ghost use Rattle.mpy_types.specs.Views.{site_of};
-ghost use Rattle.mpy_tree.specs.Sharing.{opens, open_to, some_name, changes, changed_on, shared_by, shared_on, on_line_if};
+ghost use Rattle.mpy_tree.specs.Sharing.{opens, open_to, some_name, changes, changed_on, shared_by};
+ghost use Rattle.mpy_tree.specs.Sharing.{shared_on, on_line_if};
 ghost use Rattle.mpy_tree.specs.declared.typing.Ty.TheVariants.{List as listed};
 
 use crate::walk::{Look, least_in};
@@ -50,14 +51,17 @@ pub struct Place<'a, K: Known> {
 impl<'a, K: Known> Place<'a, K> {
     /// Whether an expression is a list.
     pub fn is_list(&self, e: &Expr) -> bool
-        ensures { result ≡ is_type listed (type_in (single (K.gives self.now.known.now)) (map routine_of self.now.funcs.now) self.now.func (term_of e.now)) }
+        ensures { result ≡ is_type listed (type_in (single (K.gives self.now.known.now))
+            (map routine_of self.now.funcs.now) self.now.func (term_of e.now)) }
     {
         type_in(self.known, self.funcs, self.func, e) == Some(Ty::List)
     }
 
     /// The name whose list a statement changes in place.
     pub fn changed<'b>(&self, act: &'b Act) -> Option<&'b Name>
-        ensures { option_to_list (option_map (λ x. x.now) result) ≡ changes (single (K.gives self.now.known.now)) (map routine_of self.now.funcs.now) self.now.func (action_of act.now) }
+        ensures { option_to_list (option_map (λ x. x.now) result) ≡ changes
+            (single (K.gives self.now.known.now)) (map routine_of self.now.funcs.now) self.now.func
+            (action_of act.now) }
     {
         match act {
             Act::Put(x, _, _) | Act::AugmentAt(x, _, _, _) | Act::Append(x, _) => Some(x),
@@ -81,7 +85,8 @@ pub struct Changes<'a, K: Known> {
 }
 
 impl<K: Known> Look for Changes<'_, K> {
-    ghost lines = { λ s. changed_on (single (K.gives s.place.now.known.now)) (map routine_of s.place.now.funcs.now) s.place.now.func (opens (term_of s.list.now)) };
+    ghost lines = { λ s. changed_on (single (K.gives s.place.now.known.now))
+        (map routine_of s.place.now.funcs.now) s.place.now.func (opens (term_of s.list.now)) };
 
     #[tactic(auto, unfolding(mpy_tree::specs::Leasts::least))]
     fn look(&self, s: Site<'_>) -> Option<u32> {
@@ -108,7 +113,8 @@ pub struct Shares<'a, K: Known> {
 }
 
 impl<K: Known> Look for Shares<'_, K> {
-    ghost lines = { λ s. shared_on (single (K.gives s.place.known.now)) (map routine_of s.place.funcs.now) s.place.func s.called s.params.now };
+    ghost lines = { λ s. shared_on (single (K.gives s.place.known.now))
+        (map routine_of s.place.funcs.now) s.place.func s.called s.params.now };
 
     #[tactic(auto, unfolding(mpy_tree::specs::Leasts::least))]
     fn look(&self, s: Site<'_>) -> Option<u32> {
@@ -122,7 +128,9 @@ impl<K: Known> Look for Shares<'_, K> {
 impl<K: Known> Shares<'_, K> {
     // The least line on which a statement shares.
     fn shared(&self, line: u32, act: &Act) -> Option<u32>
-        ensures { result ≡ least (shared_by (single (K.gives self.now.place.known.now)) (map routine_of self.now.place.funcs.now) self.now.place.func self.now.called self.now.params.now line (action_of act.now)) }
+        ensures { result ≡ least (shared_by (single (K.gives self.now.place.known.now))
+            (map routine_of self.now.place.funcs.now) self.now.place.func self.now.called
+            self.now.params.now line (action_of act.now)) }
     {
         match act {
             Act::Assign(_, e) => on_line_if(self.place.is_list(e) && opens_some(e), line),
@@ -134,7 +142,9 @@ impl<K: Known> Shares<'_, K> {
 
     // Whether a list expression is open to a parameter.
     fn opens_param(&self, e: &Expr) -> bool
-        ensures { result ≡ list_any (is_among self.now.params.now) (open_to (single (K.gives self.now.place.known.now)) (map routine_of self.now.place.funcs.now) self.now.place.func (term_of e.now)) }
+        ensures { result ≡ list_any (is_among self.now.params.now)
+            (open_to (single (K.gives self.now.place.known.now))
+            (map routine_of self.now.place.funcs.now) self.now.place.func (term_of e.now)) }
     {
         if !self.place.is_list(e) {
             return false;
@@ -144,7 +154,9 @@ impl<K: Known> Shares<'_, K> {
 
     // Whether a statement changes a parameter in place.
     fn changes_param(&self, act: &Act) -> bool
-        ensures { result ≡ list_any (is_among self.now.params.now) (changes (single (K.gives self.now.place.known.now)) (map routine_of self.now.place.funcs.now) self.now.place.func (action_of act.now)) }
+        ensures { result ≡ list_any (is_among self.now.params.now)
+            (changes (single (K.gives self.now.place.known.now))
+            (map routine_of self.now.place.funcs.now) self.now.place.func (action_of act.now)) }
     {
         match self.place.changed(act) {
             None => false,
@@ -154,7 +166,11 @@ impl<K: Known> Shares<'_, K> {
 
     // The least line in a `for` on which what it goes over is changed in place.
     fn changed_in(&self, e: &Expr, body: &Stmts) -> Option<u32>
-        ensures { result ≡ least (flat_map (changed_on (single (K.gives self.now.place.known.now)) (map routine_of self.now.place.funcs.now) self.now.place.func (open_to (single (K.gives self.now.place.known.now)) (map routine_of self.now.place.funcs.now) self.now.place.func (term_of e.now))) (sites (block_of body.now))) }
+        ensures { result ≡ least (flat_map (changed_on (single (K.gives self.now.place.known.now))
+            (map routine_of self.now.place.funcs.now) self.now.place.func
+            (open_to (single (K.gives self.now.place.known.now))
+            (map routine_of self.now.place.funcs.now) self.now.place.func (term_of e.now)))
+            (sites (block_of body.now))) }
     {
         self.changed_if(self.place.is_list(e), e, body)
     }
@@ -162,7 +178,9 @@ impl<K: Known> Shares<'_, K> {
     // The same of an expression that is a list or isn't.
     #[tactic(auto, using(crate::proofs::Leasts::nothing_changed))]
     fn changed_if(&self, is_open: bool, e: &Expr, body: &Stmts) -> Option<u32>
-        ensures { result ≡ least (flat_map (changed_on (single (K.gives self.now.place.known.now)) (map routine_of self.now.place.funcs.now) self.now.place.func (if is_open then opens (term_of e.now) else [])) (sites (block_of body.now))) }
+        ensures { result ≡ least (flat_map (changed_on (single (K.gives self.now.place.known.now))
+            (map routine_of self.now.place.funcs.now) self.now.place.func
+            (if is_open then opens (term_of e.now) else [])) (sites (block_of body.now))) }
     {
         if is_open {
             self.changed_inside(e, body)
@@ -173,7 +191,9 @@ impl<K: Known> Shares<'_, K> {
 
     // The least line in a body on which a list is changed that an expression may be.
     fn changed_inside(&self, e: &Expr, body: &Stmts) -> Option<u32>
-        ensures { result ≡ least (flat_map (changed_on (single (K.gives self.now.place.known.now)) (map routine_of self.now.place.funcs.now) self.now.place.func (opens (term_of e.now))) (sites (block_of body.now))) }
+        ensures { result ≡ least (flat_map (changed_on (single (K.gives self.now.place.known.now))
+            (map routine_of self.now.place.funcs.now) self.now.place.func (opens (term_of e.now)))
+            (sites (block_of body.now))) }
     {
         let changes = Changes {
             place: &self.place,

@@ -1,10 +1,10 @@
--- Worked programs: their faults, slots and flows, each closed by computing it.
+-- Worked programs: their faults, slots, flows and shared lists, each closed by computing it.
 use Rattle.std.proofs.Common.{◌≡◌, ℕ, List, [], ◌∷◌, Some, None, refl, codes}
 use Rattle.mpy_tree.specs.declared.operators.ArithOp.TheVariants.{Mul}
 use Rattle.mpy_tree.specs.declared.refusal.Cause.TheVariants as cause
 use Rattle.mpy_tree.specs.declared.typing.Ty.TheVariants as ty
 use Rattle.mpy_tree.specs.declared.typing.Slot.TheVariants as slot
-use Rattle.mpy_tree.specs.Syntax.{Term, no_terms, term_and, a_term, at, end, step, Routine}
+use Rattle.mpy_tree.specs.Syntax.{Term, no_terms, term_and, no_term, a_term, at, end, step, Routine}
 use Rattle.mpy_tree.specs.Syntax as ast
 use Rattle.mpy_tree.specs.declared.typing.Slot.{Slot}
 use Rattle.mpy_tree.specs.declared.typing.TypeSet.{TypeSet}
@@ -13,6 +13,7 @@ use Rattle.mpy_tree.specs.TypeSets.{no_types, just, join}
 use Rattle.mpy_tree.specs.SetTypes.{FactSet, types_in}
 use Rattle.mpy_tree.specs.Flows.{flows, flow, given, value, each, source_types}
 use Rattle.mpy_tree.specs.Typings.{set_of}
+use Rattle.mpy_tree.specs.Sharing.{shared}
 use Rattle.mpy_tree.specs.Locals.{locals}
 use Rattle.mpy_tree.specs.Leasts.{least}
 use Rattle.mpy_tree.specs.Rules.{single, type_in}
@@ -127,3 +128,32 @@ number_times_list = refl
 
 list_times_number : type_in (single numbers) (returns (ast.Name x)) 0 (ast.Arith Mul (ast.List no_terms) (ast.Int 2)) ≡ Some ty.List
 list_times_number = refl
+
+-- every slot is a list; def f(x): y = e
+abbrev lists : FactSet
+lists = λ i s. just ty.List
+
+abbrev sets_y : Term → List Routine
+sets_y e = record { line = 1; name = f; params = x ∷ []; body = step (at 2 (ast.Assign y e)) end } ∷ []
+
+name_is_shared : shared (single lists) (sets_y (ast.Name x)) ≡ 2 ∷ []
+name_is_shared = refl
+
+arm_is_shared : shared (single lists) (sets_y (ast.Cond (ast.Name x) (ast.List no_terms) (ast.Name y))) ≡ 2 ∷ []
+arm_is_shared = refl
+
+copy_is_not_shared : shared (single lists) (sets_y (ast.Slice (ast.Name x) no_term no_term)) ≡ []
+copy_is_not_shared = refl
+
+number_is_not_shared : shared (single numbers) (sets_y (ast.Name x)) ≡ []
+number_is_not_shared = refl
+
+-- def f(x): for y in e: x.append(1)
+abbrev goes_over : Term → List Routine
+goes_over e = record { line = 1; name = f; params = x ∷ []; body = step (at 2 (ast.For y e (step (at 3 (ast.Append x (ast.Int 1))) end))) end } ∷ []
+
+change_in_its_loop : shared (single lists) (goes_over (ast.Name x)) ≡ 3 ∷ []
+change_in_its_loop = refl
+
+change_in_a_loop_over_a_copy : shared (single lists) (goes_over (ast.Slice (ast.Name x) no_term no_term)) ≡ []
+change_in_a_loop_over_a_copy = refl

@@ -1,5 +1,6 @@
 -- Faults of names and of numbers of arguments, each with the line on which it stands.
-use Rattle.std.specs.Prelude.{ℕ, ◌+◌, ◌==◌, Bool, true, false, not, ◌||◌, List, [], ◌∷◌, ◌++◌, length, Option, Some, None, is_some, if◌then◌else◌}
+use Rattle.std.specs.Prelude.{ℕ, ◌+◌, ◌==◌, Bool, true, false, not, ◌||◌, List, [], ◌∷◌, ◌++◌}
+use Rattle.std.specs.Prelude.{length, Option, Some, None, is_some, if◌then◌else◌}
 use Rattle.std.specs.List.{list_any}
 use Rattle.mpy_tree.specs.declared.builtins.Builtin.{Builtin}
 use Rattle.mpy_tree.specs.Syntax.{Term, Terms, no_terms, term_and, Routine}

@@ -1,5 +1,7 @@
--- The typing rules: the type of an expression each of whose nodes obeys its rule, and the statements that obey theirs.
-use Rattle.std.specs.Prelude.{ℕ, Bool, true, false, ◌&&◌, List, [], ◌∷◌, Option, Some, None, is_some, length, if◌then◌else◌}
+-- The typing rules: the type of an expression each of whose nodes obeys its rule, and the statements
+-- that obey theirs.
+use Rattle.std.specs.Prelude.{ℕ, Bool, true, false, ◌&&◌, List, [], ◌∷◌, Option, Some, None}
+use Rattle.std.specs.Prelude.{is_some, length, if◌then◌else◌}
 use Rattle.mpy_tree.specs.declared.operators.ArithOp.{ArithOp}
 use Rattle.mpy_tree.specs.declared.operators.ArithOp.TheVariants.{Add, Mul}
 use Rattle.mpy_tree.specs.declared.operators.CmpOp.{CmpOp}
@@ -8,7 +10,8 @@ use Rattle.mpy_tree.specs.declared.typing.Ty.{Ty}
 use Rattle.mpy_tree.specs.declared.typing.Ty.TheVariants as ty
 use Rattle.mpy_tree.specs.declared.typing.Slot.{Slot}
 use Rattle.mpy_tree.specs.declared.typing.Slot.TheVariants as slot
-use Rattle.mpy_tree.specs.Syntax.{Term, Terms, MaybeTerm, no_terms, term_and, no_term, a_term, Action, Routine}
+use Rattle.mpy_tree.specs.Syntax.{Term, Terms, MaybeTerm, no_terms, term_and, no_term, a_term}
+use Rattle.mpy_tree.specs.Syntax.{Action, Routine}
 use Rattle.mpy_tree.specs.Syntax as ast
 use Rattle.mpy_tree.specs.declared.builtins.Builtin.{Builtin}
 use Rattle.mpy_tree.specs.declared.builtins.Builtin.TheVariants.{Len, Abs, Min, Max, Range}

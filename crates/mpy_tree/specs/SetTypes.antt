@@ -1,5 +1,6 @@
 -- The types of an expression: a set, which depends on what is known of the names.
-use Rattle.std.specs.Prelude.{ℕ, ◌+◌, ◌==◌, Bool, true, false, ◌&&◌, List, [], ◌∷◌, Option, Some, None, if◌then◌else◌}
+use Rattle.std.specs.Prelude.{ℕ, ◌+◌, ◌==◌, Bool, true, false, ◌&&◌, List, [], ◌∷◌, Option, Some}
+use Rattle.std.specs.Prelude.{None, if◌then◌else◌}
 use Rattle.mpy_tree.specs.declared.operators.ArithOp.{ArithOp}
 use Rattle.mpy_tree.specs.declared.operators.ArithOp.TheVariants.{Add, Mul}
 use Rattle.mpy_tree.specs.declared.builtins.Builtin.{Builtin}
@@ -15,7 +16,8 @@ use Rattle.mpy_tree.specs.Values.{same_bytes}
 use Rattle.mpy_tree.specs.declared.typing.TypeSet.{TypeSet}
 use Rattle.mpy_tree.specs.TypeSets.{no_types, just, join, members}
 
--- A set of facts: the types of each slot of each function. Functions are counted from 0, in order of the file.
+-- A set of facts: the types of each slot of each function. Functions are counted from 0, in order
+-- of the file.
 abbrev pub FactSet : Type 0
 FactSet = ℕ → Slot → TypeSet
 

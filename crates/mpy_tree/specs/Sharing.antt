@@ -43,9 +43,10 @@ module _ (S : Slots) (p : List Routine) (i : ℕ) where
   changed_on xs (does line act) = on_line_if (list_any (is_among xs) (changes act)) line
   changed_on xs (asks line e) = []
 
-  -- The lines on which a statement of a function with the parameters ps shares: `v = e` where e is open to some name;
-  -- in a `for`, a change of a list that the `for` is open to; and, where the function is called, a `return` of an
-  -- expression that is open to a parameter, and a change of a parameter.
+  -- The lines on which a statement of a function with the parameters ps shares: `v = e` where e is
+  -- open to some name; in a `for`, a change of a list that the `for` is open to; and, where the
+  -- function is called, a `return` of an expression that is open to a parameter, and a change of a
+  -- parameter.
   abbrev pub shared_by : Bool → List (List ℕ) → ℕ → Action → List ℕ
   shared_by called ps line (ast.Assign x e) = on_line_if (some_name (open_to e)) line
   shared_by called ps line (ast.Return (a_term e)) =

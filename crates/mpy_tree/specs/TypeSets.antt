@@ -51,4 +51,7 @@ IsWithin s t = (a : Ty) → IsTrue (has s a) → IsTrue (has t a)
 
 abbrev pub within : TypeSet → TypeSet → Bool
 within s t =
-    (not s.int || t.int) && (not s.bool || t.bool) && (not s.list || t.list) && (not s.text || t.text)
+    (not s.int || t.int)
+    && (not s.bool || t.bool)
+    && (not s.list || t.list)
+    && (not s.text || t.text)

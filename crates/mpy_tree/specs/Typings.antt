@@ -1,5 +1,6 @@
--- When facts type a program that is entered so, which facts are its typing, and what its first fault is.
-use Rattle.std.specs.Prelude.{◌≡◌, ⊤, ℕ, List, [], ◌∷◌, length, ◌⊎◌, Some, None, if◌then◌else◌, IsTrue}
+-- When facts type a program that is entered so, which facts are its typing, and its first fault.
+use Rattle.std.specs.Prelude.{◌≡◌, ⊤, ℕ, List, [], ◌∷◌, length, ◌⊎◌, Some, None, if◌then◌else◌}
+use Rattle.std.specs.Prelude.{IsTrue}
 use Rattle.std.specs.declared.result.Result.{Result}
 use Rattle.std.specs.declared.result.Result.TheVariants.{Ok, Err}
 use Rattle.std.specs.List.{All, list_any}
@@ -24,15 +25,15 @@ set_of (f ∷ fs) = λ j y.
 abbrev pub IsOfSlot : List Routine → Fact → Type 0
 IsOfSlot p f = IsTrue (list_any (λ s. same_place f.func f.slot s.func s.slot) (slots p))
 
--- The facts type the program: they are about its slots, each assignment, `for`, call and `return` has
--- its result among them, each slot has exactly one type, and no name, call or node is at fault.
+-- The facts type the program: they are about its slots, each assignment, `for`, call and `return`
+-- has its result among them, each slot has exactly one type, and no name, call or node is at fault.
 pub record AreTypes (T : List Fact) (p : List Routine) (entry : List ℕ) (ts : List Ty) : Type 0 where
   pub of_slots : All (IsOfSlot p) T
   pub closed : IsClosed (set_of T) p (flows p entry ts)
   pub faultless : first_fault p entry ts (set_of T) ≡ None
 
--- The facts are the typing of the program: those of the least set, one for each slot in order, where
--- by that set the program has no fault.
+-- The facts are the typing of the program: those of the least set, one for each slot in order,
+-- where by that set the program has no fault.
 pub record IsTyping (T : List Fact) (p : List Routine) (entry : List ℕ) (ts : List Ty) : Type 0 where
   pub set : FactSet
   pub least : IsLeast set p entry ts

@@ -1,5 +1,6 @@
 -- What a step and a pass over flows do to a set of facts.
-use Rattle.std.specs.Prelude.{◌≡◌, ℕ, ◌+◌, ◌<◌, Bool, true, false, List, [], ◌∷◌, take, map, if◌then◌else◌}
+use Rattle.std.specs.Prelude.{◌≡◌, ℕ, ◌+◌, ◌<◌, Bool, true, false, List, [], ◌∷◌, take, map}
+use Rattle.std.specs.Prelude.{if◌then◌else◌}
 use Rattle.std.specs.List.{All}
 use Rattle.mpy_tree.specs.Syntax.{Routine}
 use Rattle.mpy_tree.specs.declared.typing.Slot.{Slot}
@@ -30,7 +31,9 @@ lacking F (f ∷ fs) = absent (F f.func f.slot) + lacking F fs
 -- a flow is kept already, or its slot gets the types of its source
 abbrev pub IsStep : Bool → FactSet → FactSet → List Routine → Flow → Type 0
 IsStep false F G p f = Keeps F p f × (G ≡ F)
-IsStep true F G p f = (within (source_types F p f.from) (F f.func f.slot) ≡ false) × (G ≡ raised F f.func f.slot (source_types F p f.from))
+IsStep true F G p f =
+    (within (source_types F p f.from) (F f.func f.slot) ≡ false)
+    × (G ≡ raised F f.func f.slot (source_types F p f.from))
 
 abbrev pub AreKept : FactSet → List Routine → List Stream → Type 0
 AreKept F p fs = All (λ f. Keeps F p (flow_of f)) fs

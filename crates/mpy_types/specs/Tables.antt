@@ -30,7 +30,10 @@ flow_of f = flow f.func (slot_of f.slot) (source_of f.from)
 -- the types that rows give a slot
 abbrev pub facts_in : List Row → FactSet
 facts_in [] = λ j y. no_types
-facts_in (r ∷ rs) = λ j y. if same_place r.func (slot_of r.slot) j y then join r.types (facts_in rs j y) else facts_in rs j y
+facts_in (r ∷ rs) = λ j y.
+    if same_place r.func (slot_of r.slot) j y
+    then join r.types (facts_in rs j y)
+    else facts_in rs j y
 
 abbrev pub facts_of : Table → FactSet
 facts_of t = facts_in t.rows.items

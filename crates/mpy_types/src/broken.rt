@@ -1,7 +1,8 @@
 //! Statements that break their rules.
 ghost use Rattle.std.specs.Prelude.{◌≡◌, ◌<◌, ◌^◌, ◌++◌, length, map, not, IfOk, if◌then◌else◌};
 ghost use Rattle.mpy_tree.specs.View.{term_of, action_of, block_of, routine_of};
-ghost use Rattle.mpy_tree.specs.Rules.{single, type_in, act_obeys, site_obeys, augment_obeys, put_obeys, is_sequence, is_type};
+ghost use Rattle.mpy_tree.specs.Rules.{single, type_in, act_obeys, site_obeys, augment_obeys};
+ghost use Rattle.mpy_tree.specs.Rules.{put_obeys, is_sequence, is_type};
 ghost use Rattle.mpy_tree.specs.Names.{lines_of};
 ghost use Rattle.mpy_tree.specs.Leasts.{lesser, least};
 ghost use Rattle.mpy_tree.specs.Faults.{broken_from};
@@ -16,7 +17,8 @@ use std::alloc::Global;
 
 /// Whether a statement itself, or the test of an arm, obeys its rule.
 pub fn obeys<K: Known>(known: &K, funcs: &[Func], func: usize, s: Site<'_>) -> bool
-    ensures { result ≡ site_obeys (single (K.gives known.now)) (map routine_of funcs.now) func (site_of s.entry) }
+    ensures { result ≡ site_obeys (single (K.gives known.now)) (map routine_of funcs.now) func
+        (site_of s.entry) }
 {
     match s {
         Site::Does(_, act) => act_obeys(known, funcs, func, act),
@@ -26,7 +28,8 @@ pub fn obeys<K: Known>(known: &K, funcs: &[Func], func: usize, s: Site<'_>) -> b
 
 // Whether a statement itself obeys its rule.
 fn act_obeys<K: Known>(known: &K, funcs: &[Func], func: usize, act: &Act) -> bool
-    ensures { result ≡ act_obeys (single (K.gives known.now)) (map routine_of funcs.now) func (action_of act.now) }
+    ensures { result ≡ act_obeys (single (K.gives known.now)) (map routine_of funcs.now) func
+        (action_of act.now) }
 {
     match act {
         Act::Assign(_, e) | Act::Return(Some(e)) | Act::While(e, _) => {
@@ -58,7 +61,8 @@ fn augments(op: ArithOp, left: Option<Ty>, right: Option<Ty>) -> bool
 
 // Whether `x[k] = e` obeys its rule.
 fn puts<K: Known>(known: &K, funcs: &[Func], func: usize, x: &Name, k: &Expr, e: &Expr) -> bool
-    ensures { result ≡ put_obeys (single (K.gives known.now)) (map routine_of funcs.now) func x.now (term_of k.now) (term_of e.now) }
+    ensures { result ≡ put_obeys (single (K.gives known.now)) (map routine_of funcs.now) func x.now
+        (term_of k.now) (term_of e.now) }
 {
     known.local(func, x).only() == Some(Ty::List)
         && type_in(known, funcs, func, k) == Some(Ty::Int)
@@ -82,7 +86,8 @@ pub fn least_broken<K: Known>(
     known: &K,
     funcs: &[Func],
 ) -> Result<Option<u32>, NoMemory>
-    ensures { IfOk result (λ r. r ≡ least (broken_from (single (K.gives known.now)) (map routine_of funcs.now) 0 (map routine_of funcs.now))) }
+    ensures { IfOk result (λ r. r ≡ least (broken_from (single (K.gives known.now))
+        (map routine_of funcs.now) 0 (map routine_of funcs.now))) }
 {
     let mut first = None;
     for (i, func) in funcs.iter().enumerate() {
@@ -100,7 +105,9 @@ fn broken_in<K: Known>(
     i: usize,
     func: &Func,
 ) -> Result<Option<u32>, NoMemory>
-    ensures { IfOk result (λ r. r ≡ least (lines_of (λ s. not (site_obeys (single (K.gives known.now)) (map routine_of funcs.now) i s)) (sites (block_of func.now.body)))) }
+    ensures { IfOk result (λ r. r ≡ least (lines_of
+        (λ s. not (site_obeys (single (K.gives known.now)) (map routine_of funcs.now) i s))
+        (sites (block_of func.now.body)))) }
 {
     let mut seen = Vec::new(alloc);
     push_sites(&func.body, &mut seen)?;

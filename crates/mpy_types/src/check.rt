@@ -6,7 +6,8 @@ ghost use Rattle.mpy_tree.specs.Typings.{Checks};
 ghost use Rattle.mpy_tree.specs.Flows.{flows, IsLeast};
 ghost use Rattle.mpy_tree.specs.Leasts.{least};
 ghost use Rattle.mpy_tree.specs.Rules.{single};
-ghost use Rattle.mpy_tree.specs.Faults.{or_fault, names_fault, entry_fault, slots_fault, nodes_fault, slots, fault_on, broken_from};
+ghost use Rattle.mpy_tree.specs.Faults.{or_fault, names_fault, entry_fault, slots_fault};
+ghost use Rattle.mpy_tree.specs.Faults.{nodes_fault, slots, fault_on, broken_from};
 ghost use Rattle.mpy_types.specs.Tables.{facts_of};
 ghost use Rattle.mpy_types.specs.Views.{place_of};
 
@@ -19,8 +20,16 @@ use crate::table::Table;
 use mpy_tree::{Cause, Facts, Func, NoMemory, Prog, Signature, TypeError, Types};
 use std::alloc::Global;
 
-/// The typing of a program that is entered so: the least set of facts, if it gives each slot one type and no
-/// name, call or node is at fault. Else the first fault.
+/// The typing of a program that is entered so: the least set of types that keeps every assignment,
+/// `for`, call and `return`, as one fact for each slot in order, where by that set each slot has
+/// exactly one type and no name, call or node is at fault.
+///
+/// # Errors
+///
+/// The first fault, with its line: the least line of a fault of names (`Name`) or of numbers of
+/// arguments (`Arity`); `Entry` where the entry isn't there, or has another number of parameters;
+/// the first slot without a type (`Undetermined`) or with several, of which the first two are told;
+/// the least line of a node that breaks its rule (`TypeFault`). Or want of memory.
 pub fn check_types(alloc: Global, p: &Prog, s: &Signature) -> Result<Types, TypeError>
     ensures { Checks result (routines_of p.now) s.now.entry s.now.params }
 {
@@ -41,7 +50,8 @@ pub fn check_types(alloc: Global, p: &Prog, s: &Signature) -> Result<Types, Type
 
 // The first fault of names, numbers of arguments or the entry.
 fn early_fault(alloc: Global, funcs: &[Func], s: &Signature) -> Result<Option<TypeError>, NoMemory>
-    ensures { IfOk result (λ e. e ≡ or_fault (names_fault (map routine_of funcs.now)) (entry_fault (found (map routine_of funcs.now) s.now.entry) (length s.now.params))) }
+    ensures { IfOk result (λ e. e ≡ or_fault (names_fault (map routine_of funcs.now))
+        (entry_fault (found (map routine_of funcs.now) s.now.entry) (length s.now.params))) }
 {
     let fault = names_fault(alloc, funcs)?;
     if fault.is_some() {
@@ -52,7 +62,8 @@ fn early_fault(alloc: Global, funcs: &[Func], s: &Signature) -> Result<Option<Ty
 
 // The least set of facts.
 fn least_set<'a>(alloc: Global, funcs: &'a [Func], s: &Signature) -> Result<Table<'a>, NoMemory>
-    ensures { IfOk result (λ t. IsLeast (facts_of t) (map routine_of funcs.now) s.now.entry s.now.params) }
+    ensures { IfOk result (λ t. IsLeast (facts_of t) (map routine_of funcs.now) s.now.entry
+        s.now.params) }
 {
     let flows = flows(alloc, funcs, &s.entry, s.params.items())?;
     least_facts(alloc, funcs, &flows)
@@ -66,7 +77,9 @@ fn late_fault(
     places: &[Place<'_>],
 ) -> Result<Option<TypeError>, NoMemory>
     requires { map place_of places.now ≡ slots (map routine_of funcs.now) }
-    ensures { IfOk result (λ e. e ≡ or_fault (slots_fault (facts_of table.now) (slots (map routine_of funcs.now))) (nodes_fault (single (facts_of table.now)) (map routine_of funcs.now))) }
+    ensures { IfOk result (λ e. e ≡ or_fault (slots_fault (facts_of table.now)
+        (slots (map routine_of funcs.now))) (nodes_fault (single (facts_of table.now))
+        (map routine_of funcs.now))) }
 {
     let fault = slots_fault(table, places);
     if fault.is_some() {

@@ -3,7 +3,8 @@ ghost use Rattle.std.specs.Prelude.{◌≡◌, ◌<◌, ◌^◌, ◌++◌, [], l
 ghost use Rattle.std.specs.List.{flat_map};
 ghost use Rattle.mpy_tree.specs.View.{term_of, terms, action_of, block_of, routine_of};
 ghost use Rattle.mpy_tree.specs.Sites.{sites};
-ghost use Rattle.mpy_tree.specs.Flows.{flows, flows_from, given_flows, all_site_flows, act_flows, node_flows, argument_flows};
+ghost use Rattle.mpy_tree.specs.Flows.{flows, flows_from, given_flows, all_site_flows, act_flows};
+ghost use Rattle.mpy_tree.specs.Flows.{node_flows, argument_flows};
 ghost use Rattle.mpy_types.specs.Tables.{flow_of};
 ghost use Rattle.mpy_types.specs.Views.{site_of};
 
@@ -20,7 +21,8 @@ pub fn flows<'a>(
     entry: &Name,
     params: &[Ty],
 ) -> Result<Vec<Flow<'a>>, NoMemory>
-    ensures { IfOk result (λ fs. map flow_of fs.items ≡ flows (map routine_of funcs.now) entry.now params.now) }
+    ensures { IfOk result (λ fs. map flow_of fs.items ≡ flows (map routine_of funcs.now) entry.now
+        params.now) }
 {
     let mut out = Vec::new(alloc);
     if let Some(g) = called(funcs, entry) {
@@ -39,7 +41,8 @@ fn push_given<'a>(
     types: &[Ty],
     out: &mut Vec<Flow<'a>>,
 ) -> Result<(), NoMemory>
-    ensures { OnOk result (map flow_of out.new.items ≡ map flow_of out.old.items ++ given_flows j params.now types.now) }
+    ensures { OnOk result (map flow_of out.new.items ≡ map flow_of out.old.items ++ given_flows j
+        params.now types.now) }
 {
     for (k, x) in params.iter().enumerate() {
         match types.get(k) {
@@ -62,7 +65,8 @@ fn push_func<'a>(
     func: &'a Func,
     out: &mut Vec<Flow<'a>>,
 ) -> Result<(), NoMemory>
-    ensures { OnOk result (map flow_of out.new.items ≡ map flow_of out.old.items ++ flat_map (all_site_flows (map routine_of funcs.now) i) (sites (block_of func.now.body))) }
+    ensures { OnOk result (map flow_of out.new.items ≡ map flow_of out.old.items ++ flat_map
+        (all_site_flows (map routine_of funcs.now) i) (sites (block_of func.now.body))) }
 {
     let mut seen = Vec::new(alloc);
     push_sites(&func.body, &mut seen)?;
@@ -80,7 +84,8 @@ fn push_site<'a>(
     s: Site<'a>,
     out: &mut Vec<Flow<'a>>,
 ) -> Result<(), NoMemory>
-    ensures { OnOk result (map flow_of out.new.items ≡ map flow_of out.old.items ++ all_site_flows (map routine_of funcs.now) i (site_of s.entry)) }
+    ensures { OnOk result (map flow_of out.new.items ≡ map flow_of out.old.items ++ all_site_flows
+        (map routine_of funcs.now) i (site_of s.entry)) }
 {
     if let Site::Does(_, act) = s {
         push_act(i, act, out)?;
@@ -95,7 +100,8 @@ fn push_site<'a>(
 
 // Appends the flow of a statement.
 fn push_act<'a>(i: usize, act: &'a Act, out: &mut Vec<Flow<'a>>) -> Result<(), NoMemory>
-    ensures { OnOk result (map flow_of out.new.items ≡ map flow_of out.old.items ++ act_flows i (action_of act.now)) }
+    ensures { OnOk result (map flow_of out.new.items ≡ map flow_of out.old.items ++ act_flows i
+        (action_of act.now)) }
 {
     let (slot, from) = match act {
         Act::Augment(_, ArithOp::Mul, _) => return Ok(()),
@@ -119,7 +125,8 @@ fn push_node<'a>(
     e: &'a Expr,
     out: &mut Vec<Flow<'a>>,
 ) -> Result<(), NoMemory>
-    ensures { OnOk result (map flow_of out.new.items ≡ map flow_of out.old.items ++ node_flows (map routine_of funcs.now) i (term_of e.now)) }
+    ensures { OnOk result (map flow_of out.new.items ≡ map flow_of out.old.items ++ node_flows
+        (map routine_of funcs.now) i (term_of e.now)) }
 {
     if let Expr::Call(f, es) = e {
         if let Some(g) = called(funcs, f) {
@@ -137,7 +144,8 @@ fn push_arguments<'a>(
     es: &'a Exprs,
     out: &mut Vec<Flow<'a>>,
 ) -> Result<(), NoMemory>
-    ensures { OnOk result (map flow_of out.new.items ≡ map flow_of out.old.items ++ argument_flows j params.now i (terms (map term_of es.now.items.items))) }
+    ensures { OnOk result (map flow_of out.new.items ≡ map flow_of out.old.items ++ argument_flows j
+        params.now i (terms (map term_of es.now.items.items))) }
 {
     for (k, x) in params.iter().enumerate() {
         match es.items.get(k) {

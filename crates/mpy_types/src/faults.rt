@@ -6,7 +6,10 @@ ghost use Rattle.mpy_tree.specs.Running.{found};
 ghost use Rattle.mpy_tree.specs.View.{term_of, terms_of, block_of, routine_of};
 ghost use Rattle.mpy_tree.specs.Sites.{sites};
 ghost use Rattle.mpy_tree.specs.Locals.{is_among, locals};
-ghost use Rattle.mpy_tree.specs.Names.{is_builtin, takes_so_many, takes_params, count, has_twice, is_name_fault, is_arity_fault, has_name_fault, has_arity_fault, lines_of, header_lines, name_lines, name_lines_from, arity_lines};
+ghost use Rattle.mpy_tree.specs.Names.{is_builtin, takes_so_many, takes_params, count, has_twice};
+ghost use Rattle.mpy_tree.specs.Names.{is_name_fault, is_arity_fault, has_name_fault};
+ghost use Rattle.mpy_tree.specs.Names.{has_arity_fault, lines_of, header_lines, name_lines};
+ghost use Rattle.mpy_tree.specs.Names.{name_lines_from, arity_lines};
 ghost use Rattle.mpy_tree.specs.Leasts.{least};
 ghost use Rattle.mpy_tree.specs.Faults.{earlier, names_fault, entry_fault};
 ghost use Rattle.mpy_types.specs.Views.{name_of, site_of, node_of};
@@ -120,7 +123,9 @@ fn is_builtin(f: &Name) -> bool
 // The least line of a function with a fault of names.
 #[tactic(auto, unfolding(mpy_tree::specs::Leasts::least), using(crate::proofs::Soonest::lesser_of_none))]
 fn name_line_in(alloc: Global, funcs: &[Func], func: &Func) -> Result<Option<u32>, NoMemory>
-    ensures { IfOk result (λ r. r ≡ least (lines_of (has_name_fault (map routine_of funcs.now) (locals (routine_of func.now))) (sites (block_of func.now.body)))) }
+    ensures { IfOk result (λ r. r ≡ least (lines_of
+        (has_name_fault (map routine_of funcs.now) (locals (routine_of func.now)))
+        (sites (block_of func.now.body)))) }
 {
     let mut seen = Vec::new(alloc);
     push_sites(&func.body, &mut seen)?;
@@ -140,7 +145,8 @@ fn has_name_fault(
     names: &[&Name],
     s: Site<'_>,
 ) -> Result<bool, NoMemory>
-    ensures { IfOk result (λ b. b ≡ has_name_fault (map routine_of funcs.now) (map name_of names.now) (site_of s.entry)) }
+    ensures { IfOk result (λ b. b ≡ has_name_fault (map routine_of funcs.now)
+        (map name_of names.now) (site_of s.entry)) }
 {
     if let Some(x) = changed(s) {
         if !is_among(names, x) {
@@ -159,7 +165,8 @@ fn has_name_fault(
 
 // Whether a node is a name that isn't there, or a call of one.
 fn is_name_fault(funcs: &[Func], names: &[&Name], e: &Expr) -> bool
-    ensures { result ≡ is_name_fault (map routine_of funcs.now) (map name_of names.now) (term_of e.now) }
+    ensures { result ≡ is_name_fault (map routine_of funcs.now) (map name_of names.now)
+        (term_of e.now) }
 {
     match e {
         Expr::Name(x) => !is_among(names, x),
@@ -195,7 +202,8 @@ fn least_arity_line(alloc: Global, funcs: &[Func]) -> Result<Option<u32>, NoMemo
 // The least line of a function with a fault of numbers of arguments.
 #[tactic(auto, unfolding(mpy_tree::specs::Leasts::least), using(crate::proofs::Soonest::lesser_of_none))]
 fn arity_line_in(alloc: Global, funcs: &[Func], func: &Func) -> Result<Option<u32>, NoMemory>
-    ensures { IfOk result (λ r. r ≡ least (lines_of (has_arity_fault (map routine_of funcs.now)) (sites (block_of func.now.body)))) }
+    ensures { IfOk result (λ r. r ≡ least (lines_of (has_arity_fault (map routine_of funcs.now))
+        (sites (block_of func.now.body)))) }
 {
     let mut seen = Vec::new(alloc);
     push_sites(&func.body, &mut seen)?;
@@ -231,10 +239,12 @@ fn is_arity_fault(funcs: &[Func], e: &Expr) -> bool
     }
 }
 
-// Whether a builtin or a function takes as many arguments as there are; of a name that isn't there nothing is asked.
+// Whether a builtin or a function takes as many arguments as there are; of a name that isn't there
+// nothing is asked.
 #[tactic(auto, using(crate::proofs::Counting::args_of))]
 fn takes_all(funcs: &[Func], f: &Name, es: &Exprs) -> bool
-    ensures { result ≡ takes_so_many (builtin_of f.now) (found (map routine_of funcs.now) f.now) (count (terms_of es.now)) }
+    ensures { result ≡ takes_so_many (builtin_of f.now) (found (map routine_of funcs.now) f.now)
+        (count (terms_of es.now)) }
 {
     let count = es.items.len();
     match Builtin::of(f.bytes()) {

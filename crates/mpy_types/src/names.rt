@@ -4,7 +4,8 @@ ghost use Rattle.std.specs.Option.{option_to_list};
 ghost use Rattle.std.specs.List.{flat_map, filter};
 ghost use Rattle.mpy_tree.specs.View.{term_of, block_of, routine_of};
 ghost use Rattle.mpy_tree.specs.Sites.{sites};
-ghost use Rattle.mpy_tree.specs.Locals.{is_among, and_new, locals, site_assigned, site_changed, site_names, node_names};
+ghost use Rattle.mpy_tree.specs.Locals.{is_among, and_new, locals, site_assigned, site_changed};
+ghost use Rattle.mpy_tree.specs.Locals.{site_names, node_names};
 ghost use Rattle.mpy_types.specs.Views.{name_of, site_of};
 
 use crate::nodes::{Site, push_site_nodes};
@@ -23,7 +24,8 @@ pub fn is_among(names: &[&Name], x: &Name) -> bool
     false
 }
 
-/// The locals of a function whose statements these are, each once, in the order in which they first appear.
+/// The locals of a function whose statements these are, each once, in the order in which they first
+/// appear.
 pub fn locals<'a>(
     alloc: Global,
     func: &'a Func,
@@ -46,7 +48,8 @@ pub fn locals<'a>(
 
 // Appends the name to which a statement assigns.
 fn push_assigned<'a>(s: Site<'a>, out: &mut Vec<&'a Name>) -> Result<(), NoMemory>
-    ensures { OnOk result (map name_of out.new.items ≡ map name_of out.old.items ++ site_assigned (site_of s.entry)) }
+    ensures { OnOk result (map name_of out.new.items ≡ map name_of out.old.items ++ site_assigned
+        (site_of s.entry)) }
 {
     if let Some(x) = assigned(s) {
         out.push(x)?;
@@ -80,7 +83,8 @@ pub fn changed<'a>(s: Site<'a>) -> Option<&'a Name>
 
 // Appends the names of a statement in the order in which they are written.
 fn push_names<'a>(alloc: Global, s: Site<'a>, out: &mut Vec<&'a Name>) -> Result<(), NoMemory>
-    ensures { OnOk result (map name_of out.new.items ≡ map name_of out.old.items ++ site_names (site_of s.entry)) }
+    ensures { OnOk result (map name_of out.new.items ≡ map name_of out.old.items ++ site_names
+        (site_of s.entry)) }
 {
     push_assigned(s, out)?;
     if let Some(x) = changed(s) {
@@ -96,7 +100,8 @@ fn push_names<'a>(alloc: Global, s: Site<'a>, out: &mut Vec<&'a Name>) -> Result
 
 // Appends the name that a node is.
 fn push_name<'a>(e: &'a Expr, out: &mut Vec<&'a Name>) -> Result<(), NoMemory>
-    ensures { OnOk result (map name_of out.new.items ≡ map name_of out.old.items ++ node_names (term_of e.now)) }
+    ensures { OnOk result (map name_of out.new.items ≡ map name_of out.old.items ++ node_names
+        (term_of e.now)) }
 {
     if let Expr::Name(x) = e {
         out.push(x)?;
@@ -111,7 +116,8 @@ fn push_local_names<'a>(
     assigned: &[&'a Name],
     out: &mut Vec<&'a Name>,
 ) -> Result<(), NoMemory>
-    ensures { OnOk result (map name_of out.new.items ≡ map name_of out.old.items ++ filter (is_among (map name_of assigned.now)) (flat_map site_names (map site_of sites.now))) }
+    ensures { OnOk result (map name_of out.new.items ≡ map name_of out.old.items ++ filter
+        (is_among (map name_of assigned.now)) (flat_map site_names (map site_of sites.now))) }
 {
     let mut names = Vec::new(alloc);
     for s in sites {

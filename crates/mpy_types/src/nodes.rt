@@ -2,9 +2,11 @@
 ghost use Rattle.std.specs.Prelude.{◌≡◌, ◌++◌, map, List, OnOk};
 ghost use Rattle.std.specs.declared.result.Result.{Result};
 ghost use Rattle.mpy_tree.specs.Syntax.{Term, Statement};
-ghost use Rattle.mpy_tree.specs.View.{term_of, terms_of, end_by, action_of, statement_of, block_of, branches_of, block_or_none};
+ghost use Rattle.mpy_tree.specs.View.{term_of, terms_of, end_by, action_of, statement_of, block_of};
+ghost use Rattle.mpy_tree.specs.View.{branches_of, block_or_none};
 ghost use Rattle.std.specs.List.{flat_map};
-ghost use Rattle.mpy_tree.specs.Sites.{own_terms, site_nodes, nodes, all_nodes, end_nodes, sites, inside, in_arms, in_last, line_of};
+ghost use Rattle.mpy_tree.specs.Sites.{own_terms, site_nodes, nodes, all_nodes, end_nodes, sites};
+ghost use Rattle.mpy_tree.specs.Sites.{inside, in_arms, in_last, line_of};
 ghost use Rattle.mpy_types.specs.Views.{site_of, node_of};
 
 use mpy_tree::{Act, Arms, Expr, Exprs, NoMemory, Stmts};
@@ -32,7 +34,8 @@ impl Site<'_> {
 /// Appends the nodes of an expression.
 #[cycle(nodes)]
 pub fn push_nodes<'a>(e: &'a Expr, out: &mut Vec<&'a Expr>) -> Result<(), NoMemory>
-    ensures { OnOk result (map node_of out.new.items ≡ map node_of out.old.items ++ nodes (term_of e.now)) }
+    ensures { OnOk result (map node_of out.new.items ≡ map node_of out.old.items ++ nodes
+        (term_of e.now)) }
 {
     out.push(e)?;
     match e {
@@ -64,7 +67,8 @@ pub fn push_nodes<'a>(e: &'a Expr, out: &mut Vec<&'a Expr>) -> Result<(), NoMemo
 // Appends the nodes of an end of a slice.
 #[cycle(nodes)]
 fn push_end<'a>(e: &'a Option<Box<Expr>>, out: &mut Vec<&'a Expr>) -> Result<(), NoMemory>
-    ensures { OnOk result (map node_of out.new.items ≡ map node_of out.old.items ++ end_nodes (end_by (λ b. term_of b.value) e.now)) }
+    ensures { OnOk result (map node_of out.new.items ≡ map node_of out.old.items ++ end_nodes
+        (end_by (λ b. term_of b.value) e.now)) }
 {
     match e {
         None => Ok(()),
@@ -75,7 +79,8 @@ fn push_end<'a>(e: &'a Option<Box<Expr>>, out: &mut Vec<&'a Expr>) -> Result<(),
 // Appends the nodes of expressions.
 #[cycle(nodes)]
 fn push_all<'a>(es: &'a Exprs, out: &mut Vec<&'a Expr>) -> Result<(), NoMemory>
-    ensures { OnOk result (map node_of out.new.items ≡ map node_of out.old.items ++ all_nodes (terms_of es.now)) }
+    ensures { OnOk result (map node_of out.new.items ≡ map node_of out.old.items ++ all_nodes
+        (terms_of es.now)) }
 {
     for e in &es.items {
         push_nodes(e, out)?;
@@ -86,7 +91,8 @@ fn push_all<'a>(es: &'a Exprs, out: &mut Vec<&'a Expr>) -> Result<(), NoMemory>
 /// Appends the statements of a body.
 #[cycle(sites)]
 pub fn push_sites<'a>(b: &'a Stmts, out: &mut Vec<Site<'a>>) -> Result<(), NoMemory>
-    ensures { OnOk result (map site_of out.new.items ≡ map site_of out.old.items ++ sites (block_of b.now)) }
+    ensures { OnOk result (map site_of out.new.items ≡ map site_of out.old.items ++ sites
+        (block_of b.now)) }
 {
     for s in &b.items {
         out.push(Site::Does(s.line, &s.act))?;
@@ -98,7 +104,8 @@ pub fn push_sites<'a>(b: &'a Stmts, out: &mut Vec<Site<'a>>) -> Result<(), NoMem
 // Appends the statements inside of one.
 #[cycle(sites)]
 fn push_inside<'a>(act: &'a Act, out: &mut Vec<Site<'a>>) -> Result<(), NoMemory>
-    ensures { OnOk result (map site_of out.new.items ≡ map site_of out.old.items ++ inside (action_of act.now)) }
+    ensures { OnOk result (map site_of out.new.items ≡ map site_of out.old.items ++ inside
+        (action_of act.now)) }
 {
     match act {
         Act::If(arms, last) => {
@@ -113,7 +120,8 @@ fn push_inside<'a>(act: &'a Act, out: &mut Vec<Site<'a>>) -> Result<(), NoMemory
 // Appends the tests of arms, and the statements inside of them.
 #[cycle(sites)]
 fn push_arms<'a>(arms: &'a Arms, out: &mut Vec<Site<'a>>) -> Result<(), NoMemory>
-    ensures { OnOk result (map site_of out.new.items ≡ map site_of out.old.items ++ in_arms (branches_of arms.now)) }
+    ensures { OnOk result (map site_of out.new.items ≡ map site_of out.old.items ++ in_arms
+        (branches_of arms.now)) }
 {
     for arm in &arms.items {
         out.push(Site::Asks(arm.line, &arm.test))?;
@@ -125,7 +133,8 @@ fn push_arms<'a>(arms: &'a Arms, out: &mut Vec<Site<'a>>) -> Result<(), NoMemory
 // Appends the statements of an `else`.
 #[cycle(sites)]
 fn push_else<'a>(last: &'a Option<Stmts>, out: &mut Vec<Site<'a>>) -> Result<(), NoMemory>
-    ensures { OnOk result (map site_of out.new.items ≡ map site_of out.old.items ++ in_last (block_or_none last.now)) }
+    ensures { OnOk result (map site_of out.new.items ≡ map site_of out.old.items ++ in_last
+        (block_or_none last.now)) }
 {
     match last {
         None => Ok(()),
@@ -135,7 +144,8 @@ fn push_else<'a>(last: &'a Option<Stmts>, out: &mut Vec<Site<'a>>) -> Result<(),
 
 /// Appends the nodes of the expressions of a statement itself.
 pub fn push_site_nodes<'a>(s: Site<'a>, out: &mut Vec<&'a Expr>) -> Result<(), NoMemory>
-    ensures { OnOk result (map node_of out.new.items ≡ map node_of out.old.items ++ site_nodes (site_of s.entry)) }
+    ensures { OnOk result (map node_of out.new.items ≡ map node_of out.old.items ++ site_nodes
+        (site_of s.entry)) }
 {
     match s {
         Site::Asks(_, e) => push_nodes(e, out),
@@ -145,7 +155,8 @@ pub fn push_site_nodes<'a>(s: Site<'a>, out: &mut Vec<&'a Expr>) -> Result<(), N
 
 // Appends the nodes of the expressions of a statement itself.
 fn push_own_nodes<'a>(act: &'a Act, out: &mut Vec<&'a Expr>) -> Result<(), NoMemory>
-    ensures { OnOk result (map node_of out.new.items ≡ map node_of out.old.items ++ flat_map nodes (own_terms (action_of act.now))) }
+    ensures { OnOk result (map node_of out.new.items ≡ map node_of out.old.items ++ flat_map nodes
+        (own_terms (action_of act.now))) }
 {
     match act {
         Act::Assign(_, e)

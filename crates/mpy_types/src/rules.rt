@@ -2,7 +2,11 @@
 ghost use Rattle.std.specs.Prelude.{◌≡◌, ◌<◌, ◌^◌, length, map};
 ghost use Rattle.mpy_tree.specs.Syntax as ast;
 ghost use Rattle.mpy_tree.specs.View.{term_of, terms_of, end_by, routine_of};
-ghost use Rattle.mpy_tree.specs.Rules.{single, type_in, all_types, end_types, arith_type, compare_type, both_are, choice_type, index_type, slice_type, negative_type, callee_type, are_arguments, all_numbers, all_sequences, type_if, are_operands, builtin_type, member_of};
+ghost use Rattle.mpy_tree.specs.Rules.{single, type_in, all_types, end_types, arith_type};
+ghost use Rattle.mpy_tree.specs.Rules.{compare_type, both_are, choice_type, index_type, slice_type};
+ghost use Rattle.mpy_tree.specs.Rules.{negative_type, callee_type, are_arguments, all_numbers};
+ghost use Rattle.mpy_tree.specs.Rules.{all_sequences, type_if, are_operands, builtin_type};
+ghost use Rattle.mpy_tree.specs.Rules.{member_of};
 
 use crate::known::Known;
 use crate::set_types::{Numbered, builtin_gives, called};
@@ -11,7 +15,8 @@ use mpy_tree::{ArithOp, Builtin, CmpOp, Expr, Exprs, Func, Name, Ty};
 /// The type of an expression in a function of a program, if each of its nodes obeys its rule.
 #[cycle(type_in)]
 pub fn type_in<K: Known>(known: &K, funcs: &[Func], func: usize, e: &Expr) -> Option<Ty>
-    ensures { result ≡ type_in (single (K.gives known.now)) (map routine_of funcs.now) func (term_of e.now) }
+    ensures { result ≡ type_in (single (K.gives known.now)) (map routine_of funcs.now) func
+        (term_of e.now) }
 {
     match e {
         Expr::Int(_) => Some(Ty::Int),
@@ -65,7 +70,8 @@ pub fn type_in<K: Known>(known: &K, funcs: &[Func], func: usize, e: &Expr) -> Op
 // Whether all the expressions are numbers.
 #[cycle(type_in)]
 fn are_numbers<K: Known>(known: &K, funcs: &[Func], func: usize, es: &Exprs) -> bool
-    ensures { result ≡ all_numbers (all_types (single (K.gives known.now)) (map routine_of funcs.now) func (terms_of es.now)) }
+    ensures { result ≡ all_numbers (all_types (single (K.gives known.now))
+        (map routine_of funcs.now) func (terms_of es.now)) }
 {
     for e in &es.items {
         if type_in(known, funcs, func, e) != Some(Ty::Int) {
@@ -78,7 +84,8 @@ fn are_numbers<K: Known>(known: &K, funcs: &[Func], func: usize, es: &Exprs) -> 
 // Whether an end of a slice is a number or missing.
 #[cycle(type_in)]
 fn is_end<K: Known>(known: &K, funcs: &[Func], func: usize, e: &Option<Box<Expr>>) -> bool
-    ensures { result ≡ all_numbers (end_types (single (K.gives known.now)) (map routine_of funcs.now) func (end_by (λ b. term_of b.value) e.now)) }
+    ensures { result ≡ all_numbers (end_types (single (K.gives known.now))
+        (map routine_of funcs.now) func (end_by (λ b. term_of b.value) e.now)) }
 {
     match e {
         None => true,
@@ -89,7 +96,8 @@ fn is_end<K: Known>(known: &K, funcs: &[Func], func: usize, e: &Option<Box<Expr>
 // The type of a call.
 #[cycle(type_in)]
 fn call_in<K: Known>(known: &K, funcs: &[Func], func: usize, f: &Name, es: &Exprs) -> Option<Ty>
-    ensures { result ≡ type_in (single (K.gives known.now)) (map routine_of funcs.now) func (ast.Call f.now (terms_of es.now)) }
+    ensures { result ≡ type_in (single (K.gives known.now)) (map routine_of funcs.now) func
+        (ast.Call f.now (terms_of es.now)) }
 {
     if known.local(func, f).only().is_some() {
         return None;
@@ -108,7 +116,8 @@ fn call_in<K: Known>(known: &K, funcs: &[Func], func: usize, f: &Name, es: &Expr
 // Whether all the expressions are lists or texts.
 #[cycle(type_in)]
 fn are_sequences<K: Known>(known: &K, funcs: &[Func], func: usize, es: &Exprs) -> bool
-    ensures { result ≡ all_sequences (all_types (single (K.gives known.now)) (map routine_of funcs.now) func (terms_of es.now)) }
+    ensures { result ≡ all_sequences (all_types (single (K.gives known.now))
+        (map routine_of funcs.now) func (terms_of es.now)) }
 {
     for e in &es.items {
         match type_in(known, funcs, func, e) {
@@ -129,7 +138,8 @@ fn builtin_in<K: Known>(
     b: Builtin,
     es: &Exprs,
 ) -> Option<Ty>
-    ensures { result ≡ builtin_type b (all_types (single (K.gives known.now)) (map routine_of funcs.now) func (terms_of es.now)) }
+    ensures { result ≡ builtin_type b (all_types (single (K.gives known.now))
+        (map routine_of funcs.now) func (terms_of es.now)) }
 {
     let fit = b.takes(es.items.len()) && are_operands(known, funcs, func, b, es);
     type_if(fit, builtin_gives(b))
@@ -138,7 +148,8 @@ fn builtin_in<K: Known>(
 // Whether a builtin takes expressions of these types.
 #[cycle(type_in)]
 fn are_operands<K: Known>(known: &K, funcs: &[Func], func: usize, b: Builtin, es: &Exprs) -> bool
-    ensures { result ≡ are_operands b (all_types (single (K.gives known.now)) (map routine_of funcs.now) func (terms_of es.now)) }
+    ensures { result ≡ are_operands b (all_types (single (K.gives known.now))
+        (map routine_of funcs.now) func (terms_of es.now)) }
 {
     match b {
         Builtin::Len => are_sequences(known, funcs, func, es),
@@ -158,7 +169,9 @@ fn are_arguments<K: Known>(
     func: usize,
     es: &Exprs,
 ) -> bool
-    ensures { result ≡ are_arguments (single (K.gives known.now)) g.entry.number g.entry.func.now.params (all_types (single (K.gives known.now)) (map routine_of funcs.now) func (terms_of es.now)) }
+    ensures { result ≡ are_arguments (single (K.gives known.now)) g.entry.number
+        g.entry.func.now.params (all_types (single (K.gives known.now)) (map routine_of funcs.now)
+        func (terms_of es.now)) }
 {
     let params = g.func.params.items();
     for (k, e) in es.items.iter().enumerate() {

@@ -48,7 +48,8 @@ fn arith_types(op: ArithOp, left: TypeSet, right: TypeSet) -> TypeSet
 
 // The types of a call.
 fn call_types<K: Known>(known: &K, funcs: &[Func], f: &Name) -> TypeSet
-    ensures { result ≡ call_types (K.gives known.now) (builtin_of f.now) (called (map routine_of funcs.now) f.now) }
+    ensures { result ≡ call_types (K.gives known.now) (builtin_of f.now)
+        (called (map routine_of funcs.now) f.now) }
 {
     if let Some(b) = Builtin::of(f.bytes()) {
         return TypeSet::just(builtin_gives(b));

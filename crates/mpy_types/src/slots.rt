@@ -2,7 +2,8 @@
 ghost use Rattle.std.specs.Prelude.{◌≡◌, ◌<◌, ◌^◌, ◌++◌, length, map, IfOk, OnOk};
 ghost use Rattle.mpy_tree.specs.View.{block_of, routine_of};
 ghost use Rattle.mpy_tree.specs.Sites.{sites};
-ghost use Rattle.mpy_tree.specs.Faults.{slots, routine_slots, local_line, assigned_on, listed, slot_fault, slots_fault, facts_at};
+ghost use Rattle.mpy_tree.specs.Faults.{slots, routine_slots, local_line, assigned_on, listed};
+ghost use Rattle.mpy_tree.specs.Faults.{slot_fault, slots_fault, facts_at};
 ghost use Rattle.mpy_types.specs.Tables.{facts_of};
 ghost use Rattle.mpy_types.specs.Views.{name_of, site_of, place_of};
 
@@ -39,7 +40,8 @@ fn push_slots<'a>(
     func: &'a Func,
     out: &mut Vec<Place<'a>>,
 ) -> Result<(), NoMemory>
-    ensures { OnOk result (map place_of out.new.items ≡ map place_of out.old.items ++ routine_slots i (routine_of func.now)) }
+    ensures { OnOk result (map place_of out.new.items ≡ map place_of out.old.items ++ routine_slots
+        i (routine_of func.now)) }
 {
     let mut seen = Vec::new(alloc);
     push_sites(&func.body, &mut seen)?;

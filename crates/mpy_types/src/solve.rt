@@ -30,7 +30,8 @@ pub fn least_facts<'a>(
 // Takes in the types of each flow, and whether one was new.
 #[tactic(auto, using(crate::proofs::Raising::step_rises, crate::proofs::Raising::step_keeps))]
 fn pass<'a>(table: &mut Table<'a>, funcs: &[Func], flows: &[Flow<'a>]) -> Result<bool, NoMemory>
-    ensures { IfOk result (λ risen. IsPass risen (facts_of table.old) (facts_of table.new) (map routine_of funcs.now) flows.now (length flows.now)) }
+    ensures { IfOk result (λ risen. IsPass risen (facts_of table.old) (facts_of table.new)
+        (map routine_of funcs.now) flows.now (length flows.now)) }
 {
     let mut risen = false;
     for f in flows {
@@ -43,7 +44,8 @@ fn pass<'a>(table: &mut Table<'a>, funcs: &[Func], flows: &[Flow<'a>]) -> Result
 
 // Takes in the types of a flow, and whether one was new.
 fn step<'a>(table: &mut Table<'a>, funcs: &[Func], f: Flow<'a>) -> Result<bool, NoMemory>
-    ensures { IfOk result (λ risen. IsStep risen (facts_of table.old) (facts_of table.new) (map routine_of funcs.now) (flow_of f.entry)) }
+    ensures { IfOk result (λ risen. IsStep risen (facts_of table.old) (facts_of table.new)
+        (map routine_of funcs.now) (flow_of f.entry)) }
 {
     let types = source_types(table, funcs, f.from);
     if types.is_within(table.get(f.func, f.slot)) {
@@ -55,7 +57,8 @@ fn step<'a>(table: &mut Table<'a>, funcs: &[Func], f: Flow<'a>) -> Result<bool, 
 
 // The types of a source.
 fn source_types(table: &Table<'_>, funcs: &[Func], from: Source<'_>) -> TypeSet
-    ensures { result ≡ source_types (facts_of table.now) (map routine_of funcs.now) (source_of from.entry) }
+    ensures { result ≡ source_types (facts_of table.now) (map routine_of funcs.now)
+        (source_of from.entry) }
 {
     match from {
         Source::Given(ty) => TypeSet::just(ty),

@@ -49,7 +49,8 @@ impl<'a> Table<'a> {
     /// A slot gets further types.
     #[tactic(auto, using(crate::proofs::Looking::facts_pushed))]
     pub fn raise(&mut self, func: usize, slot: Target<'a>, types: TypeSet) -> Result<(), NoMemory>
-        ensures { OnOk result (facts_of self.new ≡ raised (facts_of self.old) func (slot_of slot.entry) types) }
+        ensures { OnOk result (facts_of self.new ≡ raised (facts_of self.old) func
+            (slot_of slot.entry) types) }
     {
         self.rows.push(Row { func, slot, types })?;
         Ok(())

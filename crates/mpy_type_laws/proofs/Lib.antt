@@ -1,0 +1,4 @@
+pub mod Every
+pub mod OneAnswer
+pub mod Targets
+pub mod WholeFacts
