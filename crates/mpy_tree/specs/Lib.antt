@@ -3,10 +3,12 @@ pub mod Comparing
 pub mod Equality
 pub mod Expressions
 pub mod Faults
+pub mod Fitting
 pub mod Flows
 pub mod Leasts
 pub mod Levels
 pub mod Locals
+pub mod NameLengths
 pub mod Names
 pub mod Operations
 pub mod Outcomes

@@ -1,10 +1,14 @@
 //! Names, and lists of them.
 ghost use Rattle.std.specs.Prelude.{◌≡◌, ◌↔◌, ◌++◌, ◌∷◌, [], ℕ, List, IsTrue, IfOk, OnOk, nat_eq};
 ghost use Rattle.std.specs.Cmp.Lexicographic.{pointwise};
+ghost use Rattle.mpy_tree.specs.NameLengths.{is_long};
 
 use crate::NoMemory;
 use std::alloc::Global;
 use std::marker::Model;
+
+/// A name of a source has at most this many bytes.
+const MAX_BYTES: usize = 40;
 
 /// The bytes of a name.
 #[derive(Drop)]
@@ -38,6 +42,13 @@ impl Name {
         ensures { result.items ≡ self }
     {
         self.bytes
+    }
+
+    /// Whether the name has more bytes than a name of a source may have.
+    pub fn is_long(&self) -> bool
+        ensures { result ≡ is_long self.now }
+    {
+        self.bytes.len() > MAX_BYTES
     }
 
     /// Whether two names have the same bytes.
