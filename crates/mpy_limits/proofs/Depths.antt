@@ -37,3 +37,5 @@ pub slice_depth : (limit m : ℕ) (from to : MaybeTerm) → 0 < limit
 slice_depth limit m from to h =
     let ends = end_depth from (shape_and to no_trees) in
     rw ends (three limit m (most_depth (shape_and from no_trees)) (most_depth (shape_and to no_trees)) h)
+
+pub ruleset depths = (leaf_depth, node_depth, node_depth_of_one, node_depth_of_two, node_depth_of_three, slice_depth)

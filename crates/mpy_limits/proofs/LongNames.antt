@@ -14,3 +14,5 @@ long_of_three xs ys zs =
     long_of_two xs (ys ++ zs)
     ∙ ap (λ b. list_any is_long_node xs || b) (long_of_two ys zs)
     ∙ sym (or_assoc (list_any is_long_node xs) (list_any is_long_node ys) (list_any is_long_node zs))
+
+pub ruleset long_names = (long_of_two, long_of_three)

@@ -29,7 +29,7 @@ const MAX_FUNCTIONS: usize = 8;
 
 // Whether an expression is deeper than a limit.
 #[cycle(depth)]
-#[tactic(auto, using(crate::proofs::Depths::leaf_depth, crate::proofs::Depths::node_depth, crate::proofs::Depths::node_depth_of_one, crate::proofs::Depths::node_depth_of_two, crate::proofs::Depths::node_depth_of_three, crate::proofs::Depths::slice_depth))]
+#[tactic(auto, using(crate::proofs::Depths::depths))]
 fn is_deeper(e: &Expr, limit: u32) -> bool
     ensures { result ≡ nat_lt limit (depth (term_of e.now)) }
 {
@@ -71,7 +71,8 @@ fn some_is_deeper(es: &Exprs, limit: u32) -> bool
 // Whether there is an end of a slice that is deeper than a limit.
 #[cycle(depth)]
 fn end_is_deeper(e: &Option<Box<Expr>>, limit: u32) -> bool
-    ensures { result ≡ nat_lt limit (most_depth (shape_and (end_by (λ b. term_of b.value) e.now) no_trees)) }
+    ensures { result
+        ≡ nat_lt limit (most_depth (shape_and (end_by (λ b. term_of b.value) e.now) no_trees)) }
 {
     match e {
         None => false,
@@ -88,7 +89,7 @@ fn some_is_long(names: &[Name]) -> bool
 
 // Whether some name of an expression is too long.
 #[cycle(names)]
-#[tactic(auto, using(crate::proofs::LongNames::long_of_two, crate::proofs::LongNames::long_of_three))]
+#[tactic(auto, using(crate::proofs::LongNames::long_names))]
 fn has_long(e: &Expr) -> bool
     ensures { result ≡ has_long (term_of e.now) }
 {
@@ -242,7 +243,10 @@ fn headed_limit(
     line: u32,
     body: &Stmts,
 ) -> Option<u32>
-    ensures { result ≡ lesser found (least (line_if is_large line ++ too_deep (deeper nesting) (block_of body.now) ++ block_lines (deeper nesting) (block_of body.now))) }
+    ensures { result
+        ≡ lesser found
+        (least (line_if is_large line ++ too_deep (deeper nesting) (block_of body.now)
+        ++ block_lines (deeper nesting) (block_of body.now))) }
 {
     let found = with_line(found, is_large, line);
     inner_limit(found, deeper(nesting), body)
@@ -251,7 +255,9 @@ fn headed_limit(
 // The same of an inner block, which may be nested too deep.
 #[cycle(block)]
 fn inner_limit(found: Option<u32>, nesting: u32, body: &Stmts) -> Option<u32>
-    ensures { result ≡ lesser found (least (too_deep nesting (block_of body.now) ++ block_lines nesting (block_of body.now))) }
+    ensures { result
+        ≡ lesser found
+        (least (too_deep nesting (block_of body.now) ++ block_lines nesting (block_of body.now))) }
 {
     let found = match body.items.first() {
         None => found,
@@ -323,7 +329,8 @@ fn statement_in_else(last: &Option<Stmts>, n: usize) -> Result<u32, usize>
 
 // The line of the n-th statement of functions.
 fn statement_of_functions(funcs: &[Func], n: usize) -> Result<u32, usize>
-    ensures { result ≡ nth_or_left (flat_map (λ r. statements r.body) (map routine_of funcs.now)) n }
+    ensures { result
+        ≡ nth_or_left (flat_map (λ r. statements r.body) (map routine_of funcs.now)) n }
 {
     let mut left = n;
     for f in funcs {
@@ -362,7 +369,9 @@ fn function_too_many(funcs: &[Func]) -> Option<u32>
 
 // The lesser of the line found so far and that of the first statement too many.
 fn statement_too_many(found: Option<u32>, funcs: &[Func]) -> Option<u32>
-    ensures { result ≡ lesser found (least (take 1 (drop 200 (flat_map (λ r. statements r.body) (map routine_of funcs.now))))) }
+    ensures { result
+        ≡ lesser found
+        (least (take 1 (drop 200 (flat_map (λ r. statements r.body) (map routine_of funcs.now))))) }
 {
     match statement_of_functions(funcs, MAX_STATEMENTS) {
         Ok(line) => with_line(found, true, line),
