@@ -17,7 +17,8 @@ use Rattle.mpy_expressions.specs.declared.terms.Bracket.TheVariants as bracket
 use Rattle.mpy_tree.specs.Levels.{above, operator_level, left_level, right_level}
 use Rattle.mpy_expressions.specs.Joints.{IsChain, arith_word}
 use Rattle.mpy_expressions.specs.Grammar.{set as set_of, Spells, SpellsEnd, SpellsAll, conditional, disjunction, conjunction, negation, compared, arithmetic, operated, likened, minus, index, slice, number, quoted, truth, name, call, hole, items, parenthesized, higher, missing, given, none, one, more, comparison, truth_word}
-use Rattle.mpy_expressions.specs.Reading.{◌>>=◌, behind_not, behind_minus, behind_closing_bracket, behind_colon, comparator_at, joint_before, joined, conditional_tail, with_conditional_tail, joint_tail, with_joints, comparison_tail, with_comparison, power_tail, with_power, Suffix, by_index, by_ends, suffixed, second_end, last_end, behind_index, in_brackets, with_suffixes, closed, some_elements, elements, name_or_call, prefixed, reading}
+use Rattle.mpy_tree.specs.Options.{◌>>=◌}
+use Rattle.mpy_expressions.specs.Reading.{behind_not, behind_minus, behind_closing_bracket, behind_colon, comparator_at, joint_before, joined, conditional_tail, with_conditional_tail, joint_tail, with_joints, comparison_tail, with_comparison, power_tail, with_power, Suffix, by_index, by_ends, suffixed, second_end, last_end, behind_index, in_brackets, with_suffixes, closed, some_elements, elements, name_or_call, prefixed, reading}
 use Rattle.mpy_expressions.proofs.Shorter.{with_conditional_tail_short, with_joints_short, with_comparison_short, with_power_short, with_suffixes_short, name_or_call_short}
 use Rattle.mpy_expressions.proofs.Readings.{reading_short, reading_step, joint_turn, suffix_turn, last_element, next_element}
 use Rattle.mpy_expressions.proofs.Sound.{closing, IsSome_terms}

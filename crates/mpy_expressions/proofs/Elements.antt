@@ -1,7 +1,7 @@
 -- Elements read one after another.
 use Rattle.std.proofs.Common.{◌≡◌, List, [], ◌∷◌, ◌++◌, map, Option, Some, None, refl, ap, sym}
 use Rattle.mpy_expressions.specs.declared.terminals.Terminal.{Terminal}
-use Rattle.mpy_expressions.specs.Reading.{◌>>=◌}
+use Rattle.mpy_tree.specs.Options.{◌>>=◌}
 
 -- with one element more
 pub map-push : {E T : Type 0} (plain : E → T) (xs : List E) (e : E) → map plain (xs ++ (e ∷ [])) ≡ map plain xs ++ (plain e ∷ [])

@@ -10,7 +10,8 @@ use Rattle.mpy_expressions.specs.declared.terminals.Terminal.TheVariants as term
 use Rattle.mpy_expressions.specs.declared.terms.Bracket.{Bracket}
 use Rattle.mpy_expressions.specs.declared.terms.Bracket.TheVariants as bracket
 use Rattle.mpy_tree.specs.Levels.{above}
-use Rattle.mpy_expressions.specs.Reading.{◌>>=◌, Reader, or_else, behind_if, behind_else, behind_not, behind_minus, behind_power, behind_bracket, behind_closing_bracket, behind_paren, behind_closing_paren, behind_colon, behind_comma, comparator_at, joint_before, conditional_tail, joint_tail, with_joints, comparison_tail, power_tail, Suffix, by_ends, suffixed, second_end, last_end, behind_index, in_brackets, suffix_at, with_suffixes, closed, some_elements, elements, arguments, name_or_call, atom, prefixed, at_level, read_within, reading, steps, levels_above}
+use Rattle.mpy_tree.specs.Options.{◌>>=◌}
+use Rattle.mpy_expressions.specs.Reading.{Reader, or_else, behind_if, behind_else, behind_not, behind_minus, behind_power, behind_bracket, behind_closing_bracket, behind_paren, behind_closing_paren, behind_colon, behind_comma, comparator_at, joint_before, conditional_tail, joint_tail, with_joints, comparison_tail, power_tail, Suffix, by_ends, suffixed, second_end, last_end, behind_index, in_brackets, suffix_at, with_suffixes, closed, some_elements, elements, arguments, name_or_call, atom, prefixed, at_level, read_within, reading, steps, levels_above}
 use Rattle.mpy_expressions.proofs.Shorter.{Shortens, Passes, pass_if, pass_else, pass_not, pass_minus, pass_power, pass_bracket, pass_closing_bracket, pass_paren, pass_colon, pass_comma, pass_comparator, pass_joint, pass_closed, joint_tail_short, suffix_at_short, read_within_short}
 
 -- two that go on alike from all that is found

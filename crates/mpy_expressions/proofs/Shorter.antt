@@ -10,7 +10,8 @@ use Rattle.mpy_expressions.specs.declared.terms.Bracket.{Bracket}
 use Rattle.mpy_expressions.specs.declared.terms.Bracket.TheVariants as bracket
 use Rattle.mpy_tree.specs.Levels.{above}
 use Rattle.mpy_expressions.specs.Joints.{joint_at}
-use Rattle.mpy_expressions.specs.Reading.{◌>>=◌, Reader, or_else, behind_if, behind_else, behind_not, behind_minus, behind_power, behind_bracket, behind_closing_bracket, behind_paren, behind_closing_paren, behind_closing_brace, behind_colon, behind_comma, comparison_at, operator_at, comparator_at, set, joint_before, joined, conditional_tail, with_conditional_tail, joint_tail, with_joints, comparison_tail, with_comparison, power_tail, with_power, suffixed, second_end, last_end, behind_index, in_brackets, suffix_at, with_suffixes, closed, some_elements, elements, arguments, name_or_call, parenthesized, atom, prefixed, at_level, read_within}
+use Rattle.mpy_tree.specs.Options.{◌>>=◌}
+use Rattle.mpy_expressions.specs.Reading.{Reader, or_else, behind_if, behind_else, behind_not, behind_minus, behind_power, behind_bracket, behind_closing_bracket, behind_paren, behind_closing_paren, behind_closing_brace, behind_colon, behind_comma, comparison_at, operator_at, comparator_at, set, joint_before, joined, conditional_tail, with_conditional_tail, joint_tail, with_joints, comparison_tail, with_comparison, power_tail, with_power, suffixed, second_end, last_end, behind_index, in_brackets, suffix_at, with_suffixes, closed, some_elements, elements, arguments, name_or_call, parenthesized, atom, prefixed, at_level, read_within}
 
 -- what holds of all that is found holds of what is found from it
 pub if_bound : {A B : Type 0} (o : Option A) (f : A → Option B) (Q : A → Type 0) (P : B → Type 0) → IfSome o Q → ((a : A) → Q a → IfSome (f a) P) → IfSome (o >>= f) P

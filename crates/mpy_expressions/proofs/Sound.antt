@@ -14,7 +14,8 @@ use Rattle.mpy_expressions.specs.declared.terms.Bracket.TheVariants as bracket
 use Rattle.mpy_tree.specs.Levels.{above}
 use Rattle.mpy_expressions.specs.Joints.{joint_at}
 use Rattle.mpy_expressions.specs.Grammar.{set as set_of, Spells, SpellsEnd, SpellsAll, conditional, disjunction, conjunction, negation, compared, arithmetic, operated, likened, minus, index, slice, number, quoted, truth, name, call, hole, items, parenthesized, higher, missing, given, none, one, more, comparison}
-use Rattle.mpy_expressions.specs.Reading.{◌>>=◌, Reader, behind_if, behind_else, behind_not, behind_minus, behind_power, behind_bracket, behind_closing_bracket, behind_paren, behind_closing_paren, behind_closing_brace, behind_colon, behind_comma, comparison_at, operator_at, comparator_at, set, joint_before, joined, conditional_tail, with_conditional_tail, joint_tail, with_joints, comparison_tail, with_comparison, power_tail, with_power, Suffix, by_index, by_ends, suffixed, second_end, last_end, in_brackets, suffix_at, with_suffixes, closed, some_elements, elements, arguments, name_or_call, atom, prefixed, at_level, read_within, reading, steps}
+use Rattle.mpy_tree.specs.Options.{◌>>=◌}
+use Rattle.mpy_expressions.specs.Reading.{Reader, behind_if, behind_else, behind_not, behind_minus, behind_power, behind_bracket, behind_closing_bracket, behind_paren, behind_closing_paren, behind_closing_brace, behind_colon, behind_comma, comparison_at, operator_at, comparator_at, set, joint_before, joined, conditional_tail, with_conditional_tail, joint_tail, with_joints, comparison_tail, with_comparison, power_tail, with_power, Suffix, by_index, by_ends, suffixed, second_end, last_end, in_brackets, suffix_at, with_suffixes, closed, some_elements, elements, arguments, name_or_call, atom, prefixed, at_level, read_within, reading, steps}
 use Rattle.mpy_expressions.specs.Reading.{parenthesized as in_parens}
 use Rattle.mpy_expressions.proofs.Shorter.{if_bound, weaker, either_way, with_tail}
 

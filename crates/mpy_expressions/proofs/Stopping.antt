@@ -11,7 +11,8 @@ use Rattle.mpy_expressions.specs.declared.terms.Bracket.{Bracket}
 use Rattle.mpy_expressions.specs.declared.terms.Bracket.TheVariants as bracket
 use Rattle.mpy_tree.specs.Levels.{above}
 use Rattle.mpy_expressions.specs.Joints.{joint_at}
-use Rattle.mpy_expressions.specs.Reading.{◌>>=◌, or_else, behind_if, behind_not, behind_minus, behind_power, behind_closing_bracket, behind_closing_paren, behind_closing_brace, behind_colon, comparison_at, operator_at, comparator_at, joint_before, with_conditional_tail, joint_tail, with_joints, with_comparison, with_power, suffixed, suffix_at, with_suffixes, closed, arguments, atom, reading, levels_above}
+use Rattle.mpy_tree.specs.Options.{◌>>=◌}
+use Rattle.mpy_expressions.specs.Reading.{or_else, behind_if, behind_not, behind_minus, behind_power, behind_closing_bracket, behind_closing_paren, behind_closing_brace, behind_colon, comparison_at, operator_at, comparator_at, joint_before, with_conditional_tail, joint_tail, with_joints, with_comparison, with_power, suffixed, suffix_at, with_suffixes, closed, arguments, atom, reading, levels_above}
 use Rattle.mpy_expressions.proofs.Readings.{reading_step}
 
 -- the level at which a word goes on with what stands left of it

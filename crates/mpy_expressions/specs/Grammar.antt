@@ -143,7 +143,8 @@ mutual
         → Spells forms k xs e
 
   -- an end of a slice, which may be missing
-  pub data SpellsEnd {X T : Type 0} (forms : Forms X T) : List (Terminal X) → Option T → Type 0 where
+  pub data SpellsEnd {X T : Type 0} (forms : Forms X T) : List (Terminal X) → Option T
+      → Type 0 where
     missing : (SpellsEnd forms) [] None
     given : {xs : List (Terminal X)} {e : T}
         → Spells forms level.Conditional xs e

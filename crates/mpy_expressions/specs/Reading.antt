@@ -1,8 +1,7 @@
 -- Reading an expression from the left: the expression and the terminals behind it, if one begins
 -- there.
-use Rattle.std.specs.Prelude.{[]}
-use Rattle.std.specs.Prelude.{ℕ, zero, suc, ◌+◌, ◌*◌, true, false, List, ◌∷◌, length, Option, Some}
-use Rattle.std.specs.Prelude.{None, option_and_then}
+use Rattle.std.specs.Prelude.{ℕ, zero, suc, ◌+◌, ◌*◌, true, false, List, [], ◌∷◌, length, Option}
+use Rattle.std.specs.Prelude.{Some, None}
 use Rattle.mpy_tree.specs.declared.operators.ArithOp.TheVariants.{Power}
 use Rattle.mpy_tree.specs.declared.operators.CmpOp.{CmpOp}
 use Rattle.mpy_tree.specs.declared.operators.CmpOp.TheVariants.{Eq, Ne, Lt, Le, Gt, Ge, Member}
@@ -18,12 +17,8 @@ use Rattle.mpy_expressions.specs.declared.terminals.Terminal.TheVariants as term
 use Rattle.mpy_expressions.specs.declared.terms.Bracket.{Bracket}
 use Rattle.mpy_expressions.specs.declared.terms.Bracket.TheVariants as bracket
 use Rattle.mpy_tree.specs.Levels.{above}
+use Rattle.mpy_tree.specs.Options.{◌>>=◌}
 use Rattle.mpy_expressions.specs.Joints.{joint_at}
-
--- goes on with what was read, or ends with nothing
-infixl 10 ◌>>=◌
-abbrev pub ◌>>=◌ : {A B : Type 0} → Option A → (A → Option B) → Option B
-o >>= f = option_and_then f o
 
 -- the first where it is there, or else the second
 abbrev pub or_else : {A : Type 0} → Option A → A → A

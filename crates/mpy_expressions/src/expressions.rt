@@ -1,8 +1,11 @@
 //! Expressions read from the left, by one function for each kind of level.
-ghost use Rattle.std.specs.Prelude.{◌≡◌, map, ◌∷◌, [], List, Option, Some, None, option_map, Ok, Err};
+ghost use Rattle.std.specs.Prelude.{◌≡◌, map, ◌∷◌, [], List, Option, Some, None, option_map, Ok};
+ghost use Rattle.std.specs.Prelude.{Err};
 ghost use Rattle.std.specs.Prelude.{MatchResult, IfOk, IfSome, length, ◌<◌, ◌≤◌};
-ghost use Rattle.mpy_expressions.specs.Reading.{special, reading, at_level, conditional_tail, joint_tail};
-ghost use Rattle.mpy_expressions.specs.Reading.{followed_by, operator_at, comparator_at, comparison_tail};
+ghost use Rattle.mpy_expressions.specs.Reading.{special, reading, at_level, conditional_tail};
+ghost use Rattle.mpy_expressions.specs.Reading.{joint_tail};
+ghost use Rattle.mpy_expressions.specs.Reading.{followed_by, operator_at, comparator_at};
+ghost use Rattle.mpy_expressions.specs.Reading.{comparison_tail};
 ghost use Rattle.mpy_expressions.specs.Reading.{set};
 ghost use Rattle.mpy_expressions.specs.Reading.{comparison_at, joint_before, suffix_at, second_end};
 ghost use Rattle.mpy_expressions.specs.Reading.{elements, name_or_call, parenthesized, closed};
@@ -93,7 +96,9 @@ fn beside<A: Drop, B>(
     value: A,
     read: Result<Option<B>, NoMemory>,
 ) -> Result<Option<(A, B)>, NoMemory>
-    ensures { MatchResult read (λ r. result ≡ Ok (option_map (λ b. (value, b)) r)) (λ e. result ≡ Err e) }
+    ensures { MatchResult read
+        (λ r. result ≡ Ok (option_map (λ b. (value, b)) r))
+        (λ e. result ≡ Err e) }
 {
     match read? {
         None => Ok(None),
@@ -109,7 +114,8 @@ pub fn expression<T: Forms>(
     level: Level,
     ts: &[Terminal<T::Hole>],
 ) -> Result<Option<(T, &[Terminal<T::Hole>])>, NoMemory>
-    ensures same { IfOk result (λ r. option_map (λ x. (T.plain x.0, x.1.now)) r ≡ reading T.forms level ts.now) }
+    ensures same { IfOk result
+        (λ r. option_map (λ x. (T.plain x.0, x.1.now)) r ≡ reading T.forms level ts.now) }
     ensures shorter { IfOk result (λ r. IfSome r (λ x. length x.1.now < length ts.now)) }
 {
     match level {
@@ -130,7 +136,9 @@ fn conditional<T: Forms>(
     alloc: Global,
     ts: &[Terminal<T::Hole>],
 ) -> Result<Option<(T, &[Terminal<T::Hole>])>, NoMemory>
-    ensures same { IfOk result (λ r. option_map (λ x. (T.plain x.0, x.1.now)) r ≡ at_level T.forms (reading T.forms) level.Conditional ts.now) }
+    ensures same { IfOk result
+        (λ r. option_map (λ x. (T.plain x.0, x.1.now)) r
+        ≡ at_level T.forms (reading T.forms) level.Conditional ts.now) }
     ensures shorter { IfOk result (λ r. IfSome r (λ x. length x.1.now < length ts.now)) }
 {
     let Some((yes, rest)) = expression::<T>(alloc, Level::Disjunction, ts)? else {
@@ -147,7 +155,9 @@ fn conditional_tail<T: Forms>(
     alloc: Global,
     ts: &[Terminal<T::Hole>],
 ) -> Result<Option<(T, T, &[Terminal<T::Hole>])>, NoMemory>
-    ensures same { IfOk result (λ r. option_map (λ x. (T.plain x.0, T.plain x.1, x.2.now)) r ≡ conditional_tail (reading T.forms) ts.now) }
+    ensures same { IfOk result
+        (λ r. option_map (λ x. (T.plain x.0, T.plain x.1, x.2.now)) r
+        ≡ conditional_tail (reading T.forms) ts.now) }
     ensures shorter { IfOk result (λ r. IfSome r (λ x. length x.2.now < length ts.now)) }
 {
     let Some(ts) = behind_if(ts) else {
@@ -172,7 +182,9 @@ fn operator<'a, T: Forms>(
     x: &T::Hole,
     rest: &'a [Terminal<T::Hole>],
 ) -> Result<Option<(Link<T::Operator>, &'a [Terminal<T::Hole>])>, NoMemory>
-    ensures same { IfOk result (λ r. option_map (λ x. (link_of T.forms T.operation x.0, x.1.now)) r ≡ followed_by (T.forms.Operator x.now) rest.now) }
+    ensures same { IfOk result
+        (λ r. option_map (λ x. (link_of T.forms T.operation x.0, x.1.now)) r
+        ≡ followed_by (T.forms.Operator x.now) rest.now) }
     ensures rest { IfOk result (λ r. IfSome r (λ x. x.1.now ≡ rest.now)) }
 {
     match T::operator(alloc, x)? {
@@ -187,7 +199,9 @@ fn operator_at<'a, T: Forms>(
     x: &T::Hole,
     rest: &'a [Terminal<T::Hole>],
 ) -> Result<Option<(Link<T::Operator>, &'a [Terminal<T::Hole>])>, NoMemory>
-    ensures same { IfOk result (λ r. option_map (λ x. (link_of T.forms T.operation x.0, x.1.now)) r ≡ operator_at T.forms level x.now rest.now) }
+    ensures same { IfOk result
+        (λ r. option_map (λ x. (link_of T.forms T.operation x.0, x.1.now)) r
+        ≡ operator_at T.forms level x.now rest.now) }
     ensures rest { IfOk result (λ r. IfSome r (λ x. x.1.now ≡ rest.now)) }
 {
     match level {
@@ -202,7 +216,9 @@ fn joint_before<T: Forms>(
     level: Level,
     ts: &[Terminal<T::Hole>],
 ) -> Result<Option<(Link<T::Operator>, &[Terminal<T::Hole>])>, NoMemory>
-    ensures same { IfOk result (λ r. option_map (λ x. (link_of T.forms T.operation x.0, x.1.now)) r ≡ joint_before T.forms level ts.now) }
+    ensures same { IfOk result
+        (λ r. option_map (λ x. (link_of T.forms T.operation x.0, x.1.now)) r
+        ≡ joint_before T.forms level ts.now) }
     ensures shorter { IfOk result (λ r. IfSome r (λ x. length x.1.now < length ts.now)) }
 {
     match ts {
@@ -223,7 +239,9 @@ fn joint_tail<T: Forms>(
     level: Level,
     ts: &[Terminal<T::Hole>],
 ) -> Result<Option<(Link<T::Operator>, T, &[Terminal<T::Hole>])>, NoMemory>
-    ensures same { IfOk result (λ r. option_map (λ x. (link_of T.forms T.operation x.0, T.plain x.1, x.2.now)) r ≡ joint_tail T.forms (reading T.forms) level ts.now) }
+    ensures same { IfOk result
+        (λ r. option_map (λ x. (link_of T.forms T.operation x.0, T.plain x.1, x.2.now)) r
+        ≡ joint_tail T.forms (reading T.forms) level ts.now) }
     ensures shorter { IfOk result (λ r. IfSome r (λ x. length x.2.now < length ts.now)) }
 {
     let Some((link, ts)) = joint_before::<T>(alloc, level, ts)? else {
@@ -243,7 +261,9 @@ fn chain<T: Forms>(
     ts: &[Terminal<T::Hole>],
 ) -> Result<Option<(T, &[Terminal<T::Hole>])>, NoMemory>
     requires { IsChain level }
-    ensures same { IfOk result (λ r. option_map (λ x. (T.plain x.0, x.1.now)) r ≡ at_level T.forms (reading T.forms) level ts.now) }
+    ensures same { IfOk result
+        (λ r. option_map (λ x. (T.plain x.0, x.1.now)) r
+        ≡ at_level T.forms (reading T.forms) level ts.now) }
     ensures shorter { IfOk result (λ r. IfSome r (λ x. length x.1.now < length ts.now)) }
 {
     let Some((first, rest)) = expression::<T>(alloc, level.above(), ts)? else {
@@ -266,7 +286,9 @@ fn prefixed<T: Forms>(
     ts: &[Terminal<T::Hole>],
 ) -> Result<Option<(T, &[Terminal<T::Hole>])>, NoMemory>
     requires { IsPrefix level }
-    ensures same { IfOk result (λ r. option_map (λ x. (T.plain x.0, x.1.now)) r ≡ at_level T.forms (reading T.forms) level ts.now) }
+    ensures same { IfOk result
+        (λ r. option_map (λ x. (T.plain x.0, x.1.now)) r
+        ≡ at_level T.forms (reading T.forms) level ts.now) }
     ensures shorter { IfOk result (λ r. IfSome r (λ x. length x.1.now < length ts.now)) }
 {
     match (level, ts) {
@@ -312,7 +334,9 @@ fn comparator<'a, T: Forms>(
     x: &T::Hole,
     rest: &'a [Terminal<T::Hole>],
 ) -> Result<Option<(Link<T::Operator>, &'a [Terminal<T::Hole>])>, NoMemory>
-    ensures same { IfOk result (λ r. option_map (λ x. (link_of T.forms T.operation x.0, x.1.now)) r ≡ followed_by (T.forms.Comparator x.now) rest.now) }
+    ensures same { IfOk result
+        (λ r. option_map (λ x. (link_of T.forms T.operation x.0, x.1.now)) r
+        ≡ followed_by (T.forms.Comparator x.now) rest.now) }
     ensures rest { IfOk result (λ r. IfSome r (λ x. x.1.now ≡ rest.now)) }
 {
     match T::comparator(alloc, x)? {
@@ -326,7 +350,9 @@ fn comparator_at<T: Forms>(
     alloc: Global,
     ts: &[Terminal<T::Hole>],
 ) -> Result<Option<(Link<T::Operator>, &[Terminal<T::Hole>])>, NoMemory>
-    ensures same { IfOk result (λ r. option_map (λ x. (link_of T.forms T.operation x.0, x.1.now)) r ≡ comparator_at T.forms ts.now) }
+    ensures same { IfOk result
+        (λ r. option_map (λ x. (link_of T.forms T.operation x.0, x.1.now)) r
+        ≡ comparator_at T.forms ts.now) }
     ensures shorter { IfOk result (λ r. IfSome r (λ x. length x.1.now < length ts.now)) }
 {
     match ts {
@@ -345,7 +371,9 @@ fn comparison_tail<T: Forms>(
     alloc: Global,
     ts: &[Terminal<T::Hole>],
 ) -> Result<Option<(Link<T::Operator>, T, &[Terminal<T::Hole>])>, NoMemory>
-    ensures same { IfOk result (λ r. option_map (λ x. (link_of T.forms T.operation x.0, T.plain x.1, x.2.now)) r ≡ comparison_tail T.forms (reading T.forms) ts.now) }
+    ensures same { IfOk result
+        (λ r. option_map (λ x. (link_of T.forms T.operation x.0, T.plain x.1, x.2.now)) r
+        ≡ comparison_tail T.forms (reading T.forms) ts.now) }
     ensures shorter { IfOk result (λ r. IfSome r (λ x. length x.2.now < length ts.now)) }
 {
     let Some((link, ts)) = comparator_at::<T>(alloc, ts)? else {
@@ -362,7 +390,9 @@ fn comparison<T: Forms>(
     alloc: Global,
     ts: &[Terminal<T::Hole>],
 ) -> Result<Option<(T, &[Terminal<T::Hole>])>, NoMemory>
-    ensures same { IfOk result (λ r. option_map (λ x. (T.plain x.0, x.1.now)) r ≡ at_level T.forms (reading T.forms) level.Comparison ts.now) }
+    ensures same { IfOk result
+        (λ r. option_map (λ x. (T.plain x.0, x.1.now)) r
+        ≡ at_level T.forms (reading T.forms) level.Comparison ts.now) }
     ensures shorter { IfOk result (λ r. IfSome r (λ x. length x.1.now < length ts.now)) }
 {
     let Some((left, rest)) = expression::<T>(alloc, Level::Sum, ts)? else {
@@ -379,7 +409,9 @@ fn power<T: Forms>(
     alloc: Global,
     ts: &[Terminal<T::Hole>],
 ) -> Result<Option<(T, &[Terminal<T::Hole>])>, NoMemory>
-    ensures same { IfOk result (λ r. option_map (λ x. (T.plain x.0, x.1.now)) r ≡ at_level T.forms (reading T.forms) level.Power ts.now) }
+    ensures same { IfOk result
+        (λ r. option_map (λ x. (T.plain x.0, x.1.now)) r
+        ≡ at_level T.forms (reading T.forms) level.Power ts.now) }
     ensures shorter { IfOk result (λ r. IfSome r (λ x. length x.1.now < length ts.now)) }
 {
     let Some((base, rest)) = expression::<T>(alloc, Level::Postfix, ts)? else {
@@ -399,7 +431,9 @@ fn postfix<T: Forms>(
     alloc: Global,
     ts: &[Terminal<T::Hole>],
 ) -> Result<Option<(T, &[Terminal<T::Hole>])>, NoMemory>
-    ensures same { IfOk result (λ r. option_map (λ x. (T.plain x.0, x.1.now)) r ≡ at_level T.forms (reading T.forms) level.Postfix ts.now) }
+    ensures same { IfOk result
+        (λ r. option_map (λ x. (T.plain x.0, x.1.now)) r
+        ≡ at_level T.forms (reading T.forms) level.Postfix ts.now) }
     ensures shorter { IfOk result (λ r. IfSome r (λ x. length x.1.now < length ts.now)) }
 {
     let Some((first, rest)) = expression::<T>(alloc, Level::Atom, ts)? else {
@@ -419,7 +453,9 @@ fn suffix_at<T: Forms>(
     alloc: Global,
     ts: &[Terminal<T::Hole>],
 ) -> Result<Option<(Suffix<T>, &[Terminal<T::Hole>])>, NoMemory>
-    ensures same { IfOk result (λ r. option_map (λ x. (suffix_of T.plain x.0, x.1.now)) r ≡ suffix_at (reading T.forms) ts.now) }
+    ensures same { IfOk result
+        (λ r. option_map (λ x. (suffix_of T.plain x.0, x.1.now)) r
+        ≡ suffix_at (reading T.forms) ts.now) }
     ensures shorter { IfOk result (λ r. IfSome r (λ x. length x.1.now < length ts.now)) }
 {
     let Some(ts) = behind_bracket(ts) else {
@@ -452,7 +488,9 @@ fn second_end<T: Forms>(
     alloc: Global,
     ts: &[Terminal<T::Hole>],
 ) -> Result<Option<(Option<T>, &[Terminal<T::Hole>])>, NoMemory>
-    ensures same { IfOk result (λ r. option_map (λ x. (option_map T.plain x.0, x.1.now)) r ≡ second_end (reading T.forms) ts.now) }
+    ensures same { IfOk result
+        (λ r. option_map (λ x. (option_map T.plain x.0, x.1.now)) r
+        ≡ second_end (reading T.forms) ts.now) }
     ensures shorter { IfOk result (λ r. IfSome r (λ x. length x.1.now < length ts.now)) }
 {
     if let Some(rest) = behind_closing(Bracket::Square, ts) {
@@ -470,7 +508,8 @@ fn special<'a, T: Forms>(
     hole: &T::Hole,
     rest: &'a [Terminal<T::Hole>],
 ) -> Result<Option<(T, &'a [Terminal<T::Hole>])>, NoMemory>
-    ensures same { IfOk result (λ r. option_map (λ x. (T.plain x.0, x.1.now)) r ≡ special T.forms hole.now rest.now) }
+    ensures same { IfOk result
+        (λ r. option_map (λ x. (T.plain x.0, x.1.now)) r ≡ special T.forms hole.now rest.now) }
     ensures rest { IfOk result (λ r. IfSome r (λ x. x.1.now ≡ rest.now)) }
 {
     match T::hole(alloc, hole)? {
@@ -484,7 +523,8 @@ fn atom<T: Forms>(
     alloc: Global,
     ts: &[Terminal<T::Hole>],
 ) -> Result<Option<(T, &[Terminal<T::Hole>])>, NoMemory>
-    ensures same { IfOk result (λ r. option_map (λ x. (T.plain x.0, x.1.now)) r ≡ atom T.forms (reading T.forms) ts.now) }
+    ensures same { IfOk result
+        (λ r. option_map (λ x. (T.plain x.0, x.1.now)) r ≡ atom T.forms (reading T.forms) ts.now) }
     ensures shorter { IfOk result (λ r. IfSome r (λ x. length x.1.now < length ts.now)) }
 {
     match ts {
@@ -513,7 +553,9 @@ fn name_or_call<'a, T: Forms>(
     name: &Name,
     ts: &'a [Terminal<T::Hole>],
 ) -> Result<Option<(T, &'a [Terminal<T::Hole>])>, NoMemory>
-    ensures same { IfOk result (λ r. option_map (λ x. (T.plain x.0, x.1.now)) r ≡ Some (name_or_call T.forms (reading T.forms) name.now ts.now)) }
+    ensures same { IfOk result
+        (λ r. option_map (λ x. (T.plain x.0, x.1.now)) r
+        ≡ Some (name_or_call T.forms (reading T.forms) name.now ts.now)) }
     ensures shorter { IfOk result (λ r. IfSome r (λ x. length x.1.now ≤ length ts.now)) }
 {
     if let [Terminal::Word(Word::LeftParen), inside @ ..] = ts {
@@ -529,7 +571,8 @@ fn parenthesized<T: Forms>(
     alloc: Global,
     ts: &[Terminal<T::Hole>],
 ) -> Result<Option<(T, &[Terminal<T::Hole>])>, NoMemory>
-    ensures same { IfOk result (λ r. option_map (λ x. (T.plain x.0, x.1.now)) r ≡ parenthesized (reading T.forms) ts.now) }
+    ensures same { IfOk result
+        (λ r. option_map (λ x. (T.plain x.0, x.1.now)) r ≡ parenthesized (reading T.forms) ts.now) }
     ensures shorter { IfOk result (λ r. IfSome r (λ x. length x.1.now < length ts.now)) }
 {
     let Some((e, ts)) = expression::<T>(alloc, Level::Conditional, ts)? else {
@@ -544,7 +587,8 @@ fn set<T: Forms>(
     alloc: Global,
     ts: &[Terminal<T::Hole>],
 ) -> Result<Option<(T, &[Terminal<T::Hole>])>, NoMemory>
-    ensures same { IfOk result (λ r. option_map (λ x. (T.plain x.0, x.1.now)) r ≡ set T.forms (reading T.forms) ts.now) }
+    ensures same { IfOk result
+        (λ r. option_map (λ x. (T.plain x.0, x.1.now)) r ≡ set T.forms (reading T.forms) ts.now) }
     ensures shorter { IfOk result (λ r. IfSome r (λ x. length x.1.now < length ts.now)) }
 {
     let Some((items, rest)) = elements::<T>(alloc, Bracket::Curly, ts)? else {
@@ -563,7 +607,9 @@ fn elements<T: Forms>(
     bracket: Bracket,
     ts: &[Terminal<T::Hole>],
 ) -> Result<Option<(Vec<T>, &[Terminal<T::Hole>])>, NoMemory>
-    ensures same { IfOk result (λ r. option_map (λ x. (map T.plain x.0.items, x.1.now)) r ≡ elements (reading T.forms) bracket ts.now) }
+    ensures same { IfOk result
+        (λ r. option_map (λ x. (map T.plain x.0.items, x.1.now)) r
+        ≡ elements (reading T.forms) bracket ts.now) }
     ensures shorter { IfOk result (λ r. IfSome r (λ x. length x.1.now < length ts.now)) }
 {
     let mut items = Vec::new(alloc);

@@ -93,5 +93,7 @@ pub trait Forms: Drop {
         from: Option<Self>,
         to: Option<Self>,
     ) -> Result<Self, NoMemory>
-        ensures { IfOk result (λ r. plain r ≡ forms.Slice (plain value) (option_map plain from) (option_map plain to)) };
+        ensures { IfOk result
+            (λ r. plain r
+            ≡ forms.Slice (plain value) (option_map plain from) (option_map plain to)) };
 }

@@ -45,7 +45,9 @@ fn sliced<T: Drop>(
     from: Option<T>,
     to: Option<T>,
 ) -> Result<(Box<T>, Option<Box<T>>, Option<Box<T>>), NoMemory>
-    ensures { IfOk result (λ r. (r.0.value ≡ value) × (option_map (λ x. x.value) r.1 ≡ from) × (option_map (λ x. x.value) r.2 ≡ to)) }
+    ensures { IfOk result
+        (λ r. (r.0.value ≡ value) × (option_map (λ x. x.value) r.1 ≡ from)
+        × (option_map (λ x. x.value) r.2 ≡ to)) }
 {
     Ok((
         Box::new(alloc, value)?,
@@ -162,7 +164,9 @@ impl Forms for Expr {
         from: Option<Expr>,
         to: Option<Expr>,
     ) -> Result<Expr, NoMemory>
-        ensures { IfOk result (λ r. term_of r ≡ programs.Slice (term_of value) (option_map term_of from) (option_map term_of to)) }
+        ensures { IfOk result
+            (λ r. term_of r
+            ≡ programs.Slice (term_of value) (option_map term_of from) (option_map term_of to)) }
     {
         let (value, from, to) = sliced(alloc, value, from, to)?;
         Ok(Expr::Slice(value, from, to))

@@ -48,7 +48,8 @@ pub(crate) fn join<T: Forms>(
     a: T,
     b: T,
 ) -> Result<T, NoMemory>
-    ensures { IfOk result (λ e. T.plain e ≡ link_of T.forms T.operation link (T.plain a) (T.plain b)) }
+    ensures { IfOk result
+        (λ e. T.plain e ≡ link_of T.forms T.operation link (T.plain a) (T.plain b)) }
 {
     match link {
         Link::Joint(joint) => joined(alloc, joint, a, b),
@@ -62,7 +63,8 @@ pub(crate) fn with_suffix<T: Forms>(
     value: T,
     suffix: Suffix<T>,
 ) -> Result<T, NoMemory>
-    ensures { IfOk result (λ e. T.plain e ≡ suffixed T.forms (T.plain value) (suffix_of T.plain suffix)) }
+    ensures { IfOk result
+        (λ e. T.plain e ≡ suffixed T.forms (T.plain value) (suffix_of T.plain suffix)) }
 {
     match suffix {
         Suffix::Index(i) => T::index(alloc, value, i),

@@ -1,5 +1,6 @@
 use Rattle.std.proofs.Common.{sym, ◌∙◌, ◌++◌, ◌∷◌, ap, map, Some, option_map, length, ◌<◌, IfSome, subst, arith}
-use Rattle.mpy_expressions.specs.Reading.{◌>>=◌, reading, with_joints, with_suffixes, some_elements}
+use Rattle.mpy_tree.specs.Options.{◌>>=◌}
+use Rattle.mpy_expressions.specs.Reading.{reading, with_joints, with_suffixes, some_elements}
 use Rattle.mpy_expressions.specs.Views.{suffix_of, link_of}
 use Rattle.mpy_expressions.proofs.Shorter.{pass_comma}
 use Rattle.mpy_expressions.proofs.Readings.{joint_turn, suffix_turn, last_element, next_element, no_element}

@@ -1,6 +1,7 @@
 use Rattle.std.proofs.Common.{◌≡◌, ◌++◌, ◌+◌, ◌*◌, ◌<◌, ◌≤◌, length, map, Some}
 use Rattle.mpy_tree.specs.declared.levels.Level.TheVariants as level
-use Rattle.mpy_expressions.specs.Reading.{◌>>=◌, at_level, reading, with_joints, with_suffixes, some_elements, elements, levels_above}
+use Rattle.mpy_tree.specs.Options.{◌>>=◌}
+use Rattle.mpy_expressions.specs.Reading.{at_level, reading, with_joints, with_suffixes, some_elements, elements, levels_above}
 use Rattle.mpy_expressions.proofs.expressions.+expression.Given as goal
 
 -- thirty steps a terminal are enough for all levels and what they call
