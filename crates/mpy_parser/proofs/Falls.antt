@@ -145,3 +145,9 @@ rises c d (x ∷ ds) e h = let same : x ≡ d = cc in rw (le-ltb c x (omega arit
 pub begins : (c : ℕ) (ds : List ℕ) → nearest ds ≡ None → is_indent_fault c ds ≡ nat_lt 0 c
 begins c [] e = refl
 begins c (d ∷ ds) e = cc
+
+pub ruleset places = (place_stays, place_goes, no_place, fewer)
+
+pub ruleset columns = (column_stays, column_goes, no_column, fewer)
+
+pub ruleset indents = (falls, rises, begins, no_column)

@@ -1,5 +1,6 @@
 -- Lines none of which is at fault.
 use Rattle.std.proofs.Common.{◌≡◌, ℕ, ◌<◌, ◌≤◌, Bool, true, false, not, ◌&&◌, ◌||◌, ◌==◌, nat_lt, inl, inr, List, [], ◌∷◌, ◌++◌, map, Option, Some, None, if◌then◌else◌, refl, sym, ◌∙◌, ap, arith, ltb-true, ltb-false, lt-ltb, le-ltb, eq-eqb}
+use Rattle.std.proofs.lemmas.Bool.{or_parts, or_from}
 use Rattle.mpy_lexer.specs.declared.line.Line.{Line}
 use Rattle.mpy_parser.specs.Nesting.{ItemLine, item_line}
 use Rattle.mpy_parser.specs.Items.{LineItem}
@@ -27,42 +28,31 @@ abbrev pub Fine : List ItemLine → List ItemLine → Type 0
 Fine before [] = Unit {0}
 Fine before (l ∷ ls) = IsFine before l ls × Fine (l ∷ before) ls
 
-or_left : (a b : Bool) → (a || b) ≡ false → a ≡ false
-or_left true b h = h
-or_left false b h = refl
-
-or_right : (a b : Bool) → (a || b) ≡ false → b ≡ false
-or_right true b h = cc
-or_right false b h = h
-
-neither : (a b : Bool) → a ≡ false → b ≡ false → (a || b) ≡ false
-neither true b h k = h
-neither false b h k = k
-
 unless : (b : Bool) (x : ℕ) (o : Option ℕ) → (if b then Some x else o) ≡ None → (b ≡ false) × (o ≡ None)
 unless true x o h = (cc, cc)
 unless false x o h = (refl, h)
 
 fine_line : (before : List ItemLine) (l : ItemLine) (rest : List ItemLine) → is_indent_fault l.column (columns before) ≡ false → is_block_fault before l rest ≡ false → IsFine before l rest
 fine_line before l rest i b =
-    let b4 = or_left (is_stray l.column before || (is_open l.item && not (has_deeper l.column rest)) || (goes_on_arm l.item && not (follows_arm l.column before)) || is_misplaced l) (leaves l.item && not (is_loop l.item || in_loop l.column before)) b in
-    let b3 = or_left (is_stray l.column before || (is_open l.item && not (has_deeper l.column rest)) || (goes_on_arm l.item && not (follows_arm l.column before))) (is_misplaced l) b4 in
-    let b2 = or_left (is_stray l.column before || (is_open l.item && not (has_deeper l.column rest))) (goes_on_arm l.item && not (follows_arm l.column before)) b3 in
+    let b4 = or_parts (is_stray l.column before || (is_open l.item && not (has_deeper l.column rest)) || (goes_on_arm l.item && not (follows_arm l.column before)) || is_misplaced l) (leaves l.item && not (is_loop l.item || in_loop l.column before)) b in
+    let b3 = or_parts (is_stray l.column before || (is_open l.item && not (has_deeper l.column rest)) || (goes_on_arm l.item && not (follows_arm l.column before))) (is_misplaced l) b4.0 in
+    let b2 = or_parts (is_stray l.column before || (is_open l.item && not (has_deeper l.column rest))) (goes_on_arm l.item && not (follows_arm l.column before)) b3.0 in
+    let b1 = or_parts (is_stray l.column before) (is_open l.item && not (has_deeper l.column rest)) b2.0 in
     record {
       indent = i;
-      stray = or_left (is_stray l.column before) (is_open l.item && not (has_deeper l.column rest)) b2;
-      body = or_right (is_stray l.column before) (is_open l.item && not (has_deeper l.column rest)) b2;
-      arm = or_right (is_stray l.column before || (is_open l.item && not (has_deeper l.column rest))) (goes_on_arm l.item && not (follows_arm l.column before)) b3;
-      kind = or_right (is_stray l.column before || (is_open l.item && not (has_deeper l.column rest)) || (goes_on_arm l.item && not (follows_arm l.column before))) (is_misplaced l) b4;
-      turn = or_right (is_stray l.column before || (is_open l.item && not (has_deeper l.column rest)) || (goes_on_arm l.item && not (follows_arm l.column before)) || is_misplaced l) (leaves l.item && not (is_loop l.item || in_loop l.column before)) b;
+      stray = b1.0;
+      body = b1.1;
+      arm = b2.1;
+      kind = b3.1;
+      turn = b4.1;
     }
 
 line_fine : (before : List ItemLine) (l : ItemLine) (rest : List ItemLine) → IsFine before l rest → is_block_fault before l rest ≡ false
 line_fine before l rest h =
-    neither (is_stray l.column before || (is_open l.item && not (has_deeper l.column rest)) || (goes_on_arm l.item && not (follows_arm l.column before)) || is_misplaced l) (leaves l.item && not (is_loop l.item || in_loop l.column before))
-    (neither (is_stray l.column before || (is_open l.item && not (has_deeper l.column rest)) || (goes_on_arm l.item && not (follows_arm l.column before))) (is_misplaced l)
-    (neither (is_stray l.column before || (is_open l.item && not (has_deeper l.column rest))) (goes_on_arm l.item && not (follows_arm l.column before))
-    (neither (is_stray l.column before) (is_open l.item && not (has_deeper l.column rest)) h.stray h.body) h.arm) h.kind) h.turn
+    or_from (is_stray l.column before || (is_open l.item && not (has_deeper l.column rest)) || (goes_on_arm l.item && not (follows_arm l.column before)) || is_misplaced l) (leaves l.item && not (is_loop l.item || in_loop l.column before))
+    (or_from (is_stray l.column before || (is_open l.item && not (has_deeper l.column rest)) || (goes_on_arm l.item && not (follows_arm l.column before))) (is_misplaced l)
+    (or_from (is_stray l.column before || (is_open l.item && not (has_deeper l.column rest))) (goes_on_arm l.item && not (follows_arm l.column before))
+    (or_from (is_stray l.column before) (is_open l.item && not (has_deeper l.column rest)) h.stray h.body) h.arm) h.kind) h.turn
 
 -- no fault is found in lines exactly where none of them is at fault
 pub fine_lines : (before ls : List ItemLine) → item_indent_fault (columns before) ls ≡ None → block_fault before ls ≡ None → Fine before ls

@@ -10,7 +10,8 @@ use Rattle.mpy_expressions.specs.declared.words.Word.TheVariants as word
 use Rattle.mpy_expressions.specs.declared.terminals.Terminal.{Terminal}
 use Rattle.mpy_expressions.specs.declared.terminals.Terminal.TheVariants as terminal
 use Rattle.mpy_expressions.specs.Grammar.{Spells}
-use Rattle.mpy_expressions.specs.Reading.{◌>>=◌, reading}
+use Rattle.mpy_tree.specs.Options.{◌>>=◌}
+use Rattle.mpy_expressions.specs.Reading.{reading}
 use Rattle.mpy_parser.specs.Items.{Opening, LineItem, simple, augmented, name_list, SpellsSimple, assign, augment, put, augment_at, append, give_nothing, give, pass, leave, again, SpellsHeader, a_function, an_if, an_elif, an_else, a_while, a_for, SpellsBody, open_body, one_statement, SpellsItem, a_statement, a_header}
 use Rattle.mpy_parser.specs.ItemReading.{ended, whole, augmenting, assigned, at_place, argument, behind_name, given_at, simple_at, names_at, parameters_at, header_at, body_at, headed_at, item_at}
 use Rattle.mpy_expressions.proofs.Readings.{nothing_in_nothing, reading_short}

@@ -11,7 +11,8 @@ use Rattle.mpy_expressions.specs.declared.words.Word.TheVariants as word
 use Rattle.mpy_expressions.specs.declared.terminals.Terminal.{Terminal}
 use Rattle.mpy_expressions.specs.declared.terminals.Terminal.TheVariants as terminal
 use Rattle.mpy_expressions.specs.Grammar.{Spells}
-use Rattle.mpy_expressions.specs.Reading.{◌>>=◌, reading, behind_closing_bracket, behind_closing_paren, behind_colon}
+use Rattle.mpy_tree.specs.Options.{◌>>=◌}
+use Rattle.mpy_expressions.specs.Reading.{reading, behind_closing_bracket, behind_closing_paren, behind_colon}
 use Rattle.mpy_parser.specs.Items.{Opening, when, else_when, while, headed, augmented, name_list, SpellsSimple, assign, augment, put, augment_at, append, give_nothing, give, pass, leave, again, SpellsHeader, a_function, an_if, an_elif, an_else, a_while, a_for, SpellsBody, open_body, one_statement, SpellsItem, a_statement, a_header}
 use Rattle.mpy_parser.specs.ItemReading.{ended, whole, augmenting, augmented_at, assigned, at_place, is_append, argument, method, behind_name, given_at, simple_at, names_at, parameters_at, function_at, each_at, header_at, body_at, body_behind, headed_at, item_at}
 use Rattle.mpy_expressions.proofs.Shorter.{if_bound, weaker, either_way}

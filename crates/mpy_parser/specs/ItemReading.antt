@@ -11,7 +11,8 @@ use Rattle.mpy_expressions.specs.declared.words.Word.{Word}
 use Rattle.mpy_expressions.specs.declared.words.Word.TheVariants as word
 use Rattle.mpy_expressions.specs.declared.terminals.Terminal.{Terminal}
 use Rattle.mpy_expressions.specs.declared.terminals.Terminal.TheVariants as terminal
-use Rattle.mpy_expressions.specs.Reading.{◌>>=◌, reading, behind_closing_bracket}
+use Rattle.mpy_tree.specs.Options.{◌>>=◌}
+use Rattle.mpy_expressions.specs.Reading.{reading, behind_closing_bracket}
 use Rattle.mpy_expressions.specs.Reading.{behind_closing_paren, behind_colon}
 use Rattle.mpy_parser.specs.Items.{Opening, function, when, else_when, otherwise, while, for_each}
 use Rattle.mpy_parser.specs.Items.{LineItem, simple, headed, augmented}

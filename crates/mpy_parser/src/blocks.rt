@@ -13,7 +13,7 @@ use crate::stacks::Stack;
 use std::alloc::Global;
 
 // Takes the deeper places away.
-#[tactic(auto, using(crate::proofs::Falls::place_stays, crate::proofs::Falls::place_goes, crate::proofs::Falls::no_place, crate::proofs::Falls::fewer))]
+#[tactic(auto, using(crate::proofs::Falls::places))]
 fn close(above: &mut Stack<Place>, column: u32)
     ensures { above.new ≡ past_places column above.old }
 {

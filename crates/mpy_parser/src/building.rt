@@ -16,7 +16,8 @@ use std::alloc::Global;
 // The functions that the lines put together, the last line first.
 #[tactic(auto, using(crate::proofs::Piled::last_line))]
 pub(crate) fn assemble(alloc: Global, mut entries: Vec<Entry>) -> Result<Prog, NoMemory>
-    ensures { IfOk result (λ p. routines_of p ≡ (with_lines (lines_of entries.items) (heap [] [])).made) }
+    ensures { IfOk result
+        (λ p. routines_of p ≡ (with_lines (lines_of entries.items) (heap [] [])).made) }
 {
     let mut pile = Pile::new(alloc);
     while let Some(entry) = entries.pop() {

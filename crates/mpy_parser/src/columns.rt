@@ -9,7 +9,7 @@ use mpy_lexer::Line;
 use std::alloc::Global;
 
 // Takes the deeper columns away.
-#[tactic(auto, using(crate::proofs::Falls::column_stays, crate::proofs::Falls::column_goes, crate::proofs::Falls::no_column, crate::proofs::Falls::fewer))]
+#[tactic(auto, using(crate::proofs::Falls::columns))]
 fn close(above: &mut Stack<u32>, column: u32)
     ensures { above.new ≡ past column above.old }
 {
@@ -31,7 +31,7 @@ fn ends_at(above: &Stack<u32>, column: u32) -> bool
 }
 
 // Whether the column is at fault below the open ones; the deeper ones are taken away.
-#[tactic(auto, using(crate::proofs::Falls::falls, crate::proofs::Falls::rises, crate::proofs::Falls::begins, crate::proofs::Falls::no_column))]
+#[tactic(auto, using(crate::proofs::Falls::indents))]
 fn is_at_fault(above: &mut Stack<u32>, column: u32) -> bool
     ensures answer { result ≡ is_indent_fault column above.old }
     ensures left { above.new ≡ past column above.old }

@@ -45,7 +45,8 @@ fn function(
     alloc: Global,
     ts: &[Terminal<()>],
 ) -> Result<Option<(Header, &[Terminal<()>])>, NoMemory>
-    ensures { IfOk result (λ r. option_map (λ x. (opening_of x.0, x.1.now)) r ≡ function_at ts.now) }
+    ensures { IfOk result
+        (λ r. option_map (λ x. (opening_of x.0, x.1.now)) r ≡ function_at ts.now) }
 {
     let [
         Terminal::Name(name),
@@ -80,7 +81,8 @@ fn tested(
     word: Word,
     ts: &[Terminal<()>],
 ) -> Result<Option<(Header, &[Terminal<()>])>, NoMemory>
-    ensures { IfOk result (λ r. option_map (λ x. (opening_of x.0, x.1.now)) r ≡ tested_at word ts.now) }
+    ensures { IfOk result
+        (λ r. option_map (λ x. (opening_of x.0, x.1.now)) r ≡ tested_at word ts.now) }
 {
     let Some((e, rest)) = expression::<Expr>(alloc, Level::Conditional, ts)? else {
         return Ok(None);

@@ -94,8 +94,12 @@ fn take_body(
     column: u32,
     behind: Option<Act>,
 ) -> Result<Stmts, NoMemory>
-    ensures taken { IfOk result (λ b. block_of b ≡ body_at column line (option_map action_of behind) (groups_of groups.old)) }
-    ensures left { OnOk result (groups_of groups.new ≡ behind_body column (option_map action_of behind) (groups_of groups.old)) }
+    ensures taken { IfOk result
+        (λ b. block_of b
+        ≡ body_at column line (option_map action_of behind) (groups_of groups.old)) }
+    ensures left { OnOk result
+        (groups_of groups.new
+        ≡ behind_body column (option_map action_of behind) (groups_of groups.old)) }
 {
     match behind {
         None => Ok(take_deeper(alloc, groups, column)),
@@ -109,7 +113,8 @@ fn take_body(
 
 // Puts a statement before those of its column.
 fn put(alloc: Global, groups: &mut Stack<Group>, column: u32, stmt: Stmt) -> Result<(), NoMemory>
-    ensures { OnOk result (groups_of groups.new ≡ with_statement column (statement_of stmt) (groups_of groups.old)) }
+    ensures { OnOk result
+        (groups_of groups.new ≡ with_statement column (statement_of stmt) (groups_of groups.old)) }
 {
     let group = take_group(alloc, groups, column);
     let mut body = group.body;
@@ -131,7 +136,9 @@ fn put_if(
     test: Expr,
     body: Stmts,
 ) -> Result<(), NoMemory>
-    ensures { OnOk result (groups_of groups.new ≡ with_if column line (term_of test) (block_of body) (groups_of groups.old)) }
+    ensures { OnOk result
+        (groups_of groups.new
+        ≡ with_if column line (term_of test) (block_of body) (groups_of groups.old)) }
 {
     let group = take_group(alloc, groups, column);
     let mut arms = group.arms;
@@ -152,7 +159,8 @@ fn put_if(
 
 // Puts an `elif` before the arms of its column.
 fn put_arm(alloc: Global, groups: &mut Stack<Group>, column: u32, arm: Arm) -> Result<(), NoMemory>
-    ensures { OnOk result (groups_of groups.new ≡ with_arm column (branch_of arm) (groups_of groups.old)) }
+    ensures { OnOk result
+        (groups_of groups.new ≡ with_arm column (branch_of arm) (groups_of groups.old)) }
 {
     let group = take_group(alloc, groups, column);
     let mut arms = group.arms;
@@ -172,7 +180,8 @@ fn put_else(
     column: u32,
     body: Stmts,
 ) -> Result<(), NoMemory>
-    ensures { OnOk result (groups_of groups.new ≡ with_else column (block_of body) (groups_of groups.old)) }
+    ensures { OnOk result
+        (groups_of groups.new ≡ with_else column (block_of body) (groups_of groups.old)) }
 {
     let group = take_group(alloc, groups, column);
     groups.push(Group {
@@ -201,7 +210,9 @@ impl Pile {
         header: Header,
         body: Stmts,
     ) -> Result<(), NoMemory>
-        ensures { OnOk result (heap_of self.new ≡ with_header line column (opening_of header) (block_of body) (heap_of self.old)) }
+        ensures { OnOk result
+            (heap_of self.new
+            ≡ with_header line column (opening_of header) (block_of body) (heap_of self.old)) }
     {
         let groups = &mut self.groups;
         match header {

@@ -89,7 +89,8 @@ pub fn read_prog(alloc: Global, bytes: &[u8]) -> Result<Prog, ReadError>
     ensures read { IfOk result (λ p. IsProgram bytes.now (routines_of p)) }
     ensures refused { IfErr result (IsAnswered bytes.now) }
     ensures program { (rs : List Routine) → IsProgram bytes.now rs → IsGiven rs result }
-    ensures refusal { (c : AnyCause) (line : ℕ) → IsRefused bytes.now c line → IsRefusal c line result }
+    ensures refusal { (c : AnyCause) (line : ℕ) → IsRefused bytes.now c line
+        → IsRefusal c line result }
 {
     parse(alloc, bytes)
 }

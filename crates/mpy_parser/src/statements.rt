@@ -68,7 +68,8 @@ fn augmented_at(
     word: Word,
     ts: &[Terminal<()>],
 ) -> Result<Option<Act>, NoMemory>
-    ensures { IfOk result (λ r. option_map action_of r ≡ augmented_at name (term_of index) word ts.now) }
+    ensures { IfOk result
+        (λ r. option_map action_of r ≡ augmented_at name (term_of index) word ts.now) }
 {
     augmenting(alloc, word, ts).map(|found| found.map(|(op, e)| Act::AugmentAt(name, index, op, e)))
 }

@@ -1,5 +1,5 @@
 use Rattle.std.proofs.Common.{◌≡◌, ◌++◌, length, Some}
-use Rattle.mpy_expressions.specs.Reading.{◌>>=◌}
+use Rattle.mpy_tree.specs.Options.{◌>>=◌}
 use Rattle.mpy_parser.specs.ItemReading.{names_at}
 use Rattle.mpy_parser.proofs.headers.names.Given as goal
 
