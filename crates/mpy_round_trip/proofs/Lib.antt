@@ -1,4 +1,5 @@
 pub mod ParenthesesLaw
+pub mod ProperParts
 pub mod Scraps
 pub mod printing
 pub mod lexing

@@ -1,5 +1,5 @@
--- Parentheses stand exactly where they are needed: the level by which the printer decides is the highest that spells an
--- expression without parentheses round it.
+-- Parentheses stand exactly where they are needed: the level by which the printer decides is the
+-- highest that spells an expression without parentheses round it.
 use Rattle.std.specs.Prelude.{◌≡◌, ◌≤◌, ◌⊎◌, List, [], ◌∷◌, ◌++◌}
 use Rattle.mpy_tree.specs.Syntax.{Term}
 use Rattle.mpy_tree.specs.declared.levels.Level.{Level}

@@ -3,8 +3,11 @@ use Rattle.std.specs.Prelude.{◌≡◌, ℕ, ◌≤◌, Bool, true, false, List
 use Rattle.std.specs.List.{list_all}
 use Rattle.mpy_tree.specs.declared.operators.ArithOp.{ArithOp}
 use Rattle.mpy_tree.specs.declared.operators.ArithOp.TheVariants.{Power}
-use Rattle.mpy_tree.specs.Syntax.{Term, Terms, MaybeTerm, no_terms, term_and, no_term, a_term, at, Action, Block, end, step, MaybeBlock, no_block, a_block, arm, Branches, no_arms, arm_and, Routine}
+use Rattle.mpy_tree.specs.Syntax.{Term, MaybeTerm, at}
+use Rattle.mpy_tree.specs.Syntax.{Action, Block, end, step, MaybeBlock, no_block, a_block, arm}
+use Rattle.mpy_tree.specs.Syntax.{Branches, no_arms, arm_and, Routine}
 use Rattle.mpy_tree.specs.Syntax as ast
+use Rattle.mpy_tree.specs.Sites.{nodes, end_nodes}
 use Rattle.mpy_lexer.specs.declared.forms.Form.TheVariants.{Program}
 use Rattle.mpy_lexer.specs.declared.forms.Kind.TheVariants as kind
 use Rattle.mpy_lexer.specs.TokenForms.{has_form}
@@ -15,32 +18,19 @@ use Rattle.mpy_parser.specs.Nesting.{MayStand}
 abbrev pub IsName : List ℕ → Type 0
 IsName x = has_form Program kind.Name x ≡ true
 
--- Its names are names, its numbers at most 2147483647, and its texts printable.
-abbrev mutual
-  pub IsProperTerm : Term → Type 0
-  IsProperTerm (ast.Int n) = n ≤ 2147483647
-  IsProperTerm (ast.Bool b) = Unit {0}
-  IsProperTerm (ast.Text cs) = list_all is_printable cs ≡ true
-  IsProperTerm (ast.Name x) = IsName x
-  IsProperTerm (ast.List es) = AreProperTerms es
-  IsProperTerm (ast.Neg e) = IsProperTerm e
-  IsProperTerm (ast.Not e) = IsProperTerm e
-  IsProperTerm (ast.Arith op a b) = IsProperTerm a × IsProperTerm b
-  IsProperTerm (ast.Cmp op a b) = IsProperTerm a × IsProperTerm b
-  IsProperTerm (ast.And a b) = IsProperTerm a × IsProperTerm b
-  IsProperTerm (ast.Or a b) = IsProperTerm a × IsProperTerm b
-  IsProperTerm (ast.Cond t a b) = IsProperTerm t × IsProperTerm a × IsProperTerm b
-  IsProperTerm (ast.Index v i) = IsProperTerm v × IsProperTerm i
-  IsProperTerm (ast.Slice v from to) = IsProperTerm v × IsProperEnd from × IsProperEnd to
-  IsProperTerm (ast.Call f es) = IsName f × AreProperTerms es
+-- a node with a name has a name token, its number is at most 2147483647, and its text is printable
+abbrev pub IsProperNode : Term → Type 0
+IsProperNode (ast.Int n) = n ≤ 2147483647
+IsProperNode (ast.Text cs) = list_all is_printable cs ≡ true
+IsProperNode (ast.Name x) = IsName x
+IsProperNode (ast.Call f es) = IsName f
+IsProperNode _ = Unit {0}
 
-  pub AreProperTerms : Terms → Type 0
-  AreProperTerms no_terms = Unit {0}
-  AreProperTerms (term_and e es) = IsProperTerm e × AreProperTerms es
+abbrev pub IsProperTerm : Term → Type 0
+IsProperTerm e = All IsProperNode (nodes e)
 
-  pub IsProperEnd : MaybeTerm → Type 0
-  IsProperEnd no_term = Unit {0}
-  IsProperEnd (a_term e) = IsProperTerm e
+abbrev pub IsProperEnd : MaybeTerm → Type 0
+IsProperEnd e = All IsProperNode (end_nodes e)
 
 -- the operators that an augmented assignment may have
 abbrev pub MayAugment : ArithOp → Type 0
@@ -55,7 +45,8 @@ abbrev pub HasArm : Branches → Type 0
 HasArm no_arms = ⊥
 HasArm (arm_and b rest) = Unit {0}
 
--- No body and no list of arms is empty, and `break` and `continue` stand in loops; `loop` says whether the block stands in one.
+-- No body and no list of arms is empty, and `break` and `continue` stand in loops; `loop` says
+-- whether the block stands in one.
 abbrev mutual
   pub IsProperBlock : Bool → Block → Type 0
   IsProperBlock loop end = Unit {0}
@@ -65,19 +56,24 @@ abbrev mutual
   IsProperAction loop (ast.Assign x e) = IsName x × IsProperTerm e
   IsProperAction loop (ast.Augment x op e) = IsName x × MayAugment op × IsProperTerm e
   IsProperAction loop (ast.Put x i e) = IsName x × IsProperTerm i × IsProperTerm e
-  IsProperAction loop (ast.AugmentAt x i op e) = IsName x × IsProperTerm i × MayAugment op × IsProperTerm e
+  IsProperAction loop (ast.AugmentAt x i op e) =
+      IsName x × IsProperTerm i × MayAugment op × IsProperTerm e
   IsProperAction loop (ast.Append x e) = IsName x × IsProperTerm e
   IsProperAction loop (ast.Return e) = IsProperEnd e
   IsProperAction loop ast.Pass = Unit {0}
   IsProperAction loop ast.Break = MayStand loop ast.Break
   IsProperAction loop ast.Continue = MayStand loop ast.Continue
-  IsProperAction loop (ast.If arms last) = HasArm arms × AreProperArms loop arms × IsProperElse loop last
-  IsProperAction loop (ast.While e body) = IsProperTerm e × (HasStatement body × IsProperBlock true body)
-  IsProperAction loop (ast.For x e body) = IsName x × IsProperTerm e × (HasStatement body × IsProperBlock true body)
+  IsProperAction loop (ast.If arms last) =
+      HasArm arms × AreProperArms loop arms × IsProperElse loop last
+  IsProperAction loop (ast.While e body) =
+      IsProperTerm e × (HasStatement body × IsProperBlock true body)
+  IsProperAction loop (ast.For x e body) =
+      IsName x × IsProperTerm e × (HasStatement body × IsProperBlock true body)
 
   pub AreProperArms : Bool → Branches → Type 0
   AreProperArms loop no_arms = Unit {0}
-  AreProperArms loop (arm_and (arm line e body) rest) = IsProperTerm e × (HasStatement body × IsProperBlock loop body) × AreProperArms loop rest
+  AreProperArms loop (arm_and (arm line e body) rest) =
+      IsProperTerm e × (HasStatement body × IsProperBlock loop body) × AreProperArms loop rest
 
   pub IsProperElse : Bool → MaybeBlock → Type 0
   IsProperElse loop no_block = Unit {0}

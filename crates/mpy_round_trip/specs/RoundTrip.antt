@@ -12,7 +12,9 @@ AreSame rs qs = map without_lines rs ≡ map without_lines qs
 
 -- the printed text of a proper program spells it
 abbrev pub SpelledByItsText : Type 0
-SpelledByItsText = (rs : List Routine) → IsProper rs → (qs : List Routine) × (Reads (program_text rs) qs × AreSame qs rs)
+SpelledByItsText =
+    (rs : List Routine) → IsProper rs → (qs : List Routine)
+    × (Reads (program_text rs) qs × AreSame qs rs)
 
 -- and no other
 abbrev pub SpelledByNoOther : Type 0

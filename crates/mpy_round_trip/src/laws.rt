@@ -16,7 +16,8 @@ pub fn spelled_by_no_other()
     one_program();
 }
 
-/// The level by which the printer puts parentheses round a part is the highest that spells the part without them.
+/// The level by which the printer puts parentheses round a part is the highest that spells the part
+/// without them.
 pub fn parenthesized_above_its_level()
     ensures holds { ParenthesizedAboveItsLevel }
 {}

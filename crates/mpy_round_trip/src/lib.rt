@@ -1,4 +1,5 @@
-//! A program and its text: what is read is proper, and a proper program is read from its printed text.
+//! A program and its text: what is read is proper, and a proper program is read from its printed
+//! text.
 #![tactic(auto)]
 
 mod laws;

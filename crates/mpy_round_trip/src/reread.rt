@@ -24,14 +24,19 @@ const MOST: usize = 1073741824;
 ///
 /// # Errors
 ///
-/// `Limit` where a program or its text passes a limit, each other cause only for a program that isn't proper, and want
-/// of memory, also for a text of more than 1,073,741,824 bytes.
+/// `Limit` where a program or its text passes a limit, each other cause only for a program that
+/// isn't proper, and want of memory, also for a text of more than 1,073,741,824 bytes.
 pub fn print_and_read(alloc: Global, p: &Prog) -> Result<Prog, ReadError>
-    ensures spelled { IfOk result (λ q. IsProgram (program_text (routines_of p.now)) (routines_of q)) }
+    ensures spelled { IfOk result
+        (λ q. IsProgram (program_text (routines_of p.now)) (routines_of q)) }
     ensures refused { IfErr result (IsAnswered (program_text (routines_of p.now))) }
-    ensures same { IsProper (routines_of p.now) → IfOk result (λ q. AreSame (routines_of q) (routines_of p.now)) }
-    ensures read { IsProper (routines_of p.now) → HasNoLongLine (program_text (routines_of p.now)) → limit_lines (routines_of p.now) ≡ [] → IfErr result (λ e. e ≡ read_error.NoMemory) }
-    ensures limits { IsProper (routines_of p.now) → IfErr result (λ e. (c : AnyCause) (line : ℕ) → e ≡ read_error.Fault c line → c ≡ cause.Limit) }
+    ensures same { IsProper (routines_of p.now)
+        → IfOk result (λ q. AreSame (routines_of q) (routines_of p.now)) }
+    ensures read { IsProper (routines_of p.now) → HasNoLongLine (program_text (routines_of p.now))
+        → limit_lines (routines_of p.now) ≡ [] → IfErr result (λ e. e ≡ read_error.NoMemory) }
+    ensures limits { IsProper (routines_of p.now)
+        → IfErr result
+        (λ e. (c : AnyCause) (line : ℕ) → e ≡ read_error.Fault c line → c ≡ cause.Limit) }
 {
     one_program();
     not_read_and_refused();

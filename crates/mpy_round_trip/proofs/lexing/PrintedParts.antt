@@ -1,7 +1,7 @@
 -- The parts of a printed line: its tokens, and white space.
 use Rattle.std.proofs.Common.{◌≡◌, ℕ, suc, ◌+◌, ◌-◌, Bool, true, false, cond, List, [], ◌∷◌, ◌++◌, length, take, map, refl, ap, ◌∙◌, arith, one-add, add-zero, append_assoc}
 use Rattle.std.specs.List.{prefix_len, list_all, list_any}
-use Rattle.std.proofs.lemmas.Bool.{and_parts}
+use Rattle.std.proofs.lemmas.Bool.{and_parts, or_parts}
 use Rattle.std.proofs.Math.Seq.{take-append_seam}
 use Rattle.mpy_lexer.specs.declared.forms.Form.TheVariants.{Program}
 use Rattle.mpy_lexer.specs.declared.forms.Kind.{Kind}
@@ -13,7 +13,7 @@ use Rattle.mpy_lexer.specs.PhysicalLines.{is_wrong, is_foreign, token_in, tokens
 use Rattle.mpy_lexer.specs.TokenForms.{has_form}
 use Rattle.mpy_lexer.specs.TextLiterals.{is_printable}
 use Rattle.mpy_round_trip.proofs.Scraps.{Scrap, gap, word, bytes_of, next_byte, AreApart, scrap_of, words_in}
-use Rattle.mpy_round_trip.proofs.lexing.TokenPieces.{Piece, IsToken, neither, token_piece}
+use Rattle.mpy_round_trip.proofs.lexing.TokenPieces.{Piece, IsToken, token_piece}
 
 -- parts that are these tokens and white space, with no byte that may not stand there
 pub record AreWords (ss : List Scrap) (ps : List Part) : Type 0 where
@@ -90,11 +90,11 @@ space_behind from c rest ss white all =
     let behind : (piece_at Program (c ∷ rest)).len - 1 ≡ prefix_len is_white rest = rw is.len (omega arith) in
     let bytes : take (piece_at Program (c ∷ rest)).len (c ∷ rest) ≡ c ∷ take (prefix_len is_white rest) rest = rw (is.len, one-add) refl in
     let seen : AreWords ss (record { sort = (piece_at Program (c ∷ rest)).sort; from = from; bytes = c ∷ take (prefix_len is_white rest) rest } ∷ parts Program (from + 1) (prefix_len is_white rest) rest) = rw (parts_front from c rest, behind, bytes) at all in
-    let plain = neither (is_foreign (piece_at Program (c ∷ rest)).sort (c ∷ take (prefix_len is_white rest) rest)) (list_any (λ p. is_foreign p.sort p.bytes) (parts Program (from + 1) (prefix_len is_white rest) rest)) seen.plain in
+    let plain = or_parts (is_foreign (piece_at Program (c ∷ rest)).sort (c ∷ take (prefix_len is_white rest) rest)) (list_any (λ p. is_foreign p.sort p.bytes) (parts Program (from + 1) (prefix_len is_white rest) rest)) seen.plain in
     record {
       others = record {
         tokens = rw is.tokens at seen.tokens;
-        right = (neither (is_wrong (piece_at Program (c ∷ rest)).sort) (list_any (λ p. is_wrong p.sort) (parts Program (from + 1) (prefix_len is_white rest) rest)) seen.right).1;
+        right = (or_parts (is_wrong (piece_at Program (c ∷ rest)).sort) (list_any (λ p. is_wrong p.sort) (parts Program (from + 1) (prefix_len is_white rest) rest)) seen.right).1;
         plain = plain.1;
       };
       plain = rw is.plain at plain.0;

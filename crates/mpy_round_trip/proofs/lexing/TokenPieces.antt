@@ -4,7 +4,7 @@ use Rattle.std.specs.Prelude.{nat_le}
 use Rattle.std.specs.List.{prefix_len, list_all}
 use Rattle.std.specs.Char.{is_ascii_digit}
 use Rattle.std.proofs.Math.Seq.{take-append_seam, drop-append_seam}
-use Rattle.std.proofs.lemmas.Bool.{and_parts, and_from, eqb-true}
+use Rattle.std.proofs.lemmas.Bool.{and_parts, and_from, or_parts, eqb-true}
 use Rattle.std.proofs.lemmas.Bool.Decides.{nat_tests}
 use Rattle.mpy_lexer.specs.declared.forms.Form.TheVariants.{Program}
 use Rattle.mpy_lexer.specs.declared.forms.Kind.{Kind}
@@ -31,10 +31,6 @@ pub record IsToken (k : Kind) (n : ℕ) (p : Piece) : Type 0 where
 not_false : (b : Bool) → not b ≡ true → b ≡ false
 not_false true e = absurd cc
 not_false false e = refl
-
-pub neither : (a b : Bool) → a || b ≡ false → (a ≡ false) × (b ≡ false)
-neither true b e = absurd cc
-neither false b e = (refl, e)
 
 -- a run of bytes that pass ends at one that doesn't
 run_ends : (test : ℕ → Bool) (xs : List ℕ) (c : ℕ) (rest : List ℕ) → list_all test xs ≡ true → test c ≡ false → prefix_len test (xs ++ c ∷ rest) ≡ length xs
@@ -114,7 +110,7 @@ number_piece (x ∷ xs) c rest form ends =
     let parts = and_parts (list_all is_ascii_digit (x ∷ xs) && is_none_behind x xs) (nat_le (number_value (x ∷ xs)) 2147483647) form in
     let digits = and_parts (list_all is_ascii_digit (x ∷ xs)) (is_none_behind x xs) parts.0 in
     let first = and_parts (is_ascii_digit x) (list_all is_ascii_digit xs) digits.0 in
-    let other = (neither (is_name_start c) (is_ascii_digit c) (neither (is_name_byte c) (eqb c 46) ends).0).1 in
+    let other = (or_parts (is_name_start c) (is_ascii_digit c) (or_parts (is_name_byte c) (eqb c 46) ends).0).1 in
     rw (at_digit x (xs ++ c ∷ rest) first.0)
     (numbered (x ∷ xs ++ c ∷ rest) (x ∷ xs) c rest (digits_run (eqb x 48) x xs c rest refl digits.0 digits.1 other) (take-append_seam (x ∷ xs) (c ∷ rest)) (drop-append_seam (x ∷ xs) (c ∷ rest)) parts.1 ends)
 
@@ -173,10 +169,10 @@ mark_begins word e = one_of (λ w. begins_mark w ≡ true) program_marks word (e
 at_sign : (x : ℕ) (rest : List ℕ) → is_white x || eqb x 35 || is_quote x || is_name_start x || is_ascii_digit x ≡ false → piece_at Program (x ∷ rest) ≡ sign_at Program (x ∷ rest)
 unfolding piece_at
 at_sign x rest none =
-    let a = neither (is_white x || eqb x 35 || is_quote x || is_name_start x) (is_ascii_digit x) none in
-    let b = neither (is_white x || eqb x 35 || is_quote x) (is_name_start x) a.0 in
-    let c = neither (is_white x || eqb x 35) (is_quote x) b.0 in
-    let d = neither (is_white x) (eqb x 35) c.0 in
+    let a = or_parts (is_white x || eqb x 35 || is_quote x || is_name_start x) (is_ascii_digit x) none in
+    let b = or_parts (is_white x || eqb x 35 || is_quote x) (is_name_start x) a.0 in
+    let c = or_parts (is_white x || eqb x 35) (is_quote x) b.0 in
+    let d = or_parts (is_white x) (eqb x 35) c.0 in
     rw (d.0, d.1, c.1, b.1, a.1) refl
 
 -- one byte more settles which mark is the longest

@@ -21,7 +21,8 @@ use Rattle.mpy_tree.specs.Levels.{above, rank, left_level, right_level}
 use Rattle.mpy_expressions.specs.Joints.{arith_word}
 use Rattle.mpy_expressions.specs.Programs.{programs}
 use Rattle.mpy_expressions.specs.Grammar.{Spells, SpellsEnd, SpellsAll, conditional, disjunction, conjunction, negation, compared, arithmetic, minus, index, slice, number, quoted, truth, call, items, parenthesized, higher, missing, given, none, one, more, comparison, truth_word, name as a_name}
-use Rattle.mpy_round_trip.specs.Proper.{IsProperTerm, AreProperTerms, IsProperEnd}
+use Rattle.mpy_round_trip.specs.Proper.{IsProperTerm}
+use Rattle.mpy_round_trip.proofs.ProperParts.{HasProperParts, HaveProperParts, EndHasProperParts, parts_of}
 use Rattle.mpy_round_trip.proofs.Scraps.{Scrap, gap, word as piece, scrap_of, words_in}
 use Rattle.mpy_round_trip.proofs.printing.ProgramLines.{mark, part_scraps, compare_scraps, term_scraps, list_scraps, rest_scraps, end_scraps}
 use Rattle.mpy_round_trip.proofs.printing.Numerals.{numeral_terminal}
@@ -179,7 +180,7 @@ compare_terminals NotMember ss = refl
 mutual
   unfolding word_of
 
-  term_spelled : (e : Term) → IsProperTerm e → IsSpelled (level_of e) (term_scraps e) e
+  term_spelled : (e : Term) → HasProperParts e → IsSpelled (level_of e) (term_scraps e) e
   term_spelled (ast.Int n) p = record { own = terminal.Number n ∷ []; onto = λ ss. ap (λ t. t ∷ terminals_in ss) (numeral_terminal n p); spells = number n }
   term_spelled (ast.Bool b) p = record { own = terminal.Word (truth_word b) ∷ []; onto = λ ss. ap (λ t. t ∷ terminals_in ss) (truth_terminal b); spells = truth b }
   term_spelled (ast.Text cs) p = record { own = terminal.Text cs ∷ []; onto = λ ss. ap (λ t. t ∷ terminals_in ss) (literal_terminal cs p); spells = quoted cs }
@@ -266,14 +267,14 @@ mutual
         spells = subst (λ l. Spells programs level.Atom (terminal.Name f ∷ terminal.Word word.LeftParen ∷ s.own ++ terminal.Word word.RightParen ∷ []) (ast.Call f l)) (terms_listed es) (call f s.spells);
       }
 
-  list_spelled : (es : Terms) → AreProperTerms es → AreSpelled (list_scraps es) es
+  list_spelled : (es : Terms) → HaveProperParts es → AreSpelled (list_scraps es) es
   list_spelled no_terms p = record { own = []; onto = λ ss. refl; spells = none }
   list_spelled (term_and e es) p =
       let s = lowered (level_of e) level.Conditional (term_scraps e) e (omega arith) (term_spelled e p.0) in
       let t = rest_spelled es p.1 in
       record { own = s.own ++ t.own; onto = λ ss. simp (append_assoc, s.onto, t.onto); spells = t.spells s.own e s.spells }
 
-  rest_spelled : (es : Terms) → AreProperTerms es → AreSpelledBehind (rest_scraps es) es
+  rest_spelled : (es : Terms) → HaveProperParts es → AreSpelledBehind (rest_scraps es) es
   rest_spelled no_terms p = record { own = []; onto = λ ss. refl; spells = λ xs e s. subst (λ l. SpellsAll programs l (e ∷ [])) (sym (append-nil xs)) (one s) }
   rest_spelled (term_and f es) p =
       let s = lowered (level_of f) level.Conditional (term_scraps f) f (omega arith) (term_spelled f p.0) in
@@ -284,7 +285,7 @@ mutual
         spells = λ xs e u. more u (t.spells s.own f s.spells);
       }
 
-  end_spelled : (e : MaybeTerm) → IsProperEnd e → IsEndSpelled (end_scraps e) e
+  end_spelled : (e : MaybeTerm) → EndHasProperParts e → IsEndSpelled (end_scraps e) e
   end_spelled no_term p = record { own = []; onto = λ ss. refl; spells = missing }
   end_spelled (a_term e) p =
       let s = lowered (level_of e) level.Conditional (term_scraps e) e (omega arith) (term_spelled e p) in
@@ -292,4 +293,4 @@ mutual
 
 -- as an expression that stands in no other
 pub whole : (e : Term) → IsProperTerm e → IsSpelled level.Conditional (term_scraps e) e
-whole e p = lowered (level_of e) level.Conditional (term_scraps e) e (omega arith) (term_spelled e p)
+whole e p = lowered (level_of e) level.Conditional (term_scraps e) e (omega arith) (term_spelled e (parts_of e p))

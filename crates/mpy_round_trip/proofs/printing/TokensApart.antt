@@ -18,7 +18,8 @@ use Rattle.mpy_lexer.specs.Bytes.{is_name_start, is_name_byte}
 use Rattle.mpy_lexer.specs.Words.{is_reserved, mark_len}
 use Rattle.mpy_lexer.specs.TokenForms.{is_name}
 use Rattle.mpy_lexer.specs.TextLiterals.{is_printable}
-use Rattle.mpy_round_trip.specs.Proper.{IsName, IsProperTerm, AreProperTerms, IsProperEnd, MayAugment}
+use Rattle.mpy_round_trip.specs.Proper.{IsName, IsProperTerm, MayAugment}
+use Rattle.mpy_round_trip.proofs.ProperParts.{HasProperParts, HaveProperParts, EndHasProperParts, parts_of}
 use Rattle.mpy_round_trip.proofs.Scraps.{Scrap, gap, word, next_byte, ends_before, AreApart}
 use Rattle.mpy_round_trip.proofs.printing.ProgramLines.{name, mark, reserved, part_scraps, compare_scraps, term_scraps, list_scraps, rest_scraps, end_scraps}
 use Rattle.mpy_round_trip.proofs.printing.Numerals.{numeral, numeral_form, printable_digits, first_digit}
@@ -128,86 +129,89 @@ numeral_leads n ss h = let d = numeral n h in subst (λ bs. MayLead (next_byte (
 mutual
   unfolding mark_len is_reserved
 
-  pub term_apart : (e : Term) → IsProperTerm e → IsApart (term_scraps e)
-  term_apart (ast.Int n) p = record {
+  parts_apart : (e : Term) → HasProperParts e → IsApart (term_scraps e)
+  parts_apart (ast.Int n) p = record {
     leads = λ ss. numeral_leads n ss p;
     apart = λ ss f h. (numeral_form n p, subst (λ bs. list_all is_printable bs ≡ true) (sym (numeral n p).cut) (printable_digits ((numeral n p).first ∷ (numeral n p).rest) (numeral n p).digits), ap not f, h);
   }
-  term_apart (ast.Bool b) p = record { leads = truth_leads b; apart = λ ss f h. truth_apart b ss (follows_name (is_name_byte (next_byte ss)) (next_byte ss == 46) f) h }
-  term_apart (ast.Text cs) p = record { leads = λ ss. refl; apart = λ ss f h. (literal_form cs p, printable_literal cs p, refl, h) }
-  term_apart (ast.Name x) p = record {
+  parts_apart (ast.Bool b) p = record { leads = truth_leads b; apart = λ ss f h. truth_apart b ss (follows_name (is_name_byte (next_byte ss)) (next_byte ss == 46) f) h }
+  parts_apart (ast.Text cs) p = record { leads = λ ss. refl; apart = λ ss f h. (literal_form cs p, printable_literal cs p, refl, h) }
+  parts_apart (ast.Name x) p = record {
     leads = λ ss. name_leads x ss (and_parts (is_name x) (not (is_reserved x)) p).0;
     apart = λ ss f h. name_apart x ss p (follows_name (is_name_byte (next_byte ss)) (next_byte ss == 46) f) h;
   }
-  term_apart (ast.List es) p = record { leads = λ ss. refl; apart = λ ss f h. (refl, refl, refl, list_apart es p (mark (codes "]") ∷ ss) refl (refl, refl, refl, h)) }
-  term_apart (ast.Neg e) p =
-      let q = part_apart level.Unary e (term_scraps e) (term_apart e p) in
+  parts_apart (ast.List es) p = record { leads = λ ss. refl; apart = λ ss f h. (refl, refl, refl, list_apart es p (mark (codes "]") ∷ ss) refl (refl, refl, refl, h)) }
+  parts_apart (ast.Neg e) p =
+      let q = part_apart level.Unary e (term_scraps e) (parts_apart e p) in
       record { leads = λ ss. refl; apart = λ ss f h. (refl, refl, minus_ends (next_byte (part_scraps level.Unary e (term_scraps e) ss)) (q.leads ss), q.apart ss f h) }
-  term_apart (ast.Not e) p =
-      let q = part_apart level.Negation e (term_scraps e) (term_apart e p) in
+  parts_apart (ast.Not e) p =
+      let q = part_apart level.Negation e (term_scraps e) (parts_apart e p) in
       record { leads = λ ss. refl; apart = λ ss f h. (refl, refl, refl, q.apart ss f h) }
-  term_apart (ast.Arith op a b) p =
-      let q = part_apart (left_level op) a (term_scraps a) (term_apart a p.0) in
-      let r = part_apart (right_level op) b (term_scraps b) (term_apart b p.1) in
+  parts_apart (ast.Arith op a b) p =
+      let q = part_apart (left_level op) a (term_scraps a) (parts_apart a p.0) in
+      let r = part_apart (right_level op) b (term_scraps b) (parts_apart b p.1) in
       record {
         leads = λ ss. q.leads (gap ∷ mark (arith_text op) ∷ gap ∷ part_scraps (right_level op) b (term_scraps b) ss);
         apart = λ ss f h. q.apart _ refl (operator_apart op (part_scraps (right_level op) b (term_scraps b) ss) (r.apart ss f h));
       }
-  term_apart (ast.Cmp op a b) p =
-      let q = part_apart level.Sum a (term_scraps a) (term_apart a p.0) in
-      let r = part_apart level.Sum b (term_scraps b) (term_apart b p.1) in
+  parts_apart (ast.Cmp op a b) p =
+      let q = part_apart level.Sum a (term_scraps a) (parts_apart a p.0) in
+      let r = part_apart level.Sum b (term_scraps b) (parts_apart b p.1) in
       record {
         leads = λ ss. q.leads (gap ∷ compare_scraps op (gap ∷ part_scraps level.Sum b (term_scraps b) ss));
         apart = λ ss f h. q.apart _ refl (compare_apart op (part_scraps level.Sum b (term_scraps b) ss) (r.apart ss f h));
       }
-  term_apart (ast.And a b) p =
-      let q = part_apart level.Conjunction a (term_scraps a) (term_apart a p.0) in
-      let r = part_apart level.Negation b (term_scraps b) (term_apart b p.1) in
+  parts_apart (ast.And a b) p =
+      let q = part_apart level.Conjunction a (term_scraps a) (parts_apart a p.0) in
+      let r = part_apart level.Negation b (term_scraps b) (parts_apart b p.1) in
       record {
         leads = λ ss. q.leads (gap ∷ reserved (codes "and") ∷ gap ∷ part_scraps level.Negation b (term_scraps b) ss);
         apart = λ ss f h. q.apart (gap ∷ reserved (codes "and") ∷ gap ∷ part_scraps level.Negation b (term_scraps b) ss) refl (refl, refl, refl, r.apart ss f h);
       }
-  term_apart (ast.Or a b) p =
-      let q = part_apart level.Disjunction a (term_scraps a) (term_apart a p.0) in
-      let r = part_apart level.Conjunction b (term_scraps b) (term_apart b p.1) in
+  parts_apart (ast.Or a b) p =
+      let q = part_apart level.Disjunction a (term_scraps a) (parts_apart a p.0) in
+      let r = part_apart level.Conjunction b (term_scraps b) (parts_apart b p.1) in
       record {
         leads = λ ss. q.leads (gap ∷ reserved (codes "or") ∷ gap ∷ part_scraps level.Conjunction b (term_scraps b) ss);
         apart = λ ss f h. q.apart (gap ∷ reserved (codes "or") ∷ gap ∷ part_scraps level.Conjunction b (term_scraps b) ss) refl (refl, refl, refl, r.apart ss f h);
       }
-  term_apart (ast.Cond t a b) p =
-      let q = part_apart level.Disjunction a (term_scraps a) (term_apart a p.1) in
-      let r = part_apart level.Disjunction t (term_scraps t) (term_apart t p.0) in
-      let s = term_apart b p.2 in
+  parts_apart (ast.Cond t a b) p =
+      let q = part_apart level.Disjunction a (term_scraps a) (parts_apart a p.1) in
+      let r = part_apart level.Disjunction t (term_scraps t) (parts_apart t p.0) in
+      let s = parts_apart b p.2 in
       record {
         leads = λ ss. q.leads (gap ∷ reserved (codes "if") ∷ gap ∷ part_scraps level.Disjunction t (term_scraps t) (gap ∷ reserved (codes "else") ∷ gap ∷ term_scraps b ss));
         apart = λ ss f h. q.apart (gap ∷ reserved (codes "if") ∷ gap ∷ part_scraps level.Disjunction t (term_scraps t) (gap ∷ reserved (codes "else") ∷ gap ∷ term_scraps b ss)) refl (refl, refl, refl, r.apart (gap ∷ reserved (codes "else") ∷ gap ∷ term_scraps b ss) refl (refl, refl, refl, s.apart ss f h));
       }
-  term_apart (ast.Index v i) p =
-      let q = part_apart level.Postfix v (term_scraps v) (term_apart v p.0) in
-      let r = term_apart i p.1 in
+  parts_apart (ast.Index v i) p =
+      let q = part_apart level.Postfix v (term_scraps v) (parts_apart v p.0) in
+      let r = parts_apart i p.1 in
       record {
         leads = λ ss. q.leads (mark (codes "[") ∷ term_scraps i (mark (codes "]") ∷ ss));
         apart = λ ss f h. q.apart (mark (codes "[") ∷ term_scraps i (mark (codes "]") ∷ ss)) refl (refl, refl, refl, r.apart (mark (codes "]") ∷ ss) refl (refl, refl, refl, h));
       }
-  term_apart (ast.Slice v from to) p =
-      let q = part_apart level.Postfix v (term_scraps v) (term_apart v p.0) in
+  parts_apart (ast.Slice v from to) p =
+      let q = part_apart level.Postfix v (term_scraps v) (parts_apart v p.0) in
       record {
         leads = λ ss. q.leads (mark (codes "[") ∷ end_scraps from (mark (codes ":") ∷ end_scraps to (mark (codes "]") ∷ ss)));
         apart = λ ss f h. q.apart (mark (codes "[") ∷ end_scraps from (mark (codes ":") ∷ end_scraps to (mark (codes "]") ∷ ss))) refl (refl, refl, refl, end_apart from p.1 (mark (codes ":") ∷ end_scraps to (mark (codes "]") ∷ ss)) refl (refl, refl, refl, end_apart to p.2 (mark (codes "]") ∷ ss) refl (refl, refl, refl, h)));
       }
-  term_apart (ast.Call f es) p = record {
+  parts_apart (ast.Call f es) p = record {
     leads = λ ss. name_leads f (mark (codes "(") ∷ list_scraps es (mark (codes ")") ∷ ss)) (and_parts (is_name f) (not (is_reserved f)) p.0).0;
     apart = λ ss g h. name_apart f (mark (codes "(") ∷ list_scraps es (mark (codes ")") ∷ ss)) p.0 refl (refl, refl, refl, list_apart es p.1 (mark (codes ")") ∷ ss) refl (refl, refl, refl, h));
   }
 
-  list_apart : (es : Terms) → AreProperTerms es → (ss : List Scrap) → MayFollow (next_byte ss) → AreApart ss → AreApart (list_scraps es ss)
+  list_apart : (es : Terms) → HaveProperParts es → (ss : List Scrap) → MayFollow (next_byte ss) → AreApart ss → AreApart (list_scraps es ss)
   list_apart no_terms p ss f h = h
-  list_apart (term_and e es) p ss f h = let r = rest_apart es p.1 ss f h in (term_apart e p.0).apart (rest_scraps es ss) r.0 r.1
+  list_apart (term_and e es) p ss f h = let r = rest_apart es p.1 ss f h in (parts_apart e p.0).apart (rest_scraps es ss) r.0 r.1
 
-  rest_apart : (es : Terms) → AreProperTerms es → (ss : List Scrap) → MayFollow (next_byte ss) → AreApart ss → MayFollow (next_byte (rest_scraps es ss)) × AreApart (rest_scraps es ss)
+  rest_apart : (es : Terms) → HaveProperParts es → (ss : List Scrap) → MayFollow (next_byte ss) → AreApart ss → MayFollow (next_byte (rest_scraps es ss)) × AreApart (rest_scraps es ss)
   rest_apart no_terms p ss f h = (f, h)
-  rest_apart (term_and e es) p ss f h = let r = rest_apart es p.1 ss f h in (refl, (refl, refl, refl, (term_apart e p.0).apart (rest_scraps es ss) r.0 r.1))
+  rest_apart (term_and e es) p ss f h = let r = rest_apart es p.1 ss f h in (refl, (refl, refl, refl, (parts_apart e p.0).apart (rest_scraps es ss) r.0 r.1))
 
-  end_apart : (e : MaybeTerm) → IsProperEnd e → (ss : List Scrap) → MayFollow (next_byte ss) → AreApart ss → AreApart (end_scraps e ss)
+  end_apart : (e : MaybeTerm) → EndHasProperParts e → (ss : List Scrap) → MayFollow (next_byte ss) → AreApart ss → AreApart (end_scraps e ss)
   end_apart no_term p ss f h = h
-  end_apart (a_term e) p ss f h = (term_apart e p).apart ss f h
+  end_apart (a_term e) p ss f h = (parts_apart e p).apart ss f h
+
+pub term_apart : (e : Term) → IsProperTerm e → IsApart (term_scraps e)
+term_apart e p = parts_apart e (parts_of e p)
