@@ -49,7 +49,8 @@ macro_rules! operands {
     };
 }
 
-/// The text of a function that returns an expression, printed anew; it is read again as the same program.
+/// The text of a function that returns an expression, printed anew; it is read again as the same
+/// program.
 fn returned(alloc: Global, expression: &str) -> Result<String, Fail> {
     let text = format!(in alloc; "def f():\n    return {expression}\n")?;
     let first = program(alloc, text.as_str())?;
@@ -62,7 +63,8 @@ fn returned(alloc: Global, expression: &str) -> Result<String, Fail> {
     printed(alloc, &first)
 }
 
-/// Whether each part in the place stands in parentheses exactly where its level is below the one asked for.
+/// Whether each part in the place stands in parentheses exactly where its level is below the one
+/// asked for.
 fn is_closed_where_needed(alloc: Global, place: Place) -> Result<bool, Fail> {
     let (before, asked, behind) = place;
     for (level, part) in PARTS.iter().enumerate() {

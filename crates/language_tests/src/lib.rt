@@ -1,4 +1,5 @@
-//! Tests of the language's crates over one another: tokens, programs, their texts, and what they give.
+//! Tests of the language's crates over one another: tokens, programs, their texts, and what they
+//! give.
 #![tactic(auto)]
 
 #[cfg(test)]

@@ -13,7 +13,8 @@ const LIMITS: Limits = Limits {
     cap: 4,
 };
 
-/// Expressions, each with what it gives where `x` is 3, `v` is `[1, 2]`, and `g` gives one more than its argument.
+/// Expressions, each with what it gives where `x` is 3, `v` is `[1, 2]`, and `g` gives one more
+/// than its argument.
 const EXPRESSIONS: [(&str, &str); 64] = [
     ("5", "5"),
     ("True", "True"),

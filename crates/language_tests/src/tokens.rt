@@ -1,4 +1,5 @@
-//! Texts and their lines, by a separate model of the rules, and the calls on tokens with ample memory.
+//! Texts and their lines, by a separate model of the rules, and the calls on tokens with ample
+//! memory.
 use mpy_lexer::{
     Form, Kind, LexCause, LexError, Line, Spelling, Token, Tokens, lines, literal_characters,
     metavariable_of,
@@ -6,7 +7,8 @@ use mpy_lexer::{
 use std::alloc::Global;
 use std::test::Fail;
 
-// Programs, each with its lines: of a line its number and column, of a token what it is, its span and its bytes.
+// Programs, each with its lines: of a line its number and column, of a token what it is, its span
+// and its bytes.
 const PROGRAMS: [(&[u8], &str); 40] = [
     (b"", ""),
     (b"\n", ""),

@@ -1,5 +1,5 @@
 -- The piece at a place is the longest form that begins there.
-use Rattle.std.proofs.Common.{◌≡◌, ℕ, zero, suc, ◌+◌, ◌-◌, ◌<◌, ◌≤◌, Bool, true, false, not, ◌&&◌, ◌||◌, cond, List, [], ◌∷◌, length, take, drop, Option, Some, None, option_map, refl, sym, ap, ◌∙◌, subst, arith, eqb, one-add, add-one, zero-add}
+use Rattle.std.proofs.Common.{◌≡◌, ℕ, zero, suc, ◌+◌, ◌<◌, ◌≤◌, Bool, true, false, not, ◌&&◌, ◌||◌, cond, List, [], ◌∷◌, length, take, drop, Option, Some, None, option_map, refl, sym, ap, ◌∙◌, arith, eqb, one-add}
 use Rattle.std.specs.Prelude.{nat_eq, nat_le}
 use Rattle.std.specs.Char.{is_ascii_digit}
 use Rattle.std.specs.List.{prefix_len, list_all, starts_with}
@@ -15,10 +15,10 @@ use Rattle.mpy_lexer.specs.declared.pieces.Sort.TheVariants as sort
 use Rattle.mpy_lexer.specs.declared.pieces.Piece.{Piece}
 use Rattle.mpy_lexer.specs.Bytes.{is_white, is_quote, is_name_start, is_name_byte, is_meta_letter}
 use Rattle.mpy_lexer.specs.Words.{is_reserved, marks, first_len, mark_len}
-use Rattle.mpy_lexer.specs.Pieces.{closing, has_wrong_escape, text_to, name_at, number_value, digits_len, is_glued, number_at, one_if, meta_len, meta_len_in, sign_by, sign_at, piece_at}
+use Rattle.mpy_lexer.specs.Pieces.{closing, has_wrong_escape, text_to, name_at, number_value, digits_len, number_at, one_if, meta_len, meta_len_in, sign_by, sign_at, piece_at}
 use Rattle.mpy_lexer.specs.TokenForms.{is_name, is_none_behind, is_number, is_length, is_text, is_meta_end, is_meta, is_one_of, has_form}
 use Rattle.mpy_lexer.specs.TokenLaws.{IsLongest}
-use Rattle.mpy_lexer.proofs.WordLaws.{other_one, one_of, each_passes, reserved_is_name}
+use Rattle.mpy_lexer.proofs.WordLaws.{one_of, each_passes, reserved_is_name}
 
 -- the piece is a token only where no longer front of the text has the form of one
 abbrev Reaches : Form → Piece → List ℕ → Type 0

@@ -1,5 +1,5 @@
 -- At each place of a line a piece of at least one byte begins.
-use Rattle.std.proofs.Common.{◌≡◌, ℕ, zero, suc, ◌+◌, ◌-◌, ◌<◌, ◌≤◌, min, Bool, true, false, not, ◌&&◌, cond, List, [], ◌∷◌, length, take, drop, length-take, length-drop, Option, None, Some, option_map, refl, sym, ap, arith, eqb}
+use Rattle.std.proofs.Common.{◌≡◌, ℕ, zero, suc, ◌+◌, ◌-◌, ◌<◌, ◌≤◌, Bool, true, false, not, ◌&&◌, cond, List, [], ◌∷◌, length, take, drop, length-take, length-drop, Option, None, Some, option_map, refl, sym, ap, arith, eqb}
 use Rattle.std.specs.Prelude.{nat_eq}
 use Rattle.std.specs.Char.{is_ascii_digit}
 use Rattle.std.specs.List.{prefix_len, starts_with}
@@ -10,7 +10,7 @@ use Rattle.mpy_lexer.specs.declared.forms.Form.TheVariants.{Program, Rules}
 use Rattle.mpy_lexer.specs.declared.pieces.Piece.{Piece}
 use Rattle.mpy_lexer.specs.Bytes.{is_white, is_quote, is_name_start, is_name_byte, is_meta_letter}
 use Rattle.mpy_lexer.specs.Words.{marks, first_len, mark_len}
-use Rattle.mpy_lexer.specs.Pieces.{closing, text_to, name_at, digits_len, number_at, one_if, meta_len, meta_len_in, sign_by, sign_at, piece_at}
+use Rattle.mpy_lexer.specs.Pieces.{closing, text_to, name_at, number_at, one_if, meta_len, meta_len_in, sign_by, sign_at, piece_at}
 
 by_cases : (b : Bool) (p q : Piece) → (b ≡ true → 0 < p.len) → (b ≡ false → 0 < q.len) → 0 < (cond b p q).len
 by_cases true p q passes fails = passes refl

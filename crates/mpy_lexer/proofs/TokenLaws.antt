@@ -1,5 +1,5 @@
 -- The tokens of a text cover it.
-use Rattle.std.proofs.Common.{◌≡◌, ℕ, zero, suc, ◌+◌, ◌-◌, ◌<◌, ◌≤◌, Bool, true, false, not, ◌&&◌, ◌||◌, cond, List, [], ◌∷◌, ◌++◌, length, take, drop, flat_map, Ok, Option, Some, None, option_map, refl, sym, ap, ◌∙◌, subst, arith, eqb, append_assoc, append-nil, add-zero, length-append}
+use Rattle.std.proofs.Common.{◌≡◌, ℕ, zero, suc, ◌+◌, ◌-◌, ◌<◌, ◌≤◌, Bool, true, false, not, ◌||◌, cond, List, [], ◌∷◌, ◌++◌, length, take, drop, flat_map, Option, Some, None, option_map, refl, sym, ap, ◌∙◌, subst, arith, eqb, append_assoc, append-nil, add-zero, length-append}
 use Rattle.std.specs.Prelude.{All}
 use Rattle.std.specs.List.{concat, list_all, list_any, prefix_len}
 use Rattle.std.specs.Option.{option_or}
@@ -17,18 +17,16 @@ use Rattle.mpy_lexer.specs.declared.pieces.Sort.TheVariants as sort
 use Rattle.mpy_lexer.specs.declared.pieces.Piece.{Piece}
 use Rattle.mpy_lexer.specs.declared.token.Token.{Token}
 use Rattle.mpy_lexer.specs.declared.brackets.Bracket.{Bracket}
-use Rattle.mpy_lexer.specs.declared.line.Line.{Line}
-use Rattle.mpy_lexer.specs.declared.line.LexError.{LexError}
 use Rattle.mpy_lexer.specs.declared.rows.Row.{Row}
 use Rattle.mpy_lexer.specs.Bytes.{is_white, is_quote, is_name_start}
 use Rattle.std.specs.Char.{is_ascii_digit}
 use Rattle.mpy_lexer.specs.Words.{mark_len}
-use Rattle.mpy_lexer.specs.Pieces.{Part, part, parts, closing, has_wrong_escape, text_to, name_at, number_at, meta_len_in, sign_by, sign_at, piece_at}
+use Rattle.mpy_lexer.specs.Pieces.{parts, closing, has_wrong_escape, text_to, name_at, number_at, meta_len_in, sign_by, sign_at, piece_at}
 use Rattle.mpy_lexer.specs.PhysicalLines.{byte_order_mark_len, with_byte, physical_lines, is_solid, is_wrong, token_in, tokens_of, row_of, rows_of, rows}
 use Rattle.mpy_lexer.specs.Brackets.{is_empty, open_after, has_unmatched}
 use Rattle.mpy_lexer.specs.Seen.{line_len}
-use Rattle.mpy_lexer.specs.Lexing.{begins, continued, logical_lines, faulty_lines, byte_fault, token_fault, length_fault, first_fault, lines_unless, lex}
-use Rattle.mpy_lexer.specs.TokenLaws.{is_passed_over, IsLongest, first_line, IsNext, IsCovered, tokens_of_lines, TokensCoverTheirSource}
+use Rattle.mpy_lexer.specs.Lexing.{continued, logical_lines, faulty_lines, byte_fault, token_fault, length_fault, first_fault, lex}
+use Rattle.mpy_lexer.specs.TokenLaws.{is_passed_over, IsLongest, first_line, IsCovered, tokens_of_lines, TokensCoverTheirSource}
 use Rattle.mpy_lexer.proofs.PieceForms.{run_passes}
 use Rattle.mpy_lexer.proofs.PieceLengths.{piece_within, at_front}
 use Rattle.mpy_lexer.proofs.LineCuts.{line_some}
