@@ -1,5 +1,5 @@
 -- Evaluations that differ in lines at most.
-use Rattle.std.proofs.Common.{◌≡◌, ℕ, Bool, true, false, not, List, [], ◌∷◌, Option, Some, None, Ok, Err, if◌then◌else◌, pos, refl, sym, ap, ◌∙◌}
+use Rattle.std.proofs.Common.{◌≡◌, ℕ, Bool, true, false, not, List, [], ◌∷◌, Option, Some, None, Ok, Err, if◌then◌else◌, pos, refl, sym, ◌∙◌}
 use Rattle.std.specs.declared.result.Result.{Result}
 use Rattle.mpy_tree.specs.declared.limits.Limits.{Limits}
 use Rattle.mpy_tree.specs.declared.value.Value.{Value}
@@ -10,7 +10,7 @@ use Rattle.mpy_tree.specs.declared.outcome.Halted.{Halted}
 use Rattle.mpy_tree.specs.Builtins.{builtin_of}
 use Rattle.mpy_tree.specs.Syntax.{Term, Terms, MaybeTerm, no_terms, term_and, no_term, a_term}
 use Rattle.mpy_tree.specs.Syntax as ast
-use Rattle.mpy_tree.specs.Values.{◌>>=◌, on_line, stuck, State, set_or_fault}
+use Rattle.mpy_tree.specs.Values.{◌>>=◌, on_line, State, set_or_fault}
 use Rattle.mpy_tree.specs.Operations.{number, text_within, arith, negative, holds, compare, truth, index}
 use Rattle.mpy_tree.specs.Expressions.{Calls, list_of, slice_of, builtin, called, both, either, value_of, values_of, maybe_value_of}
 

@@ -1,5 +1,5 @@
 -- Runs that differ in lines at most.
-use Rattle.std.proofs.Common.{◌≡◌, ℕ, zero, suc, ◌==◌, Bool, true, false, List, [], ◌∷◌, length, map, Option, Some, None, Ok, Err, if◌then◌else◌, refl, sym, ap, subst, ◌∙◌}
+use Rattle.std.proofs.Common.{◌≡◌, ℕ, zero, suc, ◌==◌, Bool, true, false, List, [], ◌∷◌, length, map, Option, Some, None, Err, if◌then◌else◌, refl, sym, ap, subst}
 use Rattle.std.specs.declared.result.Result.{Result}
 use Rattle.mpy_tree.specs.declared.limits.Limits.{Limits}
 use Rattle.mpy_tree.specs.declared.value.Value.{Value}
@@ -8,7 +8,7 @@ use Rattle.mpy_tree.specs.declared.outcome.Halted.{Halted}
 use Rattle.mpy_tree.specs.Syntax.{Term, MaybeTerm, no_term, a_term, at, Action, Block, end, step, MaybeBlock, no_block, a_block, arm, Branches, no_arms, arm_and, Routine}
 use Rattle.mpy_tree.specs.Syntax as ast
 use Rattle.mpy_tree.specs.Equality.{block_without_lines, action_without_lines, arms_without_lines, else_without_lines, without_lines}
-use Rattle.mpy_tree.specs.Values.{◌>>=◌, on_line, stuck, State, assign, set_or_fault, same_bytes}
+use Rattle.mpy_tree.specs.Values.{on_line, stuck, State, assign, set_or_fault, same_bytes}
 use Rattle.mpy_tree.specs.Operations.{arith, holds, index, put, append, members}
 use Rattle.mpy_tree.specs.Expressions.{Calls}
 use Rattle.mpy_tree.specs.Statements.{Ran, Next, Broke, Continued, Returned, Failed, given as given_to, then_on, then_turn, store, tested, while_turns, for_turns, value_at, set_by, set_at, set_at_by, give, run_block, run_action, run_arms, run_else}

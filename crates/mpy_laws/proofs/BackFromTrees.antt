@@ -4,7 +4,7 @@ use Rattle.mpy_tree.specs.Syntax.{Term, Terms, MaybeTerm, no_terms, term_and, no
 use Rattle.mpy_tree.specs.Syntax as ast
 use Rattle.mpy_tree.specs.Trees as kind
 use Rattle.mpy_tree.specs.Trees.{Tree, Trees, node, no_trees, tree_and}
-use Rattle.mpy_tree.specs.Shapes.{shape, shapes, shape_and, is_there, statement_shape, action_shape, statement_shapes, last_shapes, arm_shape, arms_shapes, block_shape, routine_shape, routine_shapes, program_shape}
+use Rattle.mpy_tree.specs.Shapes.{shape, shapes, statement_shape, action_shape, statement_shapes, last_shapes, arms_shapes, routine_shapes}
 use Rattle.mpy_laws.specs.TreeLaws.{TreesDiffer}
 
 abbrev mutual

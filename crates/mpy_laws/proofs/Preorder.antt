@@ -1,11 +1,11 @@
 -- The flat lists of a program stand in the order of its tree.
-use Rattle.std.proofs.Common.{◌≡◌, ℕ, Bool, true, false, List, [], ◌∷◌, ◌++◌, map, if◌then◌else◌, refl, sym, ap, ◌∙◌, append_assoc, append-nil}
+use Rattle.std.proofs.Common.{◌≡◌, ℕ, List, [], ◌∷◌, ◌++◌, map, refl, sym, ap, ◌∙◌, append_assoc, append-nil}
 use Rattle.std.specs.List.{flat_map}
 use Rattle.std.proofs.lemmas.List.{map-append}
 use Rattle.mpy_tree.specs.Syntax.{Term, Terms, MaybeTerm, no_terms, term_and, no_term, a_term, Statement, at, Action, Block, end, step, MaybeBlock, no_block, a_block, Branch, arm, Branches, no_arms, arm_and}
 use Rattle.mpy_tree.specs.Syntax as ast
-use Rattle.mpy_tree.specs.Trees.{Tree, Trees, node, no_trees, tree_and}
-use Rattle.mpy_tree.specs.Shapes.{shape, shapes, shape_and, statement_shape, action_shape, statement_shapes, last_shapes, arm_shape, arms_shapes, block_shape}
+use Rattle.mpy_tree.specs.Trees.{Tree, Trees}
+use Rattle.mpy_tree.specs.Shapes.{shape, shapes, shape_and, action_shape, statement_shapes, last_shapes, arms_shapes}
 use Rattle.mpy_tree.specs.Sites.{nodes, all_nodes, end_nodes, sites, inside, in_arms, in_last, site_nodes, line_of, Site, does, asks}
 use Rattle.mpy_laws.specs.TreeLaws.{subtrees, all_subtrees, lines_at, terms_at, ListsFollowTheTrees}
 

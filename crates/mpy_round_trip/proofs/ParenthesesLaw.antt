@@ -1,14 +1,12 @@
 -- Above its own level an expression is spelled in parentheses alone.
 use Rattle.std.proofs.Common.{◌≡◌, ◌≤◌, ◌⊎◌, inl, inr, List, Option, Some, None, refl, arith}
 use Rattle.mpy_tree.specs.Syntax.{Term}
-use Rattle.mpy_tree.specs.declared.operators.ArithOp.{ArithOp}
-use Rattle.mpy_tree.specs.declared.operators.ArithOp.TheVariants.{Add, Sub, Mul, Floor, Rem, Power}
 use Rattle.mpy_tree.specs.declared.levels.Level.{Level}
 use Rattle.mpy_tree.specs.declared.levels.Level.TheVariants as level
 use Rattle.mpy_tree.specs.Levels.{above, rank}
 use Rattle.mpy_tree.specs.Printing.{level_of}
 use Rattle.mpy_expressions.specs.declared.terminals.Terminal.{Terminal}
-use Rattle.mpy_expressions.specs.Grammar.{Spells, conditional, disjunction, conjunction, negation, compared, arithmetic, minus, index, slice, number, quoted, truth, hole, set, operated, likened, call, items, parenthesized, higher, name as a_name}
+use Rattle.mpy_expressions.specs.Grammar.{conditional, disjunction, conjunction, negation, compared, arithmetic, minus, index, slice, number, quoted, truth, hole, set, operated, likened, call, items, parenthesized, higher, name as a_name}
 use Rattle.mpy_round_trip.specs.Parentheses.{IsParenthesized, ParenthesizedAboveItsLevel}
 
 below_next : (k : Level) → rank k ≤ rank (above k)

@@ -1,4 +1,4 @@
-use Rattle.std.proofs.Common.{FitsSigned, w32, w64, ◌+ℤ◌, ◌*ℤ◌, pos, ap, ◌∙◌, arith, rules}
+use Rattle.std.proofs.Common.{FitsSigned, w32, ◌+ℤ◌, ◌*ℤ◌, pos, arith, rules}
 use Rattle.std.proofs.lemmas.Int.{ints, to_z-of_z}
 use Rattle.mpy_tree.proofs.Progressions.{progression_more, step_more}
 use Rattle.mpy_interp.proofs.ranges.numbers_from.Goals as goal

@@ -1,4 +1,4 @@
-use Rattle.std.proofs.Common.{◌≡◌, ℤ, pos, ◌+ℤ◌, ◌*ℤ◌}
+use Rattle.std.proofs.Common.{◌≡◌, pos, ◌+ℤ◌, ◌*ℤ◌}
 use Rattle.mpy_tree.specs.Operations.{progression}
 use Rattle.mpy_interp.proofs.ranges.numbers_from.Given as goal
 
