@@ -1,0 +1,3 @@
+pub mod Ranges
+pub mod FittingLists
+pub mod Operators

@@ -1,0 +1,34 @@
+//! Typed programs never get stuck, and their values have the types of their slots and fit.
+ghost use Rattle.typed_programs.specs.TypedLaws.{TypedExpressions, TypedStatements, TypedBodies};
+ghost use Rattle.typed_programs.specs.TypedLaws.{TypedParameters, TypedCalls, TypedPrograms};
+
+/// A typed expression gives a value of its type that fits, or one of the ten faults.
+pub fn typed_expressions()
+    ensures { TypedExpressions }
+{}
+
+/// Typed statements keep the types of locals, and return values of the type of the result that fit.
+pub fn typed_statements()
+    ensures { TypedStatements }
+{}
+
+/// In a program that facts type each statement obeys its rule, and assigns values of its slot's type.
+pub fn typed_bodies()
+    ensures { TypedBodies }
+{}
+
+/// A function begins with values of its parameters' types.
+pub fn typed_parameters()
+    ensures { TypedParameters }
+{}
+
+/// The calls of a program that facts type give values of the types of the functions' results.
+pub fn typed_calls()
+    ensures { TypedCalls }
+{}
+
+/// A program that facts type gives a value of the type of the entry's result that fits, or one of the
+/// ten faults.
+pub fn typed_programs()
+    ensures { TypedPrograms }
+{}
