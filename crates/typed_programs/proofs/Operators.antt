@@ -1,8 +1,10 @@
 -- Operations on operands of the types that they take, which fit: never stuck, and what they give fits.
-use Rattle.std.proofs.Common.{◌≡◌, ℕ, zero, suc, Bool, true, false, not, ◌&&◌, List, [], ◌∷◌, ◌++◌, length, map, Option, Some, None, if◌then◌else◌, cond, IsTrue, ℤ, pos, negsuc, refl, sym, ap, ◌∙◌, subst, arith}
+use Rattle.std.proofs.Common.{◌≡◌, ℕ, zero, suc, ◌-◌, ◌^◌, Bool, true, false, not, ◌&&◌, List, [], ◌∷◌, ◌++◌, length, map, Option, Some, None, if◌then◌else◌, cond, IsTrue, ℤ, pos, negsuc, refl, sym, ap, ◌∙◌, subst, arith}
 use Rattle.std.specs.Prelude.{⊤, MatchResult, nat_le, slice_get, slice_set, nat_abs, int_lt}
 use Rattle.std.specs.Int.{int_min, int_max}
 use Rattle.std.specs.List.{list_all}
+use Rattle.std.proofs.lemmas.Bool.{lt-ltb}
+use Rattle.std.proofs.lemmas.Nat.{pow_pos}
 use Rattle.std.specs.declared.result.Result.{Result}
 use Rattle.std.specs.declared.result.Result.TheVariants.{Ok, Err}
 use Rattle.mpy_tree.specs.declared.limits.Limits.{Limits}
@@ -248,6 +250,9 @@ module _ (l : Limits) where
       guarded (is_zero c) (Fault fault.Step) ty.List (if nat_le n l.cap then Ok (value.List (progression a c n)) else Err (Fault fault.Length)) tt
       (λ k. either_yields (nat_le n l.cap) (value.List (progression a c n)) (Fault fault.Length) ty.List
       (λ e. and_both (nat_le (length (progression a c n)) l.cap) (list_all (fits l) (progression a c n)) (ap (λ m. nat_le m l.cap) (progression_length a c n) ∙ e) (numbers_fit l.width a b c (stepped c k) f g)) tt)
+
+  pub zero_fits : fits l (pos 0) ≡ true
+  zero_fits = lt-ltb 0 (2 ^ (l.width - 1)) (pow_pos (l.width - 1))
 
   -- lists that are changed in place
   replaced_yields : (zs : List ℤ) (z : ℤ) (o : Option ℕ) → Fits (value.List zs) → fits l z ≡ true → Yields ty.List (replaced zs (value.Int z) o)
