@@ -1,9 +1,9 @@
 -- Lists of values that are for slots, the builtins on them, and the ends of slices.
-use Rattle.std.proofs.Common.{◌≡◌, ℕ, zero, suc, Bool, true, false, ◌&&◌, ◌≤◌, List, [], ◌∷◌, length, Option, Some, None, if◌then◌else◌, ℤ, pos, refl, sym, ap, ◌∙◌, subst, arith}
+use Rattle.std.proofs.Common.{◌≡◌, suc, Bool, true, false, ◌&&◌, ◌≤◌, List, [], ◌∷◌, length, Option, Some, None, if◌then◌else◌, ℤ, pos, refl, sym, ap, ◌∙◌, subst, arith}
 use Rattle.std.specs.Prelude.{⊤, MatchOption, ◌==◌, nat_le}
 use Rattle.std.specs.List.{list_all}
 use Rattle.std.specs.declared.result.Result.{Result}
-use Rattle.std.specs.declared.result.Result.TheVariants.{Ok, Err}
+use Rattle.std.specs.declared.result.Result.TheVariants.{Ok}
 use Rattle.std.proofs.lemmas.Bool.{eqb-true, leb-true}
 use Rattle.mpy_tree.specs.declared.limits.Limits.{Limits}
 use Rattle.mpy_tree.specs.declared.value.Value.{Value}
@@ -18,9 +18,9 @@ use Rattle.mpy_tree.specs.Values.{◌>>=◌}
 use Rattle.mpy_tree.specs.Operations.{fits, list_within, length_of, slice}
 use Rattle.mpy_tree.specs.Expressions.{wholes, list_of, end_of, slice_of, range_of_numbers, builtin}
 use Rattle.mpy_tree.specs.SetTypes.{builtin_gives}
-use Rattle.mpy_tree.specs.Rules.{is_type, is_sequence, slice_type, all_numbers, all_sequences, are_operands, builtin_type, type_if}
-use Rattle.mpy_tree.specs.Fitting.{type_of, value_fits}
-use Rattle.typed_programs.specs.Keeping.{IsFault, IsOf, IsFor, AreFor}
+use Rattle.mpy_tree.specs.Rules.{is_type, is_sequence, slice_type, all_numbers, all_sequences, are_operands, builtin_type}
+use Rattle.mpy_tree.specs.Fitting.{type_of}
+use Rattle.typed_programs.specs.Keeping.{IsOf, IsFor, AreFor}
 use Rattle.typed_programs.proofs.FittingLists.{and_true, and_both}
 use Rattle.typed_programs.proofs.Operators.{Fits, Yields, same_is, has_type, number_yields, list_yields, absolute_yields, least_yields, greatest_yields, range_yields, slice_yields, zero_fits}
 

@@ -1,6 +1,6 @@
 -- Typed expressions give values of their type that fit, or a fault.
 use Rattle.std.proofs.Common.{◌≡◌, ℕ, Bool, true, false, not, ◌&&◌, List, [], ◌∷◌, map, Option, Some, None, if◌then◌else◌, pos, refl, sym, ap, ◌∙◌, subst}
-use Rattle.std.specs.Prelude.{is_some, ⊤, MatchOption, length}
+use Rattle.std.specs.Prelude.{is_some, length}
 use Rattle.std.specs.List.{list_all}
 use Rattle.std.specs.declared.result.Result.{Result}
 use Rattle.std.specs.declared.result.Result.TheVariants.{Ok, Err}
@@ -21,7 +21,7 @@ use Rattle.mpy_tree.specs.Values.{◌>>=◌, on_line, State, set_or_fault}
 use Rattle.mpy_tree.specs.Operations.{holds, number, text_within, negative, arith, compare, truth, index}
 use Rattle.mpy_tree.specs.Expressions.{Calls, value_of, values_of, maybe_value_of, both, either, list_of, slice_of, apply, builtin, called as called_by}
 use Rattle.mpy_tree.specs.SetTypes.{Callee, called, builtin_gives}
-use Rattle.mpy_tree.specs.Rules.{Slots, type_in, all_types, both_are, choice_type, negative_type, arith_type, compare_type, index_type, same_type, slice_type, is_type, all_numbers, all_sequences, is_sequence, end_types, type_if, are_operands, builtin_type, is_argument, are_arguments, callee_type, called_type, call_type, ◌>>=◌ as ◌>?◌}
+use Rattle.mpy_tree.specs.Rules.{Slots, type_in, all_types, both_are, choice_type, negative_type, arith_type, compare_type, index_type, same_type, slice_type, is_type, all_numbers, all_sequences, end_types, are_operands, is_argument, are_arguments, callee_type, called_type, call_type, ◌>>=◌ as ◌>?◌}
 use Rattle.mpy_tree.specs.Fitting.{type_of}
 use Rattle.typed_programs.specs.Keeping.{IsOf, IsFor, AreFor, Gives, AreArguments, KeepTypes, result_slot, Agrees}
 use Rattle.typed_programs.proofs.FittingLists.{and_true}

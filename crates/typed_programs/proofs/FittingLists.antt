@@ -62,4 +62,3 @@ cut_no_longer xs a b =
 
 pub changed_no_longer : {A : Type 0} (xs : List A) (n : ℕ) (a : A) → length (slice_set xs n a) ≤ length xs
 changed_no_longer xs n a = let e : length (slice_set xs n a) ≡ length xs = length-set xs n a in omega arith
-

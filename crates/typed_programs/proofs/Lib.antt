@@ -5,3 +5,5 @@ pub mod Arguments
 pub mod Expressions
 pub mod OneType
 pub mod Statements
+pub mod Linked
+pub mod Programs

@@ -1,5 +1,5 @@
 -- What flows from an expression that has a type is that type.
-use Rattle.std.proofs.Common.{◌≡◌, ℕ, Bool, true, false, ◌&&◌, List, [], ◌∷◌, Option, Some, None, if◌then◌else◌, IsTrue, refl, sym, ap, ◌∙◌, subst}
+use Rattle.std.proofs.Common.{◌≡◌, ℕ, Bool, true, false, ◌&&◌, List, Option, Some, None, if◌then◌else◌, IsTrue, refl, sym, ap, ◌∙◌, subst}
 use Rattle.std.specs.Prelude.{is_some, length}
 use Rattle.mpy_tree.specs.declared.operators.ArithOp.{ArithOp}
 use Rattle.mpy_tree.specs.declared.operators.ArithOp.TheVariants.{Add, Sub, Mul, Floor, Rem, Power}
@@ -12,8 +12,8 @@ use Rattle.mpy_tree.specs.Syntax.{Term, Terms, MaybeTerm, Routine}
 use Rattle.mpy_tree.specs.Syntax as ast
 use Rattle.mpy_tree.specs.Builtins.{builtin_of, takes}
 use Rattle.mpy_tree.specs.TypeSets.{has, just, join, members, only, only_of, IsWithin}
-use Rattle.mpy_tree.specs.SetTypes.{FactSet, types_in, arith_types, call_types, results, Callee, called, builtin_gives}
-use Rattle.mpy_tree.specs.Rules.{Slots, single, type_in, is_sequence, same_type, member_of, arith_type, sum_type, product_type, both_are, negative_type, compare_type, index_type, slice_type, choice_type, are_operands, callee_type, called_type, are_arguments, all_numbers, all_types, end_types, ◌>>=◌ as ◌>?◌}
+use Rattle.mpy_tree.specs.SetTypes.{FactSet, types_in, arith_types, call_types, Callee, called, builtin_gives}
+use Rattle.mpy_tree.specs.Rules.{single, type_in, same_type, member_of, arith_type, sum_type, product_type, both_are, negative_type, compare_type, index_type, slice_type, choice_type, are_operands, called_type, are_arguments, all_numbers, all_types, end_types, ◌>>=◌ as ◌>?◌}
 use Rattle.mpy_type_laws.proofs.Every.{join_same}
 use Rattle.typed_programs.proofs.Operators.{truth_is}
 use Rattle.typed_programs.proofs.Arguments.{if_given}

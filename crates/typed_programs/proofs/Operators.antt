@@ -1,7 +1,6 @@
 -- Operations on operands of the types that they take, which fit: never stuck, and what they give fits.
-use Rattle.std.proofs.Common.{◌≡◌, ℕ, zero, suc, ◌-◌, ◌^◌, Bool, true, false, not, ◌&&◌, List, [], ◌∷◌, ◌++◌, length, map, Option, Some, None, if◌then◌else◌, cond, IsTrue, ℤ, pos, negsuc, refl, sym, ap, ◌∙◌, subst, arith}
+use Rattle.std.proofs.Common.{◌≡◌, ℕ, zero, suc, ◌-◌, ◌^◌, Bool, true, false, List, [], ◌∷◌, ◌++◌, length, Option, Some, None, if◌then◌else◌, cond, ℤ, pos, negsuc, refl, sym, ap, ◌∙◌, subst, arith}
 use Rattle.std.specs.Prelude.{⊤, MatchResult, nat_le, slice_get, slice_set, nat_abs, int_lt}
-use Rattle.std.specs.Int.{int_min, int_max}
 use Rattle.std.specs.List.{list_all}
 use Rattle.std.proofs.lemmas.Bool.{lt-ltb}
 use Rattle.std.proofs.lemmas.Nat.{pow_pos}
@@ -20,9 +19,9 @@ use Rattle.mpy_tree.specs.declared.outcome.Halt.TheVariants.{Fault}
 use Rattle.mpy_tree.specs.declared.typing.Ty.{Ty}
 use Rattle.mpy_tree.specs.declared.typing.Ty.TheVariants as ty
 use Rattle.mpy_tree.specs.Values.{◌>>=◌}
-use Rattle.mpy_tree.specs.Operations.{number, fits, list_within, text_within, is_zero, quotient, remainder, power, copies, copy_count, repeated, sum, product, on_numbers, arith as operated, negative, absolute, compare, equal, ordered, member, opposite, truth, index, element, element_or_fault, index_in, range, range_count, progression, replaced, put, append, least, greatest, length_of, cut, slice}
+use Rattle.mpy_tree.specs.Operations.{number, fits, list_within, text_within, is_zero, quotient, remainder, power, copy_count, sum, product, on_numbers, arith as operated, negative, absolute, compare, equal, ordered, member, opposite, truth, index, element, element_or_fault, index_in, range, range_count, progression, replaced, put, append, least, greatest, cut, slice}
 use Rattle.mpy_tree.specs.Rules.{same_type, sum_type, product_type, arith_type, both_are, negative_type, compare_type, equal_type, order_type, member_type, index_type, member_of, slice_type}
-use Rattle.mpy_tree.specs.Fitting.{type_of, value_fits, fits_as}
+use Rattle.mpy_tree.specs.Fitting.{type_of, value_fits}
 use Rattle.typed_programs.specs.Keeping.{IsFault, IsOf}
 use Rattle.typed_programs.proofs.FittingLists.{and_true, and_both, joined_pass, copies_pass, changed_pass, cut_passes, no_longer, cut_no_longer, changed_no_longer}
 use Rattle.typed_programs.proofs.Ranges.{numbers_fit, progression_length}
