@@ -20,7 +20,7 @@ use Rattle.mpy_tree.specs.Expressions.{wholes, list_of, end_of, slice_of, range_
 use Rattle.mpy_tree.specs.SetTypes.{builtin_gives}
 use Rattle.mpy_tree.specs.Rules.{is_type, is_sequence, slice_type, all_numbers, all_sequences, are_operands, builtin_type}
 use Rattle.mpy_tree.specs.Fitting.{type_of}
-use Rattle.typed_programs.specs.Keeping.{IsOf, IsFor, AreFor}
+use Rattle.typed_programs.specs.Keeping.{IsOf, is_for, are_for, IsFor, AreFor}
 use Rattle.typed_programs.proofs.FittingLists.{and_true, and_both}
 use Rattle.typed_programs.proofs.Operators.{Fits, Yields, same_is, has_type, number_yields, list_yields, absolute_yields, least_yields, greatest_yields, range_yields, slice_yields, zero_fits}
 
@@ -44,12 +44,13 @@ module _ (l : Limits) where
 
   pub numbers_of : (os : List (Option Ty)) (vs : List Value) → AreFor l os vs → all_numbers os ≡ true → Numbers vs × (length vs ≡ length os)
   numbers_of [] [] h e = (tt, refl)
-  numbers_of [] (v ∷ vs) h e = absurd h
-  numbers_of (o ∷ os) [] h e = absurd h
+  numbers_of [] (v ∷ vs) h e = absurd (cc)
+  numbers_of (o ∷ os) [] h e = absurd (cc)
   numbers_of (o ∷ os) (v ∷ vs) h e =
       let k = and_true (is_type ty.Int o) (all_numbers os) e in
-      let rest = numbers_of os vs h.1 k.1 in
-      ((for_type o v ty.Int (is_type_some ty.Int o k.0) h.0, rest.0), ap suc rest.1)
+      let m = and_true (is_for l o v) (are_for l os vs) h in
+      let rest = numbers_of os vs m.1 k.1 in
+      ((for_type o v ty.Int (is_type_some ty.Int o k.0) m.0, rest.0), ap suc rest.1)
 
   pub whole_numbers : (vs : List Value) → Numbers vs → (zs : List ℤ) × (wholes vs ≡ Ok zs) × (length zs ≡ length vs) × (list_all (fits l) zs ≡ true)
   whole_numbers [] h = ([], refl, refl, refl)
@@ -73,14 +74,14 @@ module _ (l : Limits) where
   length_yields (value.Bool b) e = absurd (cc)
 
   length_for : (o : Option Ty) (v : Value) → IsFor l o v → is_sequence o ≡ true → Yields l ty.Int (length_of l v)
-  length_for None v h e = absurd h
+  length_for None v h e = absurd (cc)
   length_for (Some t) v h e = length_yields v (ap (λ u. is_sequence (Some u)) (has_type l t v h) ∙ e)
 
   len_yields : (os : List (Option Ty)) (vs : List Value) → AreFor l os vs → (length os == 1) ≡ true → all_sequences os ≡ true → Yields l ty.Int (builtin l Len vs)
   len_yields [] vs h e k = absurd (cc)
-  len_yields (o ∷ []) [] h e k = absurd h
-  len_yields (o ∷ []) (v ∷ []) h e k = length_for o v h.0 (and_true (is_sequence o) true k).0
-  len_yields (o ∷ []) (v ∷ w ∷ vs) h e k = absurd h.1
+  len_yields (o ∷ []) [] h e k = absurd (cc)
+  len_yields (o ∷ []) (v ∷ []) h e k = length_for o v (and_true (is_for l o v) true h).0 (and_true (is_sequence o) true k).0
+  len_yields (o ∷ []) (v ∷ w ∷ vs) h e k = let m : false ≡ true = (and_true (is_for l o v) false h).1 in absurd (cc)
   len_yields (o ∷ q ∷ os) vs h e k = let n : length (o ∷ q ∷ os) ≡ 1 = eqb-true (length (o ∷ q ∷ os)) 1 e in absurd (omega arith)
 
   abs_yields : (vs : List Value) → Numbers vs → length vs ≡ 1 → Yields l ty.Int (builtin l Abs vs)

@@ -1,5 +1,5 @@
 -- Typed expressions give values of their type that fit, or a fault.
-use Rattle.std.proofs.Common.{◌≡◌, ℕ, Bool, true, false, not, ◌&&◌, List, [], ◌∷◌, map, Option, Some, None, if◌then◌else◌, pos, refl, sym, ap, ◌∙◌, subst}
+use Rattle.std.proofs.Common.{◌≡◌, ℕ, Bool, true, false, not, ◌&&◌, List, [], ◌∷◌, map, Option, Some, None, if◌then◌else◌, IsTrue, pos, refl, sym, ap, ◌∙◌, subst}
 use Rattle.std.specs.Prelude.{is_some, length}
 use Rattle.std.specs.List.{list_all}
 use Rattle.std.specs.declared.result.Result.{Result}
@@ -23,8 +23,8 @@ use Rattle.mpy_tree.specs.Expressions.{Calls, value_of, values_of, maybe_value_o
 use Rattle.mpy_tree.specs.SetTypes.{Callee, called, builtin_gives}
 use Rattle.mpy_tree.specs.Rules.{Slots, type_in, all_types, both_are, choice_type, negative_type, arith_type, compare_type, index_type, same_type, slice_type, is_type, all_numbers, all_sequences, end_types, are_operands, is_argument, are_arguments, callee_type, called_type, call_type, ◌>>=◌ as ◌>?◌}
 use Rattle.mpy_tree.specs.Fitting.{type_of}
-use Rattle.typed_programs.specs.Keeping.{IsOf, IsFor, AreFor, Gives, AreArguments, KeepTypes, result_slot, Agrees}
-use Rattle.typed_programs.proofs.FittingLists.{and_true}
+use Rattle.typed_programs.specs.Keeping.{IsOf, IsFor, is_for, are_for, AreFor, Gives, takes_call, KeepTypes, result_slot, Agrees}
+use Rattle.typed_programs.proofs.FittingLists.{and_true, and_both}
 use Rattle.typed_programs.proofs.Operators.{Fits, Yields, same_is, has_type, that_fits, some_is, number_yields, text_yields, negative_yields, arith_yields, compare_yields, index_yields}
 use Rattle.typed_programs.proofs.Arguments.{if_given, is_type_some, for_type, numbers_of, list_of_yields, builtin_yields, IsEnd, slice_of_yields}
 
@@ -150,7 +150,7 @@ module _ (l : Limits) (line : ℕ) where
   one_more None os r z h k e = absurd (cc)
   one_more (Some a) os (Err x) z h k e = h a refl
   one_more (Some a) os (Ok v) (Err x) h k e = k e
-  one_more (Some a) os (Ok v) (Ok vs) h k e = (h a refl, k e)
+  one_more (Some a) os (Ok v) (Ok vs) h k e = and_both (is_for l (Some a) v) (are_for l os vs) (h a refl) (k e)
 
   -- an operation on what was computed
   pub after : {A B : Type 0} (P : A → Type 0) (Q : B → Type 0) (r : Result A Halted) (g : A → Result B Halted) → Gives P r → ((a : A) → P a → Gives Q (g a)) → Gives Q (r >>= g)
@@ -184,12 +184,13 @@ module _ (l : Limits) (S : Slots) where
   arguments_for j [] [] vs h e = h
   arguments_for j [] (o ∷ os) vs h e = absurd (cc)
   arguments_for j (x ∷ xs) [] vs h e = absurd (cc)
-  arguments_for j (x ∷ xs) (o ∷ os) [] h e = absurd h
+  arguments_for j (x ∷ xs) (o ∷ os) [] h e = absurd (cc)
   arguments_for j (x ∷ xs) (o ∷ os) (v ∷ vs) h e =
       let k = and_true (is_argument (S j (slot.Local x)) o) (are_arguments S j xs os) e in
-      (argument_for (S j (slot.Local x)) o v h.0 k.0, arguments_for j xs os vs h.1 k.1)
+      let m = and_true (is_for l o v) (are_for l os vs) h in
+      and_both (is_for l (S j (slot.Local x)) v) (are_for l (map (λ z. S j (slot.Local z)) xs) vs) (argument_for (S j (slot.Local x)) o v m.0 k.0) (arguments_for j xs os vs m.1 k.1)
 
-  callee_for : (g : Option Callee) (os : List (Option Ty)) (vs : List Value) (t : Ty) → AreFor l os vs → callee_type S g os ≡ Some t → AreArguments S l g vs × (result_slot S g ≡ Some t)
+  callee_for : (g : Option Callee) (os : List (Option Ty)) (vs : List Value) (t : Ty) → AreFor l os vs → callee_type S g os ≡ Some t → IsTrue (takes_call S l g vs) × (result_slot S g ≡ Some t)
   callee_for None os vs t h e = absurd (cc)
   callee_for (Some g) os vs t h e =
       let k = if_some (are_arguments S g.number g.routine.params os) (S g.number slot.Result) t e in
@@ -245,7 +246,7 @@ module _ (l : Limits) (S : Slots) where
             (λ vs h. call_gives (builtin_of f) f os vs t h k)
 
         all_give : (es : Terms) → list_all is_some (all_types S p i es) ≡ true → Gives (AreFor l (all_types S p i es)) (values_of l calls s line es)
-        all_give no_terms e = tt
+        all_give no_terms e = refl
         all_give (term_and b es) e = one_more l line (type b) (all_types S p i es) (given b) (values_of l calls s line es) (gives b) (all_give es) e
 
         end_gives : (m : MaybeTerm) → all_numbers (end_types S p i m) ≡ true → Gives (IsEnd l) (maybe_value_of l calls s line m)

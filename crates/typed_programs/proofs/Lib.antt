@@ -7,3 +7,6 @@ pub mod OneType
 pub mod Statements
 pub mod Linked
 pub mod Programs
+pub mod Refining
+pub mod CheckedCalls
+pub mod TypingFacts

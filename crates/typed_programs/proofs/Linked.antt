@@ -1,5 +1,5 @@
 -- In a program that facts type each statement is typed, and the entry's arguments are for its parameters.
-use Rattle.std.proofs.Common.{◌≡◌, ℕ, zero, suc, ◌+◌, Bool, true, false, not, ◌||◌, List, [], ◌∷◌, ◌++◌, length, map, Option, Some, None, if◌then◌else◌, refl, subst, arith}
+use Rattle.std.proofs.Common.{◌≡◌, ℕ, zero, suc, ◌+◌, Bool, true, false, not, ◌||◌, List, [], ◌∷◌, ◌++◌, length, map, Option, Some, None, if◌then◌else◌, IsTrue, refl, subst, arith}
 use Rattle.std.specs.Prelude.{⊤, is_some, slice_get, ◌==◌}
 use Rattle.std.specs.List.{All, flat_map}
 use Rattle.std.proofs.lemmas.Bool.{eqb-true}
@@ -27,8 +27,8 @@ use Rattle.mpy_tree.specs.Fitting.{fits_as, all_fit_as}
 use Rattle.mpy_types.proofs.Raising.{at_place}
 use Rattle.mpy_type_laws.proofs.Every.{Every, every_of}
 use Rattle.mpy_type_laws.proofs.Targets.{stands_among, Lands, flows_land}
-use Rattle.typed_programs.specs.Keeping.{AreFor, AreArguments, Settles, IsTyped}
-use Rattle.typed_programs.proofs.FittingLists.{and_true}
+use Rattle.typed_programs.specs.Keeping.{is_for, are_for, AreFor, takes_call, Settles, IsTyped}
+use Rattle.typed_programs.proofs.FittingLists.{and_true, and_both}
 use Rattle.typed_programs.proofs.OneType.{settled}
 use Rattle.typed_programs.proofs.Statements.{IsFine, for_slot, every_left, every_right}
 
@@ -140,24 +140,25 @@ module _ (F : FactSet) where
     module _ (l : Limits) where
       -- the entry's arguments are for its parameters
       given_for : (j : ℕ) (xs : List (List ℕ)) (ts : List Ty) (vs : List Value) → Every (Settles F p) (given_flows j xs ts) → length xs ≡ length ts → all_fit_as l ts vs ≡ true → AreFor l (map (λ x. single F j (slot.Local x)) xs) vs
-      given_for j [] [] [] h e f = tt
+      given_for j [] [] [] h e f = refl
       given_for j [] [] (v ∷ vs) h e f = absurd (cc)
       given_for j [] (t ∷ ts) vs h e f = absurd (omega arith)
       given_for j (x ∷ xs) [] vs h e f = absurd (omega arith)
       given_for j (x ∷ xs) (t ∷ ts) [] h e f = absurd (cc)
       given_for j (x ∷ xs) (t ∷ ts) (v ∷ vs) h e f =
           let k = and_true (fits_as l t v) (all_fit_as l ts vs) f in
-          (for_slot l (single F j (slot.Local x)) v t (settled (just t) (F j (slot.Local x)) t refl h.0.0 h.0.1) k.0, given_for j xs ts vs h.1 (omega arith) k.1)
+          and_both (is_for l (single F j (slot.Local x)) v) (are_for l (map (λ z. single F j (slot.Local z)) xs) vs)
+          (for_slot l (single F j (slot.Local x)) v t (settled (just t) (F j (slot.Local x)) t refl h.0.0 h.0.1) k.0) (given_for j xs ts vs h.1 (omega arith) k.1)
 
       same_count : (b : Bool) (e : TypeError) → (if b then None else Some e) ≡ None → b ≡ true
       same_count true e h = refl
       same_count false e h = absurd (cc)
 
-      entry_at : (b : Bool) (r : Routine) (n : ℕ) (o : Option Callee) (q : Option Routine) (ts : List Ty) (vs : List Value) → all_fit_as l ts vs ≡ true → (entry_fault q (length ts) ≡ None → Every (Settles F p) (entry_flows o ts) → AreArguments (single F) l o vs) → entry_fault (if b then Some r else q) (length ts) ≡ None → Every (Settles F p) (entry_flows (if b then Some (callee n r) else o) ts) → AreArguments (single F) l (if b then Some (callee n r) else o) vs
+      entry_at : (b : Bool) (r : Routine) (n : ℕ) (o : Option Callee) (q : Option Routine) (ts : List Ty) (vs : List Value) → all_fit_as l ts vs ≡ true → (entry_fault q (length ts) ≡ None → Every (Settles F p) (entry_flows o ts) → IsTrue (takes_call (single F) l o vs)) → entry_fault (if b then Some r else q) (length ts) ≡ None → Every (Settles F p) (entry_flows (if b then Some (callee n r) else o) ts) → IsTrue (takes_call (single F) l (if b then Some (callee n r) else o) vs)
       entry_at true r n o q ts vs f k e h = given_for n r.params ts vs h (eqb-true (length r.params) (length ts) (same_count (length r.params == length ts) _ e)) f
       entry_at false r n o q ts vs f k e h = k e h
 
-      entry_from : (rs : List Routine) (n : ℕ) (entry : List ℕ) (ts : List Ty) (vs : List Value) → all_fit_as l ts vs ≡ true → entry_fault (found rs entry) (length ts) ≡ None → Every (Settles F p) (entry_flows (called_from rs entry n) ts) → AreArguments (single F) l (called_from rs entry n) vs
+      entry_from : (rs : List Routine) (n : ℕ) (entry : List ℕ) (ts : List Ty) (vs : List Value) → all_fit_as l ts vs ≡ true → entry_fault (found rs entry) (length ts) ≡ None → Every (Settles F p) (entry_flows (called_from rs entry n) ts) → IsTrue (takes_call (single F) l (called_from rs entry n) vs)
       entry_from [] n entry ts vs f e h = absurd (cc)
       entry_from (r ∷ rs) n entry ts vs f e h = entry_at (same_bytes entry r.name) r n (called_from rs entry (n + 1)) (found rs entry) ts vs f (entry_from rs (n + 1) entry ts vs f) e h
 
@@ -181,7 +182,7 @@ module _ (T : List Fact) (p : List Routine) (entry : List ℕ) (ts : List Ty) (h
       fine_from F p 0 p (no_least (broken_from (single F) p 0 p) (no_fault (least (broken_from (single F) p 0 p)) n.1))
       (every_right (Settles F p) (entry_flows (called p entry) ts) (flows_from p 0 p) all_settled)
 
-  pub entry_for : (l : Limits) (vs : List Value) → all_fit_as l ts vs ≡ true → AreArguments (single F) l (called p entry) vs
+  pub entry_for : (l : Limits) (vs : List Value) → all_fit_as l ts vs ≡ true → IsTrue (takes_call (single F) l (called p entry) vs)
   entry_for l vs f =
       let k = none_both (names_fault p) (or_fault (entry_fault (found p entry) (length ts)) (or_fault (slots_fault F (slots p)) (nodes_fault (single F) p))) h.faultless in
       let m = none_both (entry_fault (found p entry) (length ts)) (or_fault (slots_fault F (slots p)) (nodes_fault (single F) p)) k.1 in

@@ -1,6 +1,6 @@
 -- Values for slots, states and calls that keep the types of slots, and how typed statements end.
-use Rattle.std.specs.Prelude.{◌≡◌, ⊤, ℕ, List, [], ◌∷◌, map, Option, Some, None, IsTrue}
-use Rattle.std.specs.Prelude.{is_some, MatchResult}
+use Rattle.std.specs.Prelude.{◌≡◌, ⊤, ℕ, Bool, true, false, ◌&&◌, List, [], ◌∷◌, map, Option, Some}
+use Rattle.std.specs.Prelude.{None, IsTrue, is_some, MatchResult}
 use Rattle.std.specs.List.{All}
 use Rattle.std.specs.declared.result.Result.{Result}
 use Rattle.mpy_tree.specs.declared.limits.Limits.{Limits}
@@ -29,16 +29,22 @@ IsFault Stuck = ⊥
 abbrev pub IsOf : Limits → Ty → Value → Type 0
 IsOf l t v = IsTrue (fits_as l t v)
 
--- a value for a slot: the slot has a type, of which it is a value that fits
-abbrev pub IsFor : Limits → Option Ty → Value → Type 0
-IsFor l None v = ⊥
-IsFor l (Some t) v = IsOf l t v
+-- whether a value is for a slot: the slot has a type, of which it is a value that fits
+abbrev pub is_for : Limits → Option Ty → Value → Bool
+is_for l None v = false
+is_for l (Some t) v = fits_as l t v
 
--- values for slots, one for each
+-- the same of values and slots, one for each
+abbrev pub are_for : Limits → List (Option Ty) → List Value → Bool
+are_for l [] [] = true
+are_for l (o ∷ os) (v ∷ vs) = is_for l o v && are_for l os vs
+are_for l _ _ = false
+
+abbrev pub IsFor : Limits → Option Ty → Value → Type 0
+IsFor l o v = IsTrue (is_for l o v)
+
 abbrev pub AreFor : Limits → List (Option Ty) → List Value → Type 0
-AreFor l [] [] = ⊤
-AreFor l (o ∷ os) (v ∷ vs) = IsFor l o v × AreFor l os vs
-AreFor l _ _ = ⊥
+AreFor l os vs = IsTrue (are_for l os vs)
 
 -- a result with the property, or one of the ten faults, but never stuck
 abbrev pub Gives : {A : Type 0} → (A → Type 0) → Result A Halted → Type 0
@@ -53,16 +59,16 @@ module _ (S : Slots) where
   result_slot None = None
   result_slot (Some g) = S g.number Given
 
-  -- there is a function, and the arguments are for its parameters
-  abbrev pub AreArguments : Limits → Option Callee → List Value → Type 0
-  AreArguments l None vs = ⊥
-  AreArguments l (Some g) vs = AreFor l (param_slots g) vs
+  -- whether there is a function, and the arguments are for its parameters
+  abbrev pub takes_call : Limits → Option Callee → List Value → Bool
+  takes_call l None vs = false
+  takes_call l (Some g) vs = are_for l (param_slots g) vs
 
   -- a call of a function with arguments for its parameters gives a value for its result
   abbrev pub KeepTypes : Limits → List Routine → Calls → Type 0
   KeepTypes l p calls =
       (f : List ℕ) (vs : List Value) (line : ℕ)
-      → AreArguments l (called p f) vs → Gives (IsFor l (result_slot (called p f))) (calls f vs line)
+      → IsTrue (takes_call l (called p f) vs) → Gives (IsFor l (result_slot (called p f))) (calls f vs line)
 
 -- each local of the function i that is set has a value for its slot
 abbrev pub Agrees : Limits → Slots → ℕ → State → Type 0

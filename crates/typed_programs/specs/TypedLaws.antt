@@ -13,8 +13,9 @@ use Rattle.mpy_tree.specs.Running.{bound, calls_below, evaluated}
 use Rattle.mpy_tree.specs.SetTypes.{FactSet, Callee, called}
 use Rattle.mpy_tree.specs.Sites.{sites}
 use Rattle.mpy_tree.specs.Rules.{Slots, single, type_in}
-use Rattle.mpy_tree.specs.Typings.{AreTypes, set_of}
+use Rattle.mpy_tree.specs.Typings.{AreTypes, IsTyping, set_of}
 use Rattle.mpy_tree.specs.Fitting.{all_fit_as}
+use Rattle.typed_programs.specs.CheckedRuns.{checked_run}
 use Rattle.typed_programs.specs.Keeping.{IsOf, IsFor, AreFor, Gives, KeepTypes, Agrees, EndsWell}
 use Rattle.typed_programs.specs.Keeping.{IsTyped, param_slots, result_slot}
 
@@ -60,3 +61,16 @@ TypedPrograms =
     (l : Limits) (T : List Fact) (p : List Routine) (entry : List ℕ) (ts : List Ty) (vs : List Value)
     → AreTypes T p entry ts → all_fit_as l ts vs ≡ true
     → Gives (IsFor l (result_slot (single (set_of T)) (called p entry))) (evaluated l p entry vs)
+
+-- The same run where each call is stuck unless its arguments have the types of the parameters and fit.
+abbrev pub TypedArguments : Type 0
+TypedArguments =
+    (l : Limits) (T : List Fact) (p : List Routine) (entry : List ℕ) (ts : List Ty) (vs : List Value)
+    → AreTypes T p entry ts → all_fit_as l ts vs ≡ true
+    → checked_run l (single (set_of T)) p entry vs ≡ evaluated l p entry vs
+
+-- the facts of a typing type the program
+abbrev pub TypingsAreTypes : Type 0
+TypingsAreTypes =
+    (T : List Fact) (p : List Routine) (entry : List ℕ) (ts : List Ty)
+    → IsTyping T p entry ts → AreTypes T p entry ts

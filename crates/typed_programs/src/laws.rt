@@ -1,6 +1,7 @@
 //! Typed programs never get stuck, and their values have the types of their slots and fit.
 ghost use Rattle.typed_programs.specs.TypedLaws.{TypedExpressions, TypedStatements, TypedBodies};
 ghost use Rattle.typed_programs.specs.TypedLaws.{TypedParameters, TypedCalls, TypedPrograms};
+ghost use Rattle.typed_programs.specs.TypedLaws.{TypedArguments, TypingsAreTypes};
 
 /// A typed expression gives a value of its type that fits, or one of the ten faults.
 pub fn typed_expressions()
@@ -31,4 +32,15 @@ pub fn typed_calls()
 /// ten faults.
 pub fn typed_programs()
     ensures { TypedPrograms }
+{}
+
+/// Each call of a run of such a program has arguments of the parameters' types that fit: the run is the
+/// same where each call checks them.
+pub fn typed_arguments()
+    ensures { TypedArguments }
+{}
+
+/// The facts of a program's typing type the program, so the laws speak of each program that has one.
+pub fn typings_are_types()
+    ensures { TypingsAreTypes }
 {}
