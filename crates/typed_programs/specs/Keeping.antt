@@ -68,13 +68,15 @@ module _ (S : Slots) where
   abbrev pub KeepTypes : Limits → List Routine → Calls → Type 0
   KeepTypes l p calls =
       (f : List ℕ) (vs : List Value) (line : ℕ)
-      → IsTrue (takes_call l (called p f) vs) → Gives (IsFor l (result_slot (called p f))) (calls f vs line)
+      → IsTrue (takes_call l (called p f) vs)
+      → Gives (IsFor l (result_slot (called p f))) (calls f vs line)
 
 -- each local of the function i that is set has a value for its slot
 abbrev pub Agrees : Limits → Slots → ℕ → State → Type 0
 Agrees l S i s = (x : List ℕ) (v : Value) → s x ≡ Some v → IsFor l (S i (Local x)) v
 
--- statements of the function i end in a state that agrees, with a value for the result, or by a fault
+-- statements of the function i end in a state that agrees, with a value for the result, or by a
+-- fault
 abbrev pub EndsWell : Limits → Slots → ℕ → Ran → Type 0
 EndsWell l S i (Next s) = Agrees l S i s
 EndsWell l S i (Broke s) = Agrees l S i s
@@ -86,7 +88,7 @@ EndsWell l S i (Failed h) = IsFault h.halt
 abbrev pub Settles : FactSet → List Routine → Flow → Type 0
 Settles F p f = Keeps F p f × IsTrue (is_some (single F f.func f.slot))
 
--- A statement of the function i, without those inside of it, or a test: it obeys its rule, and what it
--- assigns or returns has the type of its slot.
+-- A statement of the function i, without those inside of it, or a test: it obeys its rule, and what
+-- it assigns or returns has the type of its slot.
 abbrev pub IsTyped : FactSet → List Routine → ℕ → Site → Type 0
 IsTyped F p i s = IsTrue (site_obeys (single F) p i s) × All (Settles F p) (site_flows i s)

@@ -1,4 +1,4 @@
--- Typed programs never get stuck, and their values have the types of their slots and fit the limits.
+-- Typed programs never get stuck, and their values have the types of their slots and fit.
 use Rattle.std.specs.Prelude.{◌≡◌, ℕ, List, true, Some, slice_get}
 use Rattle.std.specs.List.{All}
 use Rattle.mpy_tree.specs.declared.limits.Limits.{Limits}
@@ -51,21 +51,25 @@ TypedParameters =
 -- the calls of a program that facts type keep the types, at each depth
 abbrev pub TypedCalls : Type 0
 TypedCalls =
-    (l : Limits) (T : List Fact) (p : List Routine) (entry : List ℕ) (ts : List Ty) (depth : ℕ)
+    (l : Limits) (T : List Fact) (p : List Routine) (entry : List ℕ) (ts : List Ty)
+    (depth : ℕ)
     → AreTypes T p entry ts → KeepTypes (single (set_of T)) l p (calls_below l p depth)
 
--- A program that facts type, on arguments of the entry's types that fit, gives a value of the type of
--- the entry's result that fits, or a fault.
+-- A program that facts type, on arguments of the entry's types that fit, gives a value of the type
+-- of the entry's result that fits, or a fault.
 abbrev pub TypedPrograms : Type 0
 TypedPrograms =
-    (l : Limits) (T : List Fact) (p : List Routine) (entry : List ℕ) (ts : List Ty) (vs : List Value)
+    (l : Limits) (T : List Fact) (p : List Routine) (entry : List ℕ) (ts : List Ty)
+    (vs : List Value)
     → AreTypes T p entry ts → all_fit_as l ts vs ≡ true
     → Gives (IsFor l (result_slot (single (set_of T)) (called p entry))) (evaluated l p entry vs)
 
--- The same run where each call is stuck unless its arguments have the types of the parameters and fit.
+-- The run is the same where each call is stuck unless its arguments have the types of the
+-- parameters and fit.
 abbrev pub TypedArguments : Type 0
 TypedArguments =
-    (l : Limits) (T : List Fact) (p : List Routine) (entry : List ℕ) (ts : List Ty) (vs : List Value)
+    (l : Limits) (T : List Fact) (p : List Routine) (entry : List ℕ) (ts : List Ty)
+    (vs : List Value)
     → AreTypes T p entry ts → all_fit_as l ts vs ≡ true
     → checked_run l (single (set_of T)) p entry vs ≡ evaluated l p entry vs
 

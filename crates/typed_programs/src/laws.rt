@@ -8,12 +8,12 @@ pub fn typed_expressions()
     ensures { TypedExpressions }
 {}
 
-/// Typed statements keep the types of locals, and return values of the type of the result that fit.
+/// Typed statements keep the types of locals, and return values of the result's type that fit.
 pub fn typed_statements()
     ensures { TypedStatements }
 {}
 
-/// In a program that facts type each statement obeys its rule, and assigns values of its slot's type.
+/// In a program that facts type each statement is typed.
 pub fn typed_bodies()
     ensures { TypedBodies }
 {}
@@ -23,24 +23,24 @@ pub fn typed_parameters()
     ensures { TypedParameters }
 {}
 
-/// The calls of a program that facts type give values of the types of the functions' results.
+/// The calls of such a program give values of the types of the functions' results that fit.
 pub fn typed_calls()
     ensures { TypedCalls }
 {}
 
-/// A program that facts type gives a value of the type of the entry's result that fits, or one of the
-/// ten faults.
+/// A program that facts type gives a value of the type of the entry's result that fits, or one of
+/// the ten faults.
 pub fn typed_programs()
     ensures { TypedPrograms }
 {}
 
-/// Each call of a run of such a program has arguments of the parameters' types that fit: the run is the
-/// same where each call checks them.
+/// Each call of a run of such a program has arguments of the parameters' types that fit: the run is
+/// the same where each call checks them.
 pub fn typed_arguments()
     ensures { TypedArguments }
 {}
 
-/// The facts of a program's typing type the program, so the laws speak of each program that has one.
+/// The facts of a program's typing type it, so the laws speak of each program that has one.
 pub fn typings_are_types()
     ensures { TypingsAreTypes }
 {}
