@@ -10,7 +10,7 @@ use Rattle.mpy_tree.specs.Values.{State}
 use Rattle.mpy_tree.specs.Expressions.{Calls, value_of}
 use Rattle.mpy_tree.specs.Statements.{run_block}
 use Rattle.mpy_tree.specs.Running.{bound, calls_below, evaluated}
-use Rattle.mpy_tree.specs.SetTypes.{FactSet, Callee, called}
+use Rattle.mpy_tree.specs.SetTypes.{FactSet, Callee, callee, called}
 use Rattle.mpy_tree.specs.Sites.{sites}
 use Rattle.mpy_tree.specs.Rules.{Slots, single, type_in}
 use Rattle.mpy_tree.specs.Typings.{AreTypes, IsTyping, set_of}
@@ -54,6 +54,17 @@ TypedCalls =
     (l : Limits) (T : List Fact) (p : List Routine) (entry : List ℕ) (ts : List Ty)
     (depth : ℕ)
     → AreTypes T p entry ts → KeepTypes (single (set_of T)) l p (calls_below l p depth)
+
+-- A function of such a program, entered with arguments for its parameters, keeps the types of its
+-- locals, and returns a value for its result.
+abbrev pub TypedFunctions : Type 0
+TypedFunctions =
+    (l : Limits) (T : List Fact) (p : List Routine) (entry : List ℕ) (ts : List Ty) (i : ℕ)
+    (r : Routine) (vs : List Value) (depth : ℕ)
+    → AreTypes T p entry ts → slice_get p i ≡ Some r
+    → AreFor l (param_slots (single (set_of T)) (callee i r)) vs
+    → EndsWell l (single (set_of T)) i
+    (run_block l (calls_below l p depth) r.body (bound r.params vs))
 
 -- A program that facts type, on arguments of the entry's types that fit, gives a value of the type
 -- of the entry's result that fits, or a fault.

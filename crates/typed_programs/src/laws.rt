@@ -1,7 +1,7 @@
 //! Typed programs never get stuck, and their values have the types of their slots and fit.
 ghost use Rattle.typed_programs.specs.TypedLaws.{TypedExpressions, TypedStatements, TypedBodies};
 ghost use Rattle.typed_programs.specs.TypedLaws.{TypedParameters, TypedCalls, TypedPrograms};
-ghost use Rattle.typed_programs.specs.TypedLaws.{TypedArguments, TypingsAreTypes};
+ghost use Rattle.typed_programs.specs.TypedLaws.{TypedFunctions, TypedArguments, TypingsAreTypes};
 
 /// A typed expression gives a value of its type that fits, or one of the ten faults.
 pub fn typed_expressions()
@@ -26,6 +26,12 @@ pub fn typed_parameters()
 /// The calls of such a program give values of the types of the functions' results that fit.
 pub fn typed_calls()
     ensures { TypedCalls }
+{}
+
+/// A function of such a program, entered with arguments for its parameters, keeps the types of its
+/// locals, and returns a value of its result's type that fits, or ends by one of the ten faults.
+pub fn typed_functions()
+    ensures { TypedFunctions }
 {}
 
 /// A program that facts type gives a value of the type of the entry's result that fits, or one of

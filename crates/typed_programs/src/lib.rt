@@ -4,6 +4,6 @@
 mod laws;
 
 pub use laws::{
-    typed_arguments, typed_bodies, typed_calls, typed_expressions, typed_parameters,
-    typed_programs, typed_statements, typings_are_types,
+    typed_arguments, typed_bodies, typed_calls, typed_expressions, typed_functions,
+    typed_parameters, typed_programs, typed_statements, typings_are_types,
 };
