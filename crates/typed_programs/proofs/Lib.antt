@@ -1,0 +1,12 @@
+pub mod Ranges
+pub mod FittingLists
+pub mod Operators
+pub mod Arguments
+pub mod Expressions
+pub mod OneType
+pub mod Statements
+pub mod Linked
+pub mod Programs
+pub mod Refining
+pub mod CheckedCalls
+pub mod TypingFacts

@@ -1,0 +1,3 @@
+pub mod CheckedRuns
+pub mod Keeping
+pub mod TypedLaws
