@@ -6,6 +6,7 @@ mod check;
 mod collect;
 mod faults;
 mod flow;
+mod index;
 mod known;
 mod listed;
 mod names;
