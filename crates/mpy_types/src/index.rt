@@ -5,7 +5,7 @@ ghost use Rattle.std.specs.HashMap.{get};
 ghost use Rattle.std.specs.Cmp.Lexicographic.{pointwise};
 ghost use Rattle.mpy_tree.specs.Locals.{is_among};
 ghost use Rattle.mpy_types.specs.Numbers.{position};
-ghost use Rattle.mpy_types.specs.Views.{name_of};
+ghost use Rattle.mpy_types.specs.Seen.{name_of};
 ghost use denote.Ref.{Bor};
 
 use mpy_tree::{Name, NoMemory};
@@ -34,7 +34,8 @@ impl<'a> Index<'a> {
 
     /// The place of a name, counted from 0.
     pub fn find(&self, x: &Name) -> Option<usize>
-        ensures { result ≡ position x.now (map name_of self.now.names.items) }
+        ensures place { result ≡ position x.now (map name_of self.now.names.items) }
+        ensures within { IfSome result (λ k. k < length self.now.names.items) }
     {
         self.numbers.get(x.bytes()).copied()
     }

@@ -1,6 +1,6 @@
 use Rattle.std.proofs.Common.{◌≡◌, ◌∷◌, [], length, map, sym, ap, ◌∙◌, arith}
 use Rattle.std.proofs.lemmas.List.{length-map, map-append}
-use Rattle.mpy_types.specs.Views.{name_of}
+use Rattle.mpy_types.specs.Seen.{name_of}
 use Rattle.mpy_types.proofs.Positions.{place_more}
 use Rattle.mpy_types.proofs.index.Index.and.Goals as goal
 

@@ -1,5 +1,5 @@
 use Rattle.std.proofs.Common.{map, sym, ◌∙◌}
-use Rattle.mpy_types.specs.Views.{name_of}
+use Rattle.mpy_types.specs.Seen.{name_of}
 use Rattle.mpy_types.proofs.Positions.{no_place}
 use Rattle.mpy_types.proofs.index.Index.with.Goals as goal
 
