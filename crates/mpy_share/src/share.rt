@@ -7,7 +7,7 @@ ghost use Rattle.mpy_tree.specs.Locals.{is_among};
 ghost use Rattle.mpy_tree.specs.Leasts.{least};
 ghost use Rattle.mpy_tree.specs.Rules.{single, type_in, is_type};
 ghost use Rattle.mpy_tree.specs.Sites.{sites};
-ghost use Rattle.mpy_types.specs.Views.{site_of};
+ghost use Rattle.mpy_types.specs.Seen.{site_of};
 ghost use Rattle.mpy_tree.specs.Sharing.{opens, open_to, some_name, changes, changed_on, shared_by};
 ghost use Rattle.mpy_tree.specs.Sharing.{shared_on, on_line_if};
 ghost use Rattle.mpy_tree.specs.declared.typing.Ty.TheVariants.{List as listed};
@@ -133,7 +133,7 @@ impl<K: Known> Shares<'_, K> {
             self.now.params.now line (action_of act.now)) }
     {
         match act {
-            Act::Assign(_, e) => on_line_if(self.place.is_list(e) && opens_some(e), line),
+            Act::Assign(_, e) => on_line_if(opens_some(e) && self.place.is_list(e), line),
             Act::Return(Some(e)) => on_line_if(self.called && self.opens_param(e), line),
             Act::For(_, e, body) => self.changed_in(e, body),
             _ => on_line_if(self.called && self.changes_param(act), line),

@@ -1,4 +1,3 @@
-pub mod Every
 pub mod OneAnswer
 pub mod Targets
 pub mod WholeFacts

@@ -14,9 +14,9 @@ use Rattle.mpy_tree.specs.Faults.{Place, slots, listed, slot_fault, slots_fault,
 use Rattle.mpy_tree.specs.Rules.{single}
 use Rattle.mpy_tree.specs.Typings.{set_of, IsTyping}
 use Rattle.mpy_types.proofs.SetLaws.{join_none}
-use Rattle.mpy_types.proofs.Raising.{at_place}
-use Rattle.mpy_type_laws.proofs.Every.{join_same}
-use Rattle.mpy_type_laws.proofs.Targets.{stands_among, within_slots, least_within_slots}
+use Rattle.mpy_types.proofs.Places.{at_place}
+use Rattle.mpy_types.proofs.Targets.{stands_among}
+use Rattle.mpy_type_laws.proofs.Targets.{within_slots, least_within_slots}
 
 one_of : (a b c d : Bool) (line : ℕ) → slot_fault (listed (record { int = a; bool = b; list = c; text = d })) line ≡ None → (t : Ty) × (record { int = a; bool = b; list = c; text = d } ≡ just t)
 one_of true false false false line e = (ty.Int, refl)
@@ -40,6 +40,12 @@ only_one ty.Int = refl
 only_one ty.Bool = refl
 only_one ty.List = refl
 only_one ty.Text = refl
+
+join_same : (t : Ty) → join (just t) (just t) ≡ just t
+join_same ty.Int = refl
+join_same ty.Bool = refl
+join_same ty.List = refl
+join_same ty.Text = refl
 
 joined_more : (m : Bool) (t : Ty) (s : TypeSet) → s ≡ just t → join (just t) (if m then s else no_types) ≡ s
 joined_more true t s e = ap (join (just t)) e ∙ join_same t ∙ sym e

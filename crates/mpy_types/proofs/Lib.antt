@@ -1,7 +1,11 @@
 pub mod Counting
-pub mod Looking
+pub mod Every
+pub mod Linked
 pub mod Monotone
+pub mod Numbering
+pub mod Places
+pub mod Positions
 pub mod Raising
-pub mod Reading
 pub mod SetLaws
 pub mod Soonest
+pub mod Targets

@@ -107,3 +107,11 @@ absent_less s t h =
       ]
       | inr k ↦ (let e : one_if_not (s.text || t.text) < one_if_not s.text = one_less s.text t.text k in omega arith)
     ]
+
+pub or_left : (a b : Bool) → IsTrue a → IsTrue (a || b)
+or_left true b h = refl
+or_left false b h = absurd (cc)
+
+pub or_right : (a b : Bool) → IsTrue b → IsTrue (a || b)
+or_right true b h = refl
+or_right false b h = h

@@ -3,8 +3,6 @@ use Rattle.std.proofs.Common.{◌≡◌, ℕ, ◌+◌, ◌<◌, length, get_or, 
 use Rattle.std.proofs.lemmas.List.{drop_more}
 use Rattle.mpy_tree.specs.Syntax.{Routine}
 use Rattle.mpy_tree.proofs.Leasts.{lesser-none, lesser_of_append}
-use Rattle.mpy_tree.specs.declared.tree.Func.{Func}
-use Rattle.mpy_tree.specs.View.{routine_of, block_of}
 use Rattle.mpy_tree.specs.Sites.{sites, Site, line_of}
 use Rattle.mpy_tree.specs.Rules.{Slots, site_obeys}
 use Rattle.mpy_tree.specs.Faults.{broken_from}
@@ -25,13 +23,13 @@ pub least_append : (xs ys : List ℕ) → least (xs ++ ys) ≡ lesser (least xs)
 least_append xs ys = lesser_of_append None xs ys
 
 -- the lines of a function that break, where it breaks first on `here`
-pub function_more : (S : Slots) (fs : List Func) (k : ℕ) (f : Func) (first here next : Option ℕ) → k < length fs → f ≡ get_or fs k f → here ≡ least (lines_of (λ s. not (site_obeys S (map routine_of fs) k s)) (sites (block_of f.body))) → next ≡ lesser first here → lesser first (least (broken_from S (map routine_of fs) k (map routine_of (drop k fs)))) ≡ lesser next (least (broken_from S (map routine_of fs) (k + 1) (map routine_of (drop (k + 1) fs))))
-function_more S fs k f first here next h e eh en =
-    let rest = least (broken_from S (map routine_of fs) (k + 1) (map routine_of (drop (k + 1) fs))) in
-    let lines = lines_of (λ s. not (site_obeys S (map routine_of fs) k s)) (sites (block_of f.body)) in
-    let d : drop k fs ≡ f ∷ drop (k + 1) fs = drop_more fs k f h ∙ ap (λ g. g ∷ drop (k + 1) fs) (sym e) in
-    ap (λ gs. lesser first (least (broken_from S (map routine_of fs) k (map routine_of gs)))) d
-    ∙ ap (lesser first) (least_append lines (broken_from S (map routine_of fs) (k + 1) (map routine_of (drop (k + 1) fs))))
+pub function_more : {A : Type 0} (g : A → Routine) (S : Slots) (p : List Routine) (fs : List A) (k : ℕ) (f : A) (first here next : Option ℕ) → k < length fs → f ≡ get_or fs k f → here ≡ least (lines_of (λ s. not (site_obeys S p k s)) (sites (g f).body)) → next ≡ lesser first here → lesser first (least (broken_from S p k (map g (drop k fs)))) ≡ lesser next (least (broken_from S p (k + 1) (map g (drop (k + 1) fs))))
+function_more g S p fs k f first here next h e eh en =
+    let rest = least (broken_from S p (k + 1) (map g (drop (k + 1) fs))) in
+    let lines = lines_of (λ s. not (site_obeys S p k s)) (sites (g f).body) in
+    let d : drop k fs ≡ f ∷ drop (k + 1) fs = drop_more fs k f h ∙ ap (λ h. h ∷ drop (k + 1) fs) (sym e) in
+    ap (λ gs. lesser first (least (broken_from S p k (map g gs)))) d
+    ∙ ap (lesser first) (least_append lines (broken_from S p (k + 1) (map g (drop (k + 1) fs))))
     ∙ ap (λ m. lesser first (lesser m rest)) (sym eh)
     ∙ sym (lesser_assoc first here rest)
     ∙ ap (λ m. lesser m rest) (sym en)
@@ -52,26 +50,26 @@ lines_more test g xs k x b first next h e eb en =
     ∙ ap (λ m. lesser m (least rest)) (sym en)
 
 -- a function more
-pub arities_more : (p : List Routine) (fs : List Func) (k : ℕ) (f : Func) (first here next : Option ℕ) → k < length fs → f ≡ get_or fs k f → here ≡ least (lines_of (has_arity_fault p) (sites (block_of f.body))) → next ≡ lesser first here → lesser first (least (arity_lines_from p (map routine_of (drop k fs)))) ≡ lesser next (least (arity_lines_from p (map routine_of (drop (k + 1) fs))))
-arities_more p fs k f first here next h e eh en =
-    let rest = arity_lines_from p (map routine_of (drop (k + 1) fs)) in
-    let lines = lines_of (has_arity_fault p) (sites (block_of f.body)) in
-    let d : drop k fs ≡ f ∷ drop (k + 1) fs = drop_more fs k f h ∙ ap (λ g. g ∷ drop (k + 1) fs) (sym e) in
-    ap (λ gs. lesser first (least (arity_lines_from p (map routine_of gs)))) d
+pub arities_more : {A : Type 0} (g : A → Routine) (p : List Routine) (fs : List A) (k : ℕ) (f : A) (first here next : Option ℕ) → k < length fs → f ≡ get_or fs k f → here ≡ least (lines_of (has_arity_fault p) (sites (g f).body)) → next ≡ lesser first here → lesser first (least (arity_lines_from p (map g (drop k fs)))) ≡ lesser next (least (arity_lines_from p (map g (drop (k + 1) fs))))
+arities_more g p fs k f first here next h e eh en =
+    let rest = arity_lines_from p (map g (drop (k + 1) fs)) in
+    let lines = lines_of (has_arity_fault p) (sites (g f).body) in
+    let d : drop k fs ≡ f ∷ drop (k + 1) fs = drop_more fs k f h ∙ ap (λ h. h ∷ drop (k + 1) fs) (sym e) in
+    ap (λ gs. lesser first (least (arity_lines_from p (map g gs)))) d
     ∙ ap (lesser first) (least_append lines rest)
     ∙ ap (λ m. lesser first (lesser m (least rest))) (sym eh)
     ∙ sym (lesser_assoc first here (least rest))
     ∙ ap (λ m. lesser m (least rest)) (sym en)
 
-pub names_more : (p : List Routine) (fs : List Func) (before after : List (List ℕ)) (k : ℕ) (f : Func) (first header here next : Option ℕ) → k < length fs → f ≡ get_or fs k f → header ≡ least (header_lines before (routine_of f)) → here ≡ least (lines_of (has_name_fault p (locals (routine_of f))) (sites (block_of f.body))) → next ≡ lesser (lesser first header) here → after ≡ before ++ f.name ∷ [] → lesser first (least (name_lines_from p before (map routine_of (drop k fs)))) ≡ lesser next (least (name_lines_from p after (map routine_of (drop (k + 1) fs))))
-names_more p fs before after k f first header here next h e ed eh en ea =
-    let rest = name_lines_from p (before ++ f.name ∷ []) (map routine_of (drop (k + 1) fs)) in
-    let lines = lines_of (has_name_fault p (locals (routine_of f))) (sites (block_of f.body)) in
-    let d : drop k fs ≡ f ∷ drop (k + 1) fs = drop_more fs k f h ∙ ap (λ g. g ∷ drop (k + 1) fs) (sym e) in
-    ap (λ gs. lesser first (least (name_lines_from p before (map routine_of gs)))) d
-    ∙ ap (lesser first) (least_append (header_lines before (routine_of f) ++ lines) rest ∙ ap (λ m. lesser m (least rest)) (least_append (header_lines before (routine_of f)) lines))
+pub names_more : {A : Type 0} (g : A → Routine) (p : List Routine) (fs : List A) (before after : List (List ℕ)) (k : ℕ) (f : A) (first header here next : Option ℕ) → k < length fs → f ≡ get_or fs k f → header ≡ least (header_lines before (g f)) → here ≡ least (lines_of (has_name_fault p (locals (g f))) (sites (g f).body)) → next ≡ lesser (lesser first header) here → after ≡ before ++ (g f).name ∷ [] → lesser first (least (name_lines_from p before (map g (drop k fs)))) ≡ lesser next (least (name_lines_from p after (map g (drop (k + 1) fs))))
+names_more g p fs before after k f first header here next h e ed eh en ea =
+    let rest = name_lines_from p (before ++ (g f).name ∷ []) (map g (drop (k + 1) fs)) in
+    let lines = lines_of (has_name_fault p (locals (g f))) (sites (g f).body) in
+    let d : drop k fs ≡ f ∷ drop (k + 1) fs = drop_more fs k f h ∙ ap (λ h. h ∷ drop (k + 1) fs) (sym e) in
+    ap (λ gs. lesser first (least (name_lines_from p before (map g gs)))) d
+    ∙ ap (lesser first) (least_append (header_lines before (g f) ++ lines) rest ∙ ap (λ m. lesser m (least rest)) (least_append (header_lines before (g f)) lines))
     ∙ ap (λ m. lesser first (lesser (lesser m (least lines)) (least rest))) (sym ed)
     ∙ ap (λ m. lesser first (lesser (lesser header m) (least rest))) (sym eh)
     ∙ sym (lesser_assoc first (lesser header here) (least rest))
     ∙ ap (λ m. lesser m (least rest)) (sym (lesser_assoc first header here) ∙ sym en)
-    ∙ ap (λ ns. lesser next (least (name_lines_from p ns (map routine_of (drop (k + 1) fs))))) (sym ea)
+    ∙ ap (λ ns. lesser next (least (name_lines_from p ns (map g (drop (k + 1) fs))))) (sym ea)

@@ -1,39 +1,24 @@
 -- The set of facts that a table holds.
-use Rattle.std.specs.Prelude.{List, [], ◌∷◌, if◌then◌else◌}
-use Rattle.mpy_tree.specs.declared.typing.Slot.{Slot}
-use Rattle.mpy_tree.specs.declared.typing.Slot.TheVariants as slot
-use Rattle.mpy_types.specs.declared.flow.Target.{Target}
-use Rattle.mpy_types.specs.declared.flow.Target.TheVariants.{Local, Result}
-use Rattle.mpy_types.specs.declared.flow.Source.{Source as Origin}
-use Rattle.mpy_types.specs.declared.flow.Source.TheVariants.{Given, Value, Each}
-use Rattle.mpy_types.specs.declared.flow.Flow.{Flow as Stream}
-use Rattle.mpy_types.specs.declared.table.Row.{Row}
+use Rattle.std.specs.Prelude.{ℕ, List, map, Option, Some, None, slice_index_or}
 use Rattle.mpy_types.specs.declared.table.Table.{Table}
-use Rattle.mpy_tree.specs.View.{term_of}
-use Rattle.mpy_tree.specs.TypeSets.{no_types, join}
-use Rattle.mpy_tree.specs.SetTypes.{FactSet, same_place}
-use Rattle.mpy_tree.specs.Flows.{Source, value, each, Flow, flow}
-use Rattle.mpy_tree.specs.Flows.{given}
+use Rattle.mpy_tree.specs.declared.typing.TypeSet.{TypeSet}
+use Rattle.mpy_tree.specs.View.{routine_of}
+use Rattle.mpy_tree.specs.Syntax.{Routine}
+use Rattle.mpy_tree.specs.TypeSets.{no_types}
+use Rattle.mpy_tree.specs.SetTypes.{FactSet}
+use Rattle.mpy_types.specs.Numbers.{number}
 
-abbrev pub slot_of : Target → Slot
-slot_of (Local x) = slot.Local x.now
-slot_of Result = slot.Result
+-- the types at a number, none beyond the last
+abbrev pub type_at : List TypeSet → ℕ → TypeSet
+type_at sets k = slice_index_or sets k no_types
 
-abbrev pub source_of : Origin → Source
-source_of (Given t) = given t
-source_of (Value i e) = value i (term_of e.now)
-source_of (Each i e) = each i (term_of e.now)
+abbrev pub types_numbered : List TypeSet → Option ℕ → TypeSet
+types_numbered sets None = no_types
+types_numbered sets (Some k) = type_at sets k
 
-abbrev pub flow_of : Stream → Flow
-flow_of f = flow f.func (slot_of f.slot) (source_of f.from)
-
--- the types that rows give a slot
-abbrev pub facts_in : List Row → FactSet
-facts_in [] = λ j y. no_types
-facts_in (r ∷ rs) = λ j y.
-    if same_place r.func (slot_of r.slot) j y
-    then join r.types (facts_in rs j y)
-    else facts_in rs j y
+-- the facts that types by number are of a program
+abbrev pub facts_by : List Routine → List TypeSet → FactSet
+facts_by p sets = λ j y. types_numbered sets (number p j y)
 
 abbrev pub facts_of : Table → FactSet
-facts_of t = facts_in t.rows.items
+facts_of t = facts_by (map routine_of t.scopes.now.funcs.now) t.sets.items

@@ -7,7 +7,7 @@ ghost use Rattle.mpy_tree.specs.Names.{lines_of};
 ghost use Rattle.mpy_tree.specs.Leasts.{lesser, least};
 ghost use Rattle.mpy_tree.specs.Faults.{broken_from};
 ghost use Rattle.mpy_tree.specs.Sites.{sites};
-ghost use Rattle.mpy_types.specs.Views.{site_of};
+ghost use Rattle.mpy_types.specs.Seen.{site_of};
 
 use crate::known::Known;
 use crate::nodes::{Site, push_sites};
@@ -97,7 +97,7 @@ pub fn least_broken<K: Known>(
 }
 
 // The least line of a function.
-#[tactic(auto, unfolding(mpy_tree::specs::Leasts::least), using(crate::proofs::Soonest::lesser_assoc, crate::proofs::Soonest::lesser_of_none))]
+#[tactic(auto, unfolding(mpy_tree::specs::Leasts::least), using(crate::proofs::Soonest::lesser_of_none))]
 fn broken_in<K: Known>(
     alloc: Global,
     known: &K,
@@ -113,9 +113,8 @@ fn broken_in<K: Known>(
     push_sites(&func.body, &mut seen)?;
     let mut first = None;
     for s in &seen {
-        if !obeys(known, funcs, i, *s) {
-            first = sooner(first, Some(s.line()));
-        }
+        let fault = !obeys(known, funcs, i, *s);
+        first = sooner_if(first, fault, s.line());
     }
     Ok(first)
 }

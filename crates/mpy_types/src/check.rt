@@ -12,12 +12,13 @@ ghost use Rattle.mpy_types.specs.Tables.{facts_of};
 ghost use Rattle.mpy_types.specs.Views.{place_of};
 
 use crate::broken::least_broken;
-use crate::collect::flows;
+use crate::collect::inflows;
 use crate::faults::{entry_fault, names_fault};
+use crate::scope::{Scopes, read_scopes};
 use crate::slots::{Place, facts_at, slots, slots_fault};
-use crate::solve::least_facts;
+use crate::solve::least_types;
 use crate::table::Table;
-use mpy_tree::{Cause, Facts, Func, NoMemory, Prog, Signature, TypeError, Types};
+use mpy_tree::{Cause, Facts, NoMemory, Prog, Signature, TypeError, Types};
 use std::alloc::Global;
 
 /// The typing of a program that is entered so: the least set of types that keeps every assignment,
@@ -33,13 +34,13 @@ use std::alloc::Global;
 pub fn check_types(alloc: Global, p: &Prog, s: &Signature) -> Result<Types, TypeError>
     ensures { Checks result (routines_of p.now) s.now.entry s.now.params }
 {
-    let funcs = p.funcs.items.as_slice();
-    if let Some(e) = early_fault(alloc, funcs, s)? {
+    let scopes = read_scopes(alloc, p.funcs.items.as_slice())?;
+    if let Some(e) = early_fault(alloc, &scopes, s)? {
         return Err(e);
     }
-    let table = least_set(alloc, funcs, s)?;
-    let places = slots(alloc, funcs)?;
-    if let Some(e) = late_fault(alloc, funcs, &table, &places)? {
+    let places = slots(alloc, &scopes)?;
+    let table = least_set(alloc, &scopes, &places, s)?;
+    if let Some(e) = late_fault(alloc, &table, &places)? {
         return Err(e);
     }
     let facts = facts_at(alloc, &table, &places)?;
@@ -49,43 +50,55 @@ pub fn check_types(alloc: Global, p: &Prog, s: &Signature) -> Result<Types, Type
 }
 
 // The first fault of names, numbers of arguments or the entry.
-fn early_fault(alloc: Global, funcs: &[Func], s: &Signature) -> Result<Option<TypeError>, NoMemory>
-    ensures { IfOk result (λ e. e ≡ or_fault (names_fault (map routine_of funcs.now))
-        (entry_fault (found (map routine_of funcs.now) s.now.entry) (length s.now.params))) }
+fn early_fault(
+    alloc: Global,
+    scopes: &Scopes<'_>,
+    s: &Signature,
+) -> Result<Option<TypeError>, NoMemory>
+    ensures { IfOk result (λ e. e ≡ or_fault (names_fault (map routine_of scopes.now.funcs.now))
+        (entry_fault (found (map routine_of scopes.now.funcs.now) s.now.entry)
+        (length s.now.params))) }
 {
-    let fault = names_fault(alloc, funcs)?;
+    let fault = names_fault(alloc, scopes)?;
     if fault.is_some() {
         return Ok(fault);
     }
-    Ok(entry_fault(funcs, &s.entry, s.params.items().len()))
+    Ok(entry_fault(scopes.funcs, &s.entry, s.params.items().len()))
 }
 
 // The least set of facts.
-fn least_set<'a>(alloc: Global, funcs: &'a [Func], s: &Signature) -> Result<Table<'a>, NoMemory>
-    ensures { IfOk result (λ t. IsLeast (facts_of t) (map routine_of funcs.now) s.now.entry
-        s.now.params) }
+fn least_set<'s, 'a>(
+    alloc: Global,
+    scopes: &'s Scopes<'a>,
+    places: &[Place<'_>],
+    s: &Signature,
+) -> Result<Table<'s, 'a>, NoMemory>
+    requires { map place_of places.now ≡ slots (map routine_of scopes.now.funcs.now) }
+    ensures least { IfOk result (λ t. IsLeast (facts_of t) (map routine_of scopes.now.funcs.now)
+        s.now.entry s.now.params) }
+    ensures scopes { IfOk result (λ t. t.scopes.now.funcs.now ≡ scopes.now.funcs.now) }
 {
-    let flows = flows(alloc, funcs, &s.entry, s.params.items())?;
-    least_facts(alloc, funcs, &flows)
+    let inflows = inflows(alloc, scopes, &s.entry, s.params.items())?;
+    let sets = least_types(alloc, places, &inflows)?;
+    Ok(Table { scopes, sets })
 }
 
 // The first fault of a slot, or else of a node, by the facts of a table.
 fn late_fault(
     alloc: Global,
-    funcs: &[Func],
-    table: &Table<'_>,
+    table: &Table<'_, '_>,
     places: &[Place<'_>],
 ) -> Result<Option<TypeError>, NoMemory>
-    requires { map place_of places.now ≡ slots (map routine_of funcs.now) }
+    requires { map place_of places.now ≡ slots (map routine_of table.now.scopes.now.funcs.now) }
     ensures { IfOk result (λ e. e ≡ or_fault (slots_fault (facts_of table.now)
-        (slots (map routine_of funcs.now))) (nodes_fault (single (facts_of table.now))
-        (map routine_of funcs.now))) }
+        (slots (map routine_of table.now.scopes.now.funcs.now))) (nodes_fault
+        (single (facts_of table.now)) (map routine_of table.now.scopes.now.funcs.now))) }
 {
     let fault = slots_fault(table, places);
     if fault.is_some() {
         return Ok(fault);
     }
-    match least_broken(alloc, table, funcs)? {
+    match least_broken(alloc, table, table.scopes.funcs)? {
         None => Ok(None),
         Some(line) => Ok(Some(TypeError::Fault {
             cause: Cause::TypeFault,

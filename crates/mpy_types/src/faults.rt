@@ -12,21 +12,23 @@ ghost use Rattle.mpy_tree.specs.Names.{has_arity_fault, lines_of, header_lines, 
 ghost use Rattle.mpy_tree.specs.Names.{name_lines_from, arity_lines};
 ghost use Rattle.mpy_tree.specs.Leasts.{least};
 ghost use Rattle.mpy_tree.specs.Faults.{earlier, names_fault, entry_fault};
-ghost use Rattle.mpy_types.specs.Views.{name_of, site_of, node_of};
+ghost use Rattle.mpy_types.specs.Seen.{name_of, site_of, node_of};
 
 use crate::broken::{sooner, sooner_if};
-use crate::names::{changed, is_among, locals};
+use crate::called::called;
+use crate::index::Index;
+use crate::names::changed;
 use crate::nodes::{Site, push_site_nodes, push_sites};
-use crate::set_types::called;
+use crate::scope::{Scope, Scopes};
 use mpy_tree::{Builtin, Cause, Expr, Exprs, Func, Name, NoMemory, TypeError};
 use std::alloc::Global;
 
 /// The least line of a fault of names or of numbers of arguments; on one line that of names.
-pub fn names_fault(alloc: Global, funcs: &[Func]) -> Result<Option<TypeError>, NoMemory>
-    ensures { IfOk result (λ e. e ≡ names_fault (map routine_of funcs.now)) }
+pub fn names_fault(alloc: Global, scopes: &Scopes<'_>) -> Result<Option<TypeError>, NoMemory>
+    ensures { IfOk result (λ e. e ≡ names_fault (map routine_of scopes.now.funcs.now)) }
 {
-    let names = least_name_line(alloc, funcs)?;
-    let arities = least_arity_line(alloc, funcs)?;
+    let names = least_name_line(alloc, scopes)?;
+    let arities = least_arity_line(alloc, scopes.funcs)?;
     Ok(earlier(names, arities))
 }
 
@@ -72,16 +74,16 @@ pub fn entry_fault(funcs: &[Func], entry: &Name, params: usize) -> Option<TypeEr
 
 // The least line of a fault of names.
 #[tactic(auto, unfolding(mpy_tree::specs::Leasts::least), using(crate::proofs::Soonest::lesser_of_none))]
-fn least_name_line(alloc: Global, funcs: &[Func]) -> Result<Option<u32>, NoMemory>
-    ensures { IfOk result (λ r. r ≡ least (name_lines (map routine_of funcs.now))) }
+fn least_name_line(alloc: Global, scopes: &Scopes<'_>) -> Result<Option<u32>, NoMemory>
+    ensures { IfOk result (λ r. r ≡ least (name_lines (map routine_of scopes.now.funcs.now))) }
 {
     let mut first = None;
     let mut before = Vec::new(alloc);
-    for func in funcs {
-        let header = header_line(&before, func);
-        let inside = name_line_in(alloc, funcs, func)?;
+    for scope in &scopes.items {
+        let header = header_line(&before, scope.func);
+        let inside = name_line_in(alloc, scopes.funcs, scope)?;
         first = sooner(sooner(first, header), inside);
-        before.push(&func.name)?;
+        before.push(&scope.func.name)?;
     }
     Ok(first)
 }
@@ -97,6 +99,18 @@ fn header_line(before: &[&Name], func: &Func) -> Option<u32>
     } else {
         None
     }
+}
+
+// Whether a name is among others.
+fn is_among(names: &[&Name], x: &Name) -> bool
+    ensures { result ≡ is_among (map name_of names.now) x.now }
+{
+    for y in names {
+        if x.is(y) {
+            return true;
+        }
+    }
+    false
 }
 
 // Whether a name is there twice.
@@ -122,17 +136,16 @@ fn is_builtin(f: &Name) -> bool
 
 // The least line of a function with a fault of names.
 #[tactic(auto, unfolding(mpy_tree::specs::Leasts::least), using(crate::proofs::Soonest::lesser_of_none))]
-fn name_line_in(alloc: Global, funcs: &[Func], func: &Func) -> Result<Option<u32>, NoMemory>
+fn name_line_in(alloc: Global, funcs: &[Func], scope: &Scope<'_>) -> Result<Option<u32>, NoMemory>
     ensures { IfOk result (λ r. r ≡ least (lines_of
-        (has_name_fault (map routine_of funcs.now) (locals (routine_of func.now)))
-        (sites (block_of func.now.body)))) }
+        (has_name_fault (map routine_of funcs.now) (locals (routine_of scope.now.func.now)))
+        (sites (block_of scope.now.func.now.body)))) }
 {
     let mut seen = Vec::new(alloc);
-    push_sites(&func.body, &mut seen)?;
-    let names = locals(alloc, func, &seen)?;
+    push_sites(&scope.func.body, &mut seen)?;
     let mut first = None;
     for s in &seen {
-        let fault = has_name_fault(alloc, funcs, &names, *s)?;
+        let fault = has_name_fault(alloc, funcs, &scope.names, *s)?;
         first = sooner_if(first, fault, s.line());
     }
     Ok(first)
@@ -142,14 +155,14 @@ fn name_line_in(alloc: Global, funcs: &[Func], func: &Func) -> Result<Option<u32
 fn has_name_fault(
     alloc: Global,
     funcs: &[Func],
-    names: &[&Name],
+    names: &Index<'_>,
     s: Site<'_>,
 ) -> Result<bool, NoMemory>
     ensures { IfOk result (λ b. b ≡ has_name_fault (map routine_of funcs.now)
-        (map name_of names.now) (site_of s.entry)) }
+        (map name_of names.now.names.items) (site_of s.entry)) }
 {
     if let Some(x) = changed(s) {
-        if !is_among(names, x) {
+        if !names.has(x) {
             return Ok(true);
         }
     }
@@ -164,13 +177,13 @@ fn has_name_fault(
 }
 
 // Whether a node is a name that isn't there, or a call of one.
-fn is_name_fault(funcs: &[Func], names: &[&Name], e: &Expr) -> bool
-    ensures { result ≡ is_name_fault (map routine_of funcs.now) (map name_of names.now)
+fn is_name_fault(funcs: &[Func], names: &Index<'_>, e: &Expr) -> bool
+    ensures { result ≡ is_name_fault (map routine_of funcs.now) (map name_of names.now.names.items)
         (term_of e.now) }
 {
     match e {
-        Expr::Name(x) => !is_among(names, x),
-        Expr::Call(f, _) => is_among(names, f) || !is_builtin(f) && !is_there(funcs, f),
+        Expr::Name(x) => !names.has(x),
+        Expr::Call(f, _) => names.has(f) || !is_builtin(f) && !is_there(funcs, f),
         _ => false,
     }
 }

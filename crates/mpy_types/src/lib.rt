@@ -2,16 +2,19 @@
 #![tactic(auto)]
 
 mod broken;
+mod called;
 mod check;
 mod collect;
 mod faults;
 mod flow;
+mod index;
+mod inflow;
 mod known;
 mod listed;
 mod names;
 mod nodes;
 mod rules;
-mod set_types;
+mod scope;
 mod slots;
 mod solve;
 mod table;

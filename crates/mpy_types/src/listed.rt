@@ -4,7 +4,7 @@ ghost use Rattle.mpy_tree.specs.declared.typing.Slot.{Slot};
 ghost use Rattle.mpy_tree.specs.declared.typing.Slot.TheVariants as slot;
 ghost use Rattle.mpy_tree.specs.Typings.{set_of};
 ghost use Rattle.mpy_tree.specs.SetTypes.{same_slot, same_place};
-ghost use Rattle.mpy_types.specs.Tables.{slot_of};
+ghost use Rattle.mpy_types.specs.Seen.{slot_of};
 
 use crate::flow::Target;
 use crate::known::Known;

@@ -6,55 +6,77 @@ ghost use Rattle.mpy_tree.specs.View.{term_of, block_of, routine_of};
 ghost use Rattle.mpy_tree.specs.Sites.{sites};
 ghost use Rattle.mpy_tree.specs.Locals.{is_among, and_new, locals, site_assigned, site_changed};
 ghost use Rattle.mpy_tree.specs.Locals.{site_names, node_names};
-ghost use Rattle.mpy_types.specs.Views.{name_of, site_of};
+ghost use Rattle.mpy_types.specs.Seen.{name_of, site_of};
 
+use crate::index::Index;
 use crate::nodes::{Site, push_site_nodes};
 use mpy_tree::{Act, Expr, Func, Name, NoMemory};
 use std::alloc::Global;
 
-/// Whether a name is among others.
-pub fn is_among(names: &[&Name], x: &Name) -> bool
-    ensures { result ≡ is_among (map name_of names.now) x.now }
-{
-    for y in names {
-        if x.is(y) {
-            return true;
-        }
-    }
-    false
-}
-
 /// The locals of a function whose statements these are, each once, in the order in which they first
 /// appear.
-pub fn locals<'a>(
-    alloc: Global,
-    func: &'a Func,
-    seen: &[Site<'a>],
-) -> Result<Vec<&'a Name>, NoMemory>
+pub fn locals<'a>(alloc: Global, func: &'a Func, seen: &[Site<'a>]) -> Result<Index<'a>, NoMemory>
     requires { map site_of seen.now ≡ sites (block_of func.now.body) }
-    ensures { IfOk result (λ xs. map name_of xs.items ≡ locals (routine_of func.now)) }
+    ensures { IfOk result (λ r. map name_of r.names.items ≡ locals (routine_of func.now)) }
 {
-    let mut assigned = Vec::new(alloc);
-    for s in seen {
-        push_assigned(*s, &mut assigned)?;
-    }
-    let mut names = Vec::new(alloc);
-    for x in func.params.items() {
-        names.push(x)?;
-    }
-    push_local_names(alloc, seen, &assigned, &mut names)?;
-    once(alloc, &names)
+    let assigned = all_assigned(alloc, seen)?;
+    let names = all_names(alloc, seen)?;
+    let index = with_local(params(alloc, func)?, &assigned, &names)?;
+    Ok(index)
 }
 
-// Appends the name to which a statement assigns.
-fn push_assigned<'a>(s: Site<'a>, out: &mut Vec<&'a Name>) -> Result<(), NoMemory>
-    ensures { OnOk result (map name_of out.new.items ≡ map name_of out.old.items ++ site_assigned
-        (site_of s.entry)) }
+// The parameters, each once.
+fn params<'a>(alloc: Global, func: &'a Func) -> Result<Index<'a>, NoMemory>
+    ensures { IfOk result (λ r. map name_of r.names.items ≡ and_new [] func.now.params) }
 {
-    if let Some(x) = assigned(s) {
-        out.push(x)?;
+    let mut index = Index::new(alloc);
+    for x in func.params.items() {
+        index = index.with(x)?;
     }
-    Ok(())
+    Ok(index)
+}
+
+// The names to which statements assign, each once.
+fn all_assigned<'a>(alloc: Global, seen: &[Site<'a>]) -> Result<Index<'a>, NoMemory>
+    ensures { IfOk result (λ r. map name_of r.names.items ≡ and_new []
+        (flat_map site_assigned (map site_of seen.now))) }
+{
+    let mut index = Index::new(alloc);
+    for s in seen {
+        if let Some(x) = assigned(*s) {
+            index = index.with(x)?;
+        }
+    }
+    Ok(index)
+}
+
+// The names of statements in the order in which they are written.
+fn all_names<'a>(alloc: Global, seen: &[Site<'a>]) -> Result<Vec<&'a Name>, NoMemory>
+    ensures { IfOk result (λ xs. map name_of xs.items ≡ flat_map site_names (map site_of seen.now)) }
+{
+    let mut names = Vec::new(alloc);
+    for s in seen {
+        push_names(alloc, *s, &mut names)?;
+    }
+    Ok(names)
+}
+
+// With those of some names that are assigned.
+fn with_local<'a>(
+    mut index: Index<'a>,
+    assigned: &Index<'_>,
+    names: &[&'a Name],
+) -> Result<Index<'a>, NoMemory>
+    ensures { IfOk result (λ r. map name_of r.names.items ≡ and_new
+        (map name_of index.entry.names.items) (filter
+        (is_among (map name_of assigned.now.names.items)) (map name_of names.now))) }
+{
+    for x in names {
+        if assigned.has(x) {
+            index = index.with(x)?;
+        }
+    }
+    Ok(index)
 }
 
 /// The name to which a statement assigns.
@@ -86,7 +108,9 @@ fn push_names<'a>(alloc: Global, s: Site<'a>, out: &mut Vec<&'a Name>) -> Result
     ensures { OnOk result (map name_of out.new.items ≡ map name_of out.old.items ++ site_names
         (site_of s.entry)) }
 {
-    push_assigned(s, out)?;
+    if let Some(x) = assigned(s) {
+        out.push(x)?;
+    }
     if let Some(x) = changed(s) {
         out.push(x)?;
     }
@@ -107,39 +131,4 @@ fn push_name<'a>(e: &'a Expr, out: &mut Vec<&'a Name>) -> Result<(), NoMemory>
         out.push(x)?;
     }
     Ok(())
-}
-
-// Appends the names of statements that are among those that are assigned.
-fn push_local_names<'a>(
-    alloc: Global,
-    sites: &[Site<'a>],
-    assigned: &[&'a Name],
-    out: &mut Vec<&'a Name>,
-) -> Result<(), NoMemory>
-    ensures { OnOk result (map name_of out.new.items ≡ map name_of out.old.items ++ filter
-        (is_among (map name_of assigned.now)) (flat_map site_names (map site_of sites.now))) }
-{
-    let mut names = Vec::new(alloc);
-    for s in sites {
-        push_names(alloc, *s, &mut names)?;
-    }
-    for x in &names {
-        if is_among(assigned, x) {
-            out.push(x)?;
-        }
-    }
-    Ok(())
-}
-
-// Each name once.
-fn once<'a>(alloc: Global, names: &[&'a Name]) -> Result<Vec<&'a Name>, NoMemory>
-    ensures { IfOk result (λ xs. map name_of xs.items ≡ and_new [] (map name_of names.now)) }
-{
-    let mut seen = Vec::new(alloc);
-    for x in names {
-        if !is_among(&seen, x) {
-            seen.push(*x)?;
-        }
-    }
-    Ok(seen)
 }

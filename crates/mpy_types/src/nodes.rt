@@ -7,7 +7,7 @@ ghost use Rattle.mpy_tree.specs.View.{branches_of, block_or_none};
 ghost use Rattle.std.specs.List.{flat_map};
 ghost use Rattle.mpy_tree.specs.Sites.{own_terms, site_nodes, nodes, all_nodes, end_nodes, sites};
 ghost use Rattle.mpy_tree.specs.Sites.{inside, in_arms, in_last, line_of};
-ghost use Rattle.mpy_types.specs.Views.{site_of, node_of};
+ghost use Rattle.mpy_types.specs.Seen.{site_of, node_of};
 
 use mpy_tree::{Act, Arms, Expr, Exprs, NoMemory, Stmts};
 use std::alloc::Global;

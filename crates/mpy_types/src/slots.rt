@@ -5,11 +5,13 @@ ghost use Rattle.mpy_tree.specs.Sites.{sites};
 ghost use Rattle.mpy_tree.specs.Faults.{slots, routine_slots, local_line, assigned_on, listed};
 ghost use Rattle.mpy_tree.specs.Faults.{slot_fault, slots_fault, facts_at};
 ghost use Rattle.mpy_types.specs.Tables.{facts_of};
-ghost use Rattle.mpy_types.specs.Views.{name_of, site_of, place_of};
+ghost use Rattle.mpy_types.specs.Seen.{name_of, site_of};
+ghost use Rattle.mpy_types.specs.Views.{place_of};
 
 use crate::flow::Target;
-use crate::names::{assigned, locals};
+use crate::names::assigned;
 use crate::nodes::{Site, push_sites};
+use crate::scope::{Scope, Scopes};
 use crate::table::Table;
 use mpy_tree::{Cause, Fact, Func, Name, NoMemory, Slot, Ty, TypeError, TypeSet};
 use std::alloc::{AllocError, Global};
@@ -23,12 +25,13 @@ pub struct Place<'a> {
 }
 
 /// The slots of a program, in order.
-pub fn slots<'a>(alloc: Global, funcs: &'a [Func]) -> Result<Vec<Place<'a>>, NoMemory>
-    ensures { IfOk result (λ ss. map place_of ss.items ≡ slots (map routine_of funcs.now)) }
+pub fn slots<'a>(alloc: Global, scopes: &Scopes<'a>) -> Result<Vec<Place<'a>>, NoMemory>
+    ensures { IfOk result (λ ss. map place_of ss.items ≡ slots
+        (map routine_of scopes.now.funcs.now)) }
 {
     let mut out = Vec::new(alloc);
-    for (i, func) in funcs.iter().enumerate() {
-        push_slots(alloc, i, func, &mut out)?;
+    for (i, scope) in scopes.items.iter().enumerate() {
+        push_slots(alloc, i, scope, &mut out)?;
     }
     Ok(out)
 }
@@ -37,27 +40,26 @@ pub fn slots<'a>(alloc: Global, funcs: &'a [Func]) -> Result<Vec<Place<'a>>, NoM
 fn push_slots<'a>(
     alloc: Global,
     i: usize,
-    func: &'a Func,
+    scope: &Scope<'a>,
     out: &mut Vec<Place<'a>>,
 ) -> Result<(), NoMemory>
     ensures { OnOk result (map place_of out.new.items ≡ map place_of out.old.items ++ routine_slots
-        i (routine_of func.now)) }
+        i (routine_of scope.now.func.now)) }
 {
     let mut seen = Vec::new(alloc);
-    push_sites(&func.body, &mut seen)?;
-    let names = locals(alloc, func, &seen)?;
-    for x in &names {
-        let line = local_line(func, &seen, x);
+    push_sites(&scope.func.body, &mut seen)?;
+    for x in &scope.names.names {
+        let line = local_line(scope.func, &seen, x);
         out.push(Place {
             func: i,
-            slot: Target::Local(x),
+            slot: Target::Local(*x),
             line,
         })?;
     }
     out.push(Place {
         func: i,
         slot: Target::Result,
-        line: func.line,
+        line: scope.func.line,
     })?;
     Ok(())
 }
@@ -90,7 +92,7 @@ fn assigned_on(seen: &[Site<'_>], x: &Name) -> u32
 }
 
 /// The first slot without exactly one type.
-pub fn slots_fault(table: &Table<'_>, places: &[Place<'_>]) -> Option<TypeError>
+pub fn slots_fault(table: &Table<'_, '_>, places: &[Place<'_>]) -> Option<TypeError>
     ensures { result ≡ slots_fault (facts_of table.now) (map place_of places.now) }
 {
     for s in places {
@@ -127,7 +129,7 @@ fn slot_fault(types: TypeSet, line: u32) -> Option<TypeError>
 /// The facts about slots that have exactly one type.
 pub fn facts_at(
     alloc: Global,
-    table: &Table<'_>,
+    table: &Table<'_, '_>,
     places: &[Place<'_>],
 ) -> Result<Vec<Fact>, NoMemory>
     ensures { IfOk result (λ fs. fs.items ≡ facts_at (facts_of table.now) (map place_of places.now)) }

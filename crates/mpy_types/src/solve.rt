@@ -1,68 +1,82 @@
-//! The least set of facts.
-ghost use Rattle.std.specs.Prelude.{◌≡◌, ◌<◌, ◌^◌, [], length, map, IfOk};
+//! The least types of slots.
+ghost use Rattle.std.specs.Prelude.{◌≡◌, length, map, IfOk};
 ghost use Rattle.mpy_tree.specs.View.{routine_of};
-ghost use Rattle.mpy_tree.specs.Flows.{source_types};
-ghost use Rattle.mpy_types.specs.Tables.{facts_of, source_of, flow_of};
-ghost use Rattle.mpy_types.specs.Passes.{IsStep, IsPass, AreLeast};
+ghost use Rattle.mpy_tree.specs.Faults.{slots};
+ghost use Rattle.mpy_types.specs.Passes.{types_from, IsStep, IsPass, AreLeast, are_none};
+ghost use Rattle.mpy_types.specs.Views.{place_of};
 
-use crate::flow::{Flow, Source};
-use crate::set_types::types_in;
-use crate::table::Table;
-use mpy_tree::{Func, NoMemory, TypeSet};
+use crate::inflow::{Inflow, Source};
+use crate::slots::Place;
+use crate::table::type_at;
+use mpy_tree::{NoMemory, TypeSet};
 use std::alloc::Global;
 
-/// The least set of facts that keeps the flows.
-pub fn least_facts<'a>(
+/// The least types of so many slots that keep what flows into them.
+///
+/// Each pass but the last gives a slot a type, and types go on from slot to slot in each: at most
+/// twice as many passes as there are slots, and one more, over the flows, which are numbers alone.
+pub fn least_types(
     alloc: Global,
-    funcs: &[Func],
-    flows: &[Flow<'a>],
-) -> Result<Table<'a>, NoMemory>
-    ensures { IfOk result (λ t. AreLeast (facts_of t) (map routine_of funcs.now) flows.now) }
+    places: &[Place<'_>],
+    inflows: &[Inflow],
+) -> Result<Vec<TypeSet>, NoMemory>
+    ensures { IfOk result (λ v. AreLeast v.items (length places.now) inflows.now) }
 {
-    let mut table = Table::new(alloc);
+    let mut sets = no_types(alloc, places)?;
     'passes: loop {
-        if !pass(&mut table, funcs, flows)? {
-            return Ok(table);
+        if !pass(&mut sets, inflows) {
+            return Ok(sets);
         }
     }
 }
 
-// Takes in the types of each flow, and whether one was new.
-#[tactic(auto, using(crate::proofs::Raising::step_rises, crate::proofs::Raising::step_keeps))]
-fn pass<'a>(table: &mut Table<'a>, funcs: &[Func], flows: &[Flow<'a>]) -> Result<bool, NoMemory>
-    ensures { IfOk result (λ risen. IsPass risen (facts_of table.old) (facts_of table.new)
-        (map routine_of funcs.now) flows.now (length flows.now)) }
+// No types of each of so many slots.
+fn no_types(alloc: Global, places: &[Place<'_>]) -> Result<Vec<TypeSet>, NoMemory>
+    ensures { IfOk result (λ v. v.items ≡ are_none places.now) }
+{
+    let mut sets = Vec::new(alloc);
+    for _place in places {
+        sets.push(TypeSet::NONE)?;
+    }
+    Ok(sets)
+}
+
+// Takes in what flows into each slot, and whether a type was new.
+fn pass(sets: &mut Vec<TypeSet>, inflows: &[Inflow]) -> bool
+    ensures { IsPass result sets.old.items sets.new.items inflows.now (length inflows.now) }
 {
     let mut risen = false;
-    for f in flows {
-        if step(table, funcs, *f)? {
+    for f in inflows {
+        if step(sets, *f) {
             risen = true;
         }
     }
-    Ok(risen)
+    risen
 }
 
-// Takes in the types of a flow, and whether one was new.
-fn step<'a>(table: &mut Table<'a>, funcs: &[Func], f: Flow<'a>) -> Result<bool, NoMemory>
-    ensures { IfOk result (λ risen. IsStep risen (facts_of table.old) (facts_of table.new)
-        (map routine_of funcs.now) (flow_of f.entry)) }
+// Takes in what flows into a slot, and whether a type was new.
+fn step(sets: &mut Vec<TypeSet>, f: Inflow) -> bool
+    ensures { IsStep result sets.old.items sets.new.items f }
 {
-    let types = source_types(table, funcs, f.from);
-    if types.is_within(table.get(f.func, f.slot)) {
-        return Ok(false);
+    let types = types_from(sets, f.from);
+    match sets.get(f.to) {
+        None => false,
+        Some(before) => {
+            if types.is_within(*before) {
+                return false;
+            }
+            sets[f.to] = before.join(types);
+            true
+        }
     }
-    table.raise(f.func, f.slot, types)?;
-    Ok(true)
 }
 
 // The types of a source.
-fn source_types(table: &Table<'_>, funcs: &[Func], from: Source<'_>) -> TypeSet
-    ensures { result ≡ source_types (facts_of table.now) (map routine_of funcs.now)
-        (source_of from.entry) }
+fn types_from(sets: &[TypeSet], from: Source) -> TypeSet
+    ensures { result ≡ types_from sets.now from }
 {
     match from {
-        Source::Given(ty) => TypeSet::just(ty),
-        Source::Value(func, e) => types_in(table, funcs, func, e),
-        Source::Each(func, e) => types_in(table, funcs, func, e).members(),
+        Source::Fixed(types) => types,
+        Source::Slot(via, k) => via.through(type_at(sets, k)),
     }
 }

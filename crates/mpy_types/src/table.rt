@@ -1,63 +1,43 @@
 //! A table of facts.
-ghost use Rattle.std.specs.Prelude.{◌≡◌, [], OnOk};
-ghost use Rattle.mpy_tree.specs.SetTypes.{same_slot, FactSet};
-ghost use Rattle.mpy_types.specs.Passes.{raised};
-ghost use Rattle.mpy_types.specs.Tables.{facts_of, facts_in, slot_of};
+ghost use Rattle.std.specs.Prelude.{◌≡◌};
+ghost use Rattle.mpy_types.specs.Seen.{slot_of};
+ghost use Rattle.mpy_types.specs.Tables.{facts_of, type_at};
 
 use crate::flow::Target;
 use crate::known::Known;
-use mpy_tree::{Name, NoMemory, TypeSet};
-use std::alloc::Global;
+use crate::scope::Scopes;
+use mpy_tree::{Name, TypeSet};
 
-/// Types of a slot.
-#[derive(Clone, Copy, Drop)]
-pub struct Row<'a> {
-    pub func: usize,
-    pub slot: Target<'a>,
-    pub types: TypeSet,
-}
-
-/// Facts: what several rows say of one slot holds together.
+/// The types of each slot, by its number.
 #[derive(Drop)]
-pub struct Table<'a> {
-    pub rows: Vec<Row<'a>>,
+pub struct Table<'s, 'a> {
+    pub scopes: &'s Scopes<'a>,
+    pub sets: Vec<TypeSet>,
 }
 
-impl<'a> Table<'a> {
-    /// No facts.
-    pub fn new(alloc: Global) -> Table<'a>
-        ensures { result.rows.items ≡ [] }
-    {
-        Table {
-            rows: Vec::new(alloc),
-        }
-    }
-
+impl Table<'_, '_> {
     /// The types of a slot.
     pub fn get(&self, func: usize, slot: Target<'_>) -> TypeSet
         ensures { result ≡ facts_of self.now func (slot_of slot.entry) }
     {
-        let mut types = TypeSet::NONE;
-        for row in &self.rows {
-            if row.func == func && row.slot.is(slot) {
-                types = types.join(row.types);
-            }
+        match self.scopes.number(func, slot) {
+            None => TypeSet::NONE,
+            Some(k) => type_at(&self.sets, k),
         }
-        types
-    }
-
-    /// A slot gets further types.
-    #[tactic(auto, using(crate::proofs::Looking::facts_pushed))]
-    pub fn raise(&mut self, func: usize, slot: Target<'a>, types: TypeSet) -> Result<(), NoMemory>
-        ensures { OnOk result (facts_of self.new ≡ raised (facts_of self.old) func
-            (slot_of slot.entry) types) }
-    {
-        self.rows.push(Row { func, slot, types })?;
-        Ok(())
     }
 }
 
-impl Known for Table<'_> {
+/// The types at a number, which are none beyond the last.
+pub fn type_at(sets: &[TypeSet], k: usize) -> TypeSet
+    ensures { result ≡ type_at sets.now k }
+{
+    match sets.get(k) {
+        None => TypeSet::NONE,
+        Some(types) => *types,
+    }
+}
+
+impl Known for Table<'_, '_> {
     ghost gives = { facts_of };
 
     fn local(&self, func: usize, x: &Name) -> TypeSet {

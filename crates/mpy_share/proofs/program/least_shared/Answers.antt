@@ -1,4 +1,4 @@
-use Rattle.std.proofs.Common.{◌≡◌, map, drop, sym, ap, ◌∙◌}
+use Rattle.std.proofs.Common.{◌∙◌}
 use Rattle.mpy_tree.specs.Typings.{set_of}
 use Rattle.mpy_tree.specs.Rules.{single}
 use Rattle.mpy_share.proofs.Leasts.{shared_more}

@@ -1,7 +1,7 @@
 use Rattle.std.proofs.Common.{map, ◌∙◌}
 use Rattle.mpy_tree.specs.View.{routine_of}
 use Rattle.mpy_tree.specs.Names.{has_arity_fault}
-use Rattle.mpy_types.specs.Views.{site_of}
+use Rattle.mpy_types.specs.Seen.{site_of}
 use Rattle.mpy_types.proofs.Soonest.{lines_more}
 use Rattle.mpy_types.proofs.faults.arity_line_in.Goals as goal
 

@@ -3,7 +3,7 @@ use Rattle.mpy_tree.specs.View.{routine_of, block_of}
 use Rattle.mpy_tree.specs.Sites.{sites}
 use Rattle.mpy_tree.specs.Names.{has_arity_fault, lines_of}
 use Rattle.mpy_tree.specs.Leasts.{lesser, least}
-use Rattle.mpy_types.specs.Views.{site_of}
+use Rattle.mpy_types.specs.Seen.{site_of}
 use Rattle.mpy_types.proofs.faults.arity_line_in.Given as goal
 
 abbrev pub invariant-loop-s : goal.invariant-loop-s

@@ -2,7 +2,7 @@ use Rattle.std.proofs.Common.{◌≡◌, map, drop}
 use Rattle.std.specs.List.{list_any}
 use Rattle.mpy_tree.specs.View.{routine_of}
 use Rattle.mpy_tree.specs.Names.{is_arity_fault, has_arity_fault}
-use Rattle.mpy_types.specs.Views.{site_of, node_of}
+use Rattle.mpy_types.specs.Seen.{site_of, node_of}
 use Rattle.mpy_types.proofs.faults.has_arity_fault.Given as goal
 
 abbrev pub invariant-loop-n : goal.invariant-loop-n

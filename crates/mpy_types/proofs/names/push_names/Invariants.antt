@@ -1,7 +1,7 @@
 use Rattle.std.proofs.Common.{◌≡◌, ◌++◌, map, drop}
 use Rattle.std.specs.List.{flat_map}
 use Rattle.mpy_tree.specs.Locals.{site_names, node_names}
-use Rattle.mpy_types.specs.Views.{name_of, site_of, node_of}
+use Rattle.mpy_types.specs.Seen.{name_of, site_of, node_of}
 use Rattle.mpy_types.proofs.names.push_names.Given as goal
 
 abbrev pub invariant-loop-n : goal.invariant-loop-n

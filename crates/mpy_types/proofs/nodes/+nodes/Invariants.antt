@@ -1,7 +1,7 @@
 use Rattle.std.proofs.Common.{◌≡◌, ◌++◌, map, drop}
 use Rattle.mpy_tree.specs.View.{term_of, terms, terms_of}
 use Rattle.mpy_tree.specs.Sites.{all_nodes}
-use Rattle.mpy_types.specs.Views.{node_of}
+use Rattle.mpy_types.specs.Seen.{node_of}
 use Rattle.mpy_types.proofs.nodes.+nodes.Given as goal
 
 -- with the nodes of the expressions that are left, the nodes so far are those of all

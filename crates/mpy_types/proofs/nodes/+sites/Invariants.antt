@@ -1,7 +1,7 @@
 use Rattle.std.proofs.Common.{◌≡◌, ◌++◌, map, drop}
 use Rattle.mpy_tree.specs.View.{statement_of, branch_of, block, branches, block_of, branches_of}
 use Rattle.mpy_tree.specs.Sites.{sites, in_arms}
-use Rattle.mpy_types.specs.Views.{site_of}
+use Rattle.mpy_types.specs.Seen.{site_of}
 use Rattle.mpy_types.proofs.nodes.+sites.Given as goal
 
 -- with the statements that are left, those so far are all

@@ -1,4 +1,4 @@
-use Rattle.std.proofs.Common.{◌≡◌, [], Bool, map, if◌then◌else◌, sym, ap, ◌∙◌}
+use Rattle.std.proofs.Common.{[], Bool, map, if◌then◌else◌, sym, ap, ◌∙◌}
 use Rattle.std.specs.List.{flat_map}
 use Rattle.mpy_tree.specs.View.{term_of, block_of, routine_of}
 use Rattle.mpy_tree.specs.Leasts.{least}
