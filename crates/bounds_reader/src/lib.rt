@@ -3,11 +3,23 @@
 
 mod bounds;
 mod bounds_error;
+mod building;
+mod file;
+mod foreign;
+mod items;
+mod lines;
 mod params;
+mod place;
+mod ranges;
+mod reading;
+mod scan;
+mod words;
 
 pub use bounds::Bounds;
 pub use bounds_error::BoundsError;
 pub use params::{Param, Params};
+pub use reading::read_bounds;
+pub use scan::{literal_at, signed_at};
 use std::alloc::AllocError;
 
 /// Want of memory, where a call has no other refusal.

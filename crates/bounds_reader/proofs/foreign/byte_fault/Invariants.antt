@@ -1,0 +1,8 @@
+use Rattle.std.proofs.Common.{◌≡◌, ◌+◌, drop, map}
+use Rattle.bounds_reader.specs.Files.{first_line, has_faulty_byte}
+use Rattle.bounds_reader.proofs.foreign.byte_fault.Given as goal
+
+abbrev pub invariant-loop-i : goal.invariant-loop-i
+invariant-loop-i l =
+    first_line has_faulty_byte (l.i + 1) (map (λ x. x.now) (drop l.i l.lines))
+    ≡ first_line has_faulty_byte 1 (map (λ x. x.now) l.lines)
