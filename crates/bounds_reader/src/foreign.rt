@@ -1,8 +1,8 @@
 //! Bytes that no source may have outside comments.
 ghost use Rattle.std.specs.Prelude.{◌≡◌, true, ◌+◌, ◌<◌, ◌^◌, length, map};
 ghost use Rattle.mpy_lexer.specs.PhysicalLines.{is_line_feed_next, is_allowed};
-ghost use Rattle.bounds_reader.specs.Files.{has_faulty_byte, first_line};
-ghost use Rattle.bounds_reader.specs.Modes.{allows, mode_behind};
+ghost use Rattle.bounds_reader.specs.Files.{first_line};
+ghost use Rattle.bounds_reader.specs.Modes.{allows, mode_behind, has_fault_from};
 
 /// What the bytes at a place of a line belong to.
 #[derive(Clone, Copy)]
@@ -73,8 +73,9 @@ impl Mode {
 }
 
 // Whether a byte of the line may not stand there.
+#[tactic(auto, unfolding(crate::specs::Modes::has_fault_from))]
 fn has_faulty_byte(line: &[u8]) -> bool
-    ensures { result ≡ has_faulty_byte line.now }
+    ensures { result ≡ has_fault_from Mode.Plain line.now }
 {
     let mut mode = Mode::Plain;
     for (i, byte) in line.iter().enumerate() {
@@ -89,7 +90,7 @@ fn has_faulty_byte(line: &[u8]) -> bool
 /// The first line with such a byte, counted from 1.
 pub(crate) fn byte_fault(lines: &[&[u8]]) -> Option<u32>
     requires { length lines.now < 2 ^ 31 }
-    ensures { result ≡ first_line has_faulty_byte 1 (map (λ l. l.now) lines.now) }
+    ensures { result ≡ first_line (has_fault_from Mode.Plain) 1 (map (λ l. l.now) lines.now) }
 {
     for (i, line) in lines.iter().enumerate() {
         if has_faulty_byte(line) {
