@@ -1,5 +1,6 @@
 -- Lines and the items that they spell, one line after another.
-use Rattle.std.proofs.Common.{◌≡◌, ◌<◌, ◌≤◌, ◌+◌, ℕ, zero, suc, Bool, true, false, List, [], ◌∷◌, ◌++◌, length, Option, None, Some, refl, sym, ap, subst, ◌∙◌, append_assoc, append-nil, add-zero, arith}
+use Rattle.std.proofs.Common.{◌≡◌, ◌<◌, ◌≤◌, ◌+◌, ℕ, zero, suc, Bool, true, false, List, [], ◌∷◌, ◌++◌, length, Option, None, Some, refl, sym, ap, subst, ◌∙◌, append_assoc, append-nil, add-zero, map, take, drop, get_or, arith}
+use Rattle.std.proofs.lemmas.List.{take-append-drop, map-append, drop_more, length-map, length-take-le}
 use Rattle.bounds_reader.specs.declared.place.Place.{Place}
 use Rattle.bounds_reader.specs.declared.place.Place.TheVariants as place
 use Rattle.bounds_reader.specs.declared.file.File.{File}
@@ -7,7 +8,7 @@ use Rattle.bounds_reader.specs.Words.{carries_nothing}
 use Rattle.bounds_reader.specs.Items.{Item, next, SpellsItem}
 use Rattle.bounds_reader.specs.Reading.{item_at}
 use Rattle.bounds_reader.specs.Files.{On, on, BoundsFile, SpellItems, no_lines, no_words, an_item, items_of, place_behind, IsUnexpected, HasSyntaxFault, unexpected, missing}
-use Rattle.bounds_reader.specs.Views.{said, seen, file_view, is_whole, HasOrder, IsTaken}
+use Rattle.bounds_reader.specs.Views.{said, seen, file_view, is_whole, HasOrder, AreDue, IsTaken}
 use Rattle.bounds_reader.proofs.ItemLaws.{item_takes, item_again}
 
 pub nothing_taken : (f : File) (n : ℕ) (line : List ℕ) → carries_nothing line ≡ true → HasOrder f → IsTaken f f n line
@@ -85,3 +86,21 @@ whole_said place.Param f h = refl
 
 pub whole_file : (ls : List (List ℕ)) (f : File) → IsFileOf ls f → is_whole f.due ≡ true → SpellItems place.Width 1 ls (items_of (file_view f))
 whole_file ls f so_far h = subst (SpellItems place.Width 1 ls) (whole_said f.due (file_view f) h) so_far.spelled
+
+pub start_file : (f : File) → f.due ≡ place.Width → f.params.items ≡ [] → IsFileOf [] f
+start_file f due empty =
+    let none : seen f ≡ [] = ap (λ p. said p (file_view f)) due in
+    record {
+      spelled = subst (SpellItems place.Width 1 []) (sym none) (no_lines place.Width 1);
+      due = due ∙ ap (place_behind place.Width) (sym none);
+      order = subst (λ p. AreDue p f.params.items) (sym due) empty;
+    }
+
+-- the lines before one, and those behind it
+pub cut_at : {X : Type 0} (f : X → List ℕ) (xs : List X) (i : ℕ) (d : X) → i < length xs → map f xs ≡ map f (take i xs) ++ f (get_or xs i d) ∷ map f (drop (i + 1) xs)
+cut_at f xs i d h =
+    ap (map f) (sym (take-append-drop i xs)) ∙ map-append f (take i xs) (drop i xs)
+    ∙ ap (λ t. map f (take i xs) ++ map f t) (drop_more xs i d h)
+
+pub length_front : {X : Type 0} (f : X → List ℕ) (xs : List X) (i : ℕ) → i ≤ length xs → length (map f (take i xs)) ≡ i
+length_front f xs i h = length-map (take i xs) f ∙ length-take-le i xs h
