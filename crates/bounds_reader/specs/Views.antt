@@ -1,5 +1,5 @@
 -- What the code holds of a file, as its lines say it.
-use Rattle.std.specs.Prelude.{◌≡◌, ℕ, ℤ, pos, ◌≤ℤ◌, Bool, true, false, List, [], ◌∷◌, ◌++◌, map}
+use Rattle.std.specs.Prelude.{◌≡◌, ℕ, ◌≤◌, ℤ, pos, nat_abs, Bool, true, false, List, [], ◌∷◌, ◌++◌, map}
 use Rattle.bounds_reader.specs.declared.place.Place.{Place}
 use Rattle.bounds_reader.specs.declared.place.Place.TheVariants as place
 use Rattle.bounds_reader.specs.declared.items.Form.{Form as ReadForm}
@@ -92,12 +92,32 @@ abbrev pub IsPassed : File → File → ℕ → List ℕ → Bool → Type 0
 IsPassed old new n line true = IsTaken old new n line
 IsPassed old new n line false = IsUnexpected old.due line
 
+abbrev pub IsNatural : ℤ → Type 0
+IsNatural z = pos (nat_abs z) ≡ z
+
 -- lengths that aren't below 0
 abbrev pub HasLengths : Form → Type 0
 HasLengths (int low high) = Unit {0}
 HasLengths bool = Unit {0}
-HasLengths (list least most low high) = (pos 0 ≤ℤ least) × (pos 0 ≤ℤ most)
-HasLengths (text least most alphabet) = (pos 0 ≤ℤ least) × (pos 0 ≤ℤ most)
+HasLengths (list least most low high) = IsNatural least × IsNatural most
+HasLengths (text least most alphabet) = IsNatural least × IsNatural most
+
+abbrev pub HaveLengths : List (On ParamLine) → Type 0
+HaveLengths [] = Unit {0}
+HaveLengths (p ∷ ps) = HasLengths p.value.form × HaveLengths ps
+
+-- a natural number from the least to the most
+pub record IsWithin (low high : ℕ) (z : ℤ) : Type 0 where
+  pub value : IsNatural z
+  pub least : low ≤ nat_abs z
+  pub most : nat_abs z ≤ high
+
+-- the limits are in their ranges
+pub record AreWithin (f : BoundsFile) : Type 0 where
+  pub width : IsWithin 3 16 f.width.value
+  pub turns : IsWithin 1 32 f.turns.value
+  pub depth : IsWithin 1 8 f.depth.value
+  pub cap : IsWithin 1 16 f.cap.value
 
 -- the lines have a fault of syntax there, or memory lacked
 abbrev pub IsMisspelled : List (List ℕ) → BoundsError → Type 0

@@ -1,8 +1,8 @@
 //! Bounds made of what a file says.
-ghost use Rattle.std.specs.Prelude.{◌≡◌, map, None, All, IfOk};
+ghost use Rattle.std.specs.Prelude.{◌≡◌, map, None, IfOk};
 ghost use Rattle.bounds_reader.specs.Forms.{form_of};
 ghost use Rattle.bounds_reader.specs.Files.{Says, SayLimits, limit_fault, range_fault};
-ghost use Rattle.bounds_reader.specs.Views.{form_view, param_lines, file_view, HasLengths};
+ghost use Rattle.bounds_reader.specs.Views.{form_view, param_lines, file_view, HasLengths, HaveLengths, AreWithin};
 
 use crate::NoMemory;
 use crate::bounds::Bounds;
@@ -44,7 +44,7 @@ fn param_from(form: Form) -> Param
 }
 
 fn params_from(alloc: Global, lines: Vec<ParamLine>) -> Result<Vec<Param>, NoMemory>
-    requires { All (λ p. HasLengths p.value.form) (param_lines lines.items) }
+    requires { HaveLengths (param_lines lines.items) }
     ensures { IfOk result (λ v. map form_of v.items ≡ map (λ p. p.value.form) (param_lines lines.items)) }
 {
     let mut params = Vec::new(alloc);
@@ -57,7 +57,7 @@ fn params_from(alloc: Global, lines: Vec<ParamLine>) -> Result<Vec<Param>, NoMem
 }
 
 fn limits_from(file: &File) -> Limits
-    requires { range_fault (file_view file.now) ≡ None }
+    requires { AreWithin (file_view file.now) }
     ensures { SayLimits (file_view file.now) result }
 {
     Limits {

@@ -1,2 +1,2 @@
-use Rattle.bounds_reader.proofs.FileLaws.{whole_file}
+use Rattle.bounds_reader.proofs.RangeLaws.{within_limits}
 use Rattle.bounds_reader.proofs.place.Place.next.Goals as goal
