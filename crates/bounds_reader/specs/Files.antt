@@ -123,13 +123,17 @@ pub record Says (f : BoundsFile) (b : Bounds) : Type 0 where
   pub entry_line : f.entry.line ≡ b.entry_line
   pub params : map (λ p. p.value.form) f.params ≡ map form_of b.params
 
--- the text spells the bounds, and nothing refuses it
-pub record IsBounds (bytes : List ℕ) (b : Bounds) : Type 0 where
+-- the text spells the file, and nothing refuses it
+pub record IsRead (bytes : List ℕ) (f : BoundsFile) : Type 0 where
   pub no_byte_fault : byte_fault bytes ≡ None
+  pub spelled : SpellsFile bytes f
+  pub no_limit_fault : limit_fault f ≡ None
+  pub no_range_fault : range_fault f ≡ None
+
+-- the text spells the bounds
+pub record IsBounds (bytes : List ℕ) (b : Bounds) : Type 0 where
   pub file : BoundsFile
-  pub spelled : SpellsFile bytes file
-  pub no_limit_fault : limit_fault file ≡ None
-  pub no_range_fault : range_fault file ≡ None
+  pub read : IsRead bytes file
   pub says : Says file b
 
 -- the place of the next item
@@ -178,16 +182,9 @@ abbrev pub IsAnswered : List ℕ → BoundsError → Type 0
 IsAnswered bytes (bounds_error.Fault c line) = IsRefused bytes c line
 IsAnswered bytes bounds_error.NoMemory = Unit {0}
 
--- two bounds are the same
-pub record SameBounds (a b : Bounds) : Type 0 where
-  pub limits : a.limits ≡ b.limits
-  pub entry : a.entry ≡ b.entry
-  pub entry_line : a.entry_line ≡ b.entry_line
-  pub params : a.params ≡ b.params
-
 -- the bounds are given, unless memory lacked
 abbrev pub IsGiven : Bounds → Result Bounds BoundsError → Type 0
-IsGiven b (Ok a) = SameBounds a b
+IsGiven b (Ok a) = a ≡ b
 IsGiven b (Err (bounds_error.Fault c line)) = ⊥
 IsGiven b (Err bounds_error.NoMemory) = Unit {0}
 

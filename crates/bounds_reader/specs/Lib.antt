@@ -1,3 +1,4 @@
+pub mod BoundsLaws
 pub mod Files
 pub mod Forms
 pub mod Items

@@ -7,6 +7,7 @@ mod building;
 mod file;
 mod foreign;
 mod items;
+mod laws;
 mod lines;
 mod params;
 mod place;
@@ -17,6 +18,7 @@ mod words;
 
 pub use bounds::Bounds;
 pub use bounds_error::BoundsError;
+pub use laws::{not_read_and_refused, one_bounds, one_refusal, read_or_refused};
 pub use params::{Param, Params};
 pub use reading::read_bounds;
 pub use scan::{literal_at, signed_at};

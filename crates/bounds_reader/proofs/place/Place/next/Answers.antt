@@ -1,2 +1,2 @@
-use Rattle.bounds_reader.proofs.RangeLaws.{within_limits}
+use Rattle.bounds_reader.proofs.Judged.{one_bounds}
 use Rattle.bounds_reader.proofs.place.Place.next.Goals as goal
