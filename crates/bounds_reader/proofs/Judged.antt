@@ -1,5 +1,5 @@
 -- Each text spells bounds or is refused, for one cause at one line.
-use Rattle.std.proofs.Common.{◌≡◌, ◌<◌, ◌≤◌, ◌+◌, ℕ, zero, suc, Bool, true, false, cond, List, [], ◌∷◌, ◌++◌, length, map, Option, None, Some, Result, Ok, Err, refl, sym, ap, subst, ◌∙◌, ℤ, pos, inl, inr, length-append, add-zero, arith}
+use Rattle.std.proofs.Common.{IfErr, OnOk, ◌≡◌, ◌<◌, ◌≤◌, ◌+◌, ℕ, zero, suc, Bool, true, false, cond, List, [], ◌∷◌, ◌++◌, length, map, Option, None, Some, Result, Ok, Err, refl, sym, ap, subst, ◌∙◌, ℤ, pos, inl, inr, length-append, add-zero, arith}
 use Rattle.std.specs.Prelude.{◌⊎◌, nat_abs}
 use Rattle.std.proofs.lemmas.Bool.{cases_Bool, cases_lt, false≢true}
 use Rattle.std.proofs.lemmas.List.{length-map}
@@ -16,8 +16,11 @@ use Rattle.bounds_reader.specs.Forms.{Form, int, bool, list, text, form_of}
 use Rattle.bounds_reader.specs.Words.{carries_nothing}
 use Rattle.bounds_reader.specs.Items.{Item, width, turns, depth, cap, entry, param, next, place_of, SpellsItem}
 use Rattle.bounds_reader.specs.Reading.{item_at}
-use Rattle.bounds_reader.specs.Files.{On, on, ParamLine, BoundsFile, text_lines, byte_fault, SpellItems, no_lines, no_words, an_item, param_items, items_of, limit_fault, range_fault, place_behind, IsUnexpected, HasSyntaxFault, unexpected, missing, SayLimits, Says, IsRead, IsBounds, IsRefused, by_byte, by_syntax, by_limit, by_range, IsAnswered, IsGiven, IsRefusal}
-use Rattle.bounds_reader.specs.Views.{HaveLengths, HasLengths, AreWithin}
+use Rattle.bounds_reader.specs.Files.{On, on, ParamLine, BoundsFile, text_lines, has_faulty_byte, first_line, byte_fault, SpellItems, no_lines, no_words, an_item, param_items, items_of, limit_fault, range_fault, place_behind, IsUnexpected, HasSyntaxFault, unexpected, missing, SayLimits, Says, IsRead, IsBounds, IsRefused, by_byte, by_syntax, by_limit, by_range, IsAnswered, IsGiven, IsRefusal}
+use Rattle.bounds_reader.specs.declared.foreign.Mode.TheVariants.{Plain}
+use Rattle.bounds_reader.specs.Modes.{has_fault_from}
+use Rattle.bounds_reader.specs.Views.{HaveLengths, HasLengths, AreWithin, IsMisspelled}
+use Rattle.bounds_reader.proofs.Modes.{same_first}
 use Rattle.bounds_reader.specs.BoundsLaws.{OneBounds, IsJudged, ReadOrRefused, NotReadAndRefused, OneRefusal}
 use Rattle.bounds_reader.proofs.ItemLaws.{item_takes}
 use Rattle.bounds_reader.proofs.FileLaws.{none_expected}
@@ -173,9 +176,10 @@ params_only : (is : List (On Item)) → InOrder place.Param is → (ps : List (O
 params_only [] h = ([], refl)
 params_only (i ∷ is) h =
     let first = a_param i.value h.0 in
-    let more = params_only is h.1 in
-    (on i.line (record { name = first.0; form = first.1 }) ∷ more.0,
-    ap (λ v. on i.line v ∷ is) first.2 ∙ ap (λ (js : List (On Item)). on i.line (param first.0 first.1) ∷ js) more.1)
+    let more = params_only is h.1 in (
+      on i.line (record { name = first.0; form = first.1 }) ∷ more.0,
+      ap (λ v. on i.line v ∷ is) first.2 ∙ ap (λ (js : List (On Item)). on i.line (param first.0 first.1) ∷ js) more.1,
+    )
 
 whole : (is : List (On Item)) → InOrder place.Width is → 5 ≤ length is → (f : BoundsFile) × (is ≡ items_of f)
 whole [] h few = absurd (omega arith)
@@ -189,9 +193,10 @@ whole (a ∷ b ∷ c ∷ d ∷ e ∷ ps) h few =
     let k = a_depth c.value h.1.1.0 in
     let m = a_cap d.value h.1.1.1.0 in
     let x = an_entry e.value h.1.1.1.1.0 in
-    let more = params_only ps h.1.1.1.1.1 in
-    (record { width = on a.line w.0; turns = on b.line t.0; depth = on c.line k.0; cap = on d.line m.0; entry = on e.line x.0; params = more.0 },
-    five a b c d e ps (width w.0) (turns t.0) (depth k.0) (cap m.0) (entry x.0) (param_items more.0) w.1 t.1 k.1 m.1 x.1 more.1)
+    let more = params_only ps h.1.1.1.1.1 in (
+      record { width = on a.line w.0; turns = on b.line t.0; depth = on c.line k.0; cap = on d.line m.0; entry = on e.line x.0; params = more.0 },
+      five a b c d e ps (width w.0) (turns t.0) (depth k.0) (cap m.0) (entry x.0) (param_items more.0) w.1 t.1 k.1 m.1 x.1 more.1,
+    )
   where
     five : (a b c d e : On Item) (ps : List (On Item)) (v w x y z : Item) (qs : List (On Item)) → a.value ≡ v → b.value ≡ w → c.value ≡ x → d.value ≡ y → e.value ≡ z → ps ≡ qs
         → a ∷ b ∷ c ∷ d ∷ e ∷ ps ≡ on a.line v ∷ on b.line w ∷ on c.line x ∷ on d.line y ∷ on e.line z ∷ qs
@@ -219,19 +224,21 @@ some_bounds : (f : BoundsFile) → limit_fault f ≡ None → range_fault f ≡ 
 some_bounds f l r =
     let w = are_within f r in
     let limits : Limits = limits_of (nat_abs f.width.value, nat_abs f.turns.value, nat_abs f.depth.value, nat_abs f.cap.value)
-        ((w.width.least, w.width.most), (w.turns.least, w.turns.most), (w.depth.least, w.depth.most), (w.cap.least, w.cap.most)) in
+    ((w.width.least, w.width.most), (w.turns.least, w.turns.most), (w.depth.least, w.depth.most), (w.cap.least, w.cap.most)) in
     let said : SayLimits f limits = record { width = sym w.width.value; turns = sym w.turns.value; depth = sym w.depth.value; cap = sym w.cap.value } in
     let params : List Param = map (λ p. form_back p.value.form) f.params in
-    let same = forms_again f.params (file_lengths f r) in
-    (record {
-      limits = limits;
-      entry = f.entry.value;
-      entry_line = f.entry.line;
-      params = params;
-      short_entry = (within_limits f l).0;
-      few_params = few_params f params l same;
-      ranges = params_in_range f limits params r said same;
-    }, record { limits = said; entry = refl; entry_line = refl; params = sym same })
+    let same = forms_again f.params (file_lengths f r) in (
+      record {
+        limits = limits;
+        entry = f.entry.value;
+        entry_line = f.entry.line;
+        params = params;
+        short_entry = (within_limits f l).0;
+        few_params = few_params f params l same;
+        ranges = params_in_range f limits params r said same;
+      },
+      record { limits = said; entry = refl; entry_line = refl; params = sym same },
+    )
 
 by_ranges : (bytes : List ℕ) (f : BoundsFile) (o : Option ℕ) → byte_fault bytes ≡ None → SpellItems place.Width 1 (text_lines bytes) (items_of f) → limit_fault f ≡ None → range_fault f ≡ o → IsJudged bytes
 by_ranges bytes f (Some line) e s l r = inr (cause.BoundRange, line, by_range f line e s l r)
@@ -262,3 +269,21 @@ by_bytes bytes None e = by_lines bytes e (lines_read place.Width 1 (text_lines b
 
 pub read_or_refused : ReadOrRefused
 read_or_refused bytes = by_bytes bytes (byte_fault bytes) refl
+
+-- the steps of reading, from what each finds to the answer
+
+pub no_faulty_byte : (bytes : List ℕ) (ls : List (List ℕ)) (o : Option ℕ) → ls ≡ text_lines bytes → o ≡ first_line (has_fault_from Plain) 1 ls → o ≡ byte_fault bytes
+no_faulty_byte bytes ls o e f = f ∙ same_first 1 ls ∙ ap (first_line has_faulty_byte 1) e
+
+pub misspelled_answer : (bytes : List ℕ) (ls : List (List ℕ)) (e : BoundsError) → ls ≡ text_lines bytes → byte_fault bytes ≡ None → IsMisspelled ls e → IsAnswered bytes e
+misspelled_answer bytes ls bounds_error.NoMemory is none m = tt
+misspelled_answer bytes ls (bounds_error.Fault c line) is none m =
+    subst (λ d. IsRefused bytes d line) (sym m.0) (by_syntax line none (subst (λ xs. HasSyntaxFault xs line) is m.1))
+
+pub misspelled_result : {F : Type 0} (bytes : List ℕ) (ls : List (List ℕ)) (r : Result F BoundsError) → ls ≡ text_lines bytes → byte_fault bytes ≡ None → IfErr r (IsMisspelled ls) → IfErr r (IsAnswered bytes)
+misspelled_result bytes ls (Ok f) is none m = tt
+misspelled_result bytes ls (Err e) is none m = misspelled_answer bytes ls e is none m
+
+pub on_ok : {F : Type 0} (r : Result F BoundsError) (P : Type 0) → P → OnOk r P
+on_ok (Ok f) P p = p
+on_ok (Err e) P p = tt

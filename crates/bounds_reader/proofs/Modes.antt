@@ -88,7 +88,7 @@ fine_piece : (p : Piece) (text : List ℕ) → IsOutside p.sort → 0 < p.len �
 fine_piece p text same some h =
     let none : is_foreign p.sort (take p.len text) ≡ false = same (take p.len text) ∙ none_foreign (take p.len text) h in
     let main : has_fault_from Plain text ≡ has_fault_from Plain (drop p.len text) =
-        ap (has_fault_from Plain) (sym (take-append-drop p.len text)) ∙ all_fine (take p.len text) (drop p.len text) h in
+    ap (has_fault_from Plain) (sym (take-append-drop p.len text)) ∙ all_fine (take p.len text) (drop p.len text) h in
     (rw none main, some)
 
 -- white space
@@ -130,7 +130,7 @@ white_piece : (c : ℕ) (rest : List ℕ) (p : Piece) → is_white c ≡ true �
 white_piece c rest p h len same =
     let n = prefix_len is_white (c ∷ rest) in
     let main = ap (has_fault_from Plain) (sym (take-append-drop n (c ∷ rest)))
-        ∙ white_bytes (take n (c ∷ rest)) (drop n (c ∷ rest)) (prefix_passes is_white (c ∷ rest)) (prefix_stops is_white (c ∷ rest)) in
+    ∙ white_bytes (take n (c ∷ rest)) (drop n (c ∷ rest)) (prefix_passes is_white (c ∷ rest)) (prefix_stops is_white (c ∷ rest)) in
     let some : 0 < n = rw h (omega arith) in
     (rw (same (take p.len (c ∷ rest)), len) main, omega (arith, len, some))
 
@@ -266,9 +266,9 @@ unfolding number_at
 number_piece c rest h =
     let text = c ∷ rest in
     let digits : (list_all is_ascii_digit (take (digits_len text) text) ≡ true) × (0 < digits_len text) =
-        cond_both (c == 48) 1 (prefix_len is_ascii_digit text) (λ k. (list_all is_ascii_digit (take k text) ≡ true) × (0 < k))
-        (λ zero. (and_from (is_ascii_digit c) true h refl, omega arith))
-        (λ other. (prefix_passes is_ascii_digit text, rw h (omega arith))) in
+    cond_both (c == 48) 1 (prefix_len is_ascii_digit text) (λ k. (list_all is_ascii_digit (take k text) ≡ true) × (0 < k))
+    (λ zero. (and_from (is_ascii_digit c) true h refl, omega arith))
+    (λ other. (prefix_passes is_ascii_digit text, rw h (omega arith))) in
     fine_piece (number_at text) text (number_outside text) digits.1
     (all_so is_ascii_digit fine (take (digits_len text) text) digit_fine digits.0)
 

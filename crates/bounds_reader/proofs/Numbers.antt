@@ -50,6 +50,7 @@ signed_takes (c ∷ rest) x e = elim (cases_Bool (c == 45)) [
         let at_end = negated_takes n.0.0 z.0 n.0.1 z.1 taken.1 in
         let front : c ∷ rest ≡ 45 ∷ (decimal n.0.0 ++ n.0.1) = ap (λ d. d ∷ rest) is ∙ ap (λ (t : List ℕ). 45 ∷ t) taken.0 in
         subst (λ (y : ℤ × List ℕ). (c ∷ rest ≡ signed_decimal y.0 ++ y.1) × (fits_width 32 y.0 ≡ true)) same (front ∙ at_end.0, at_end.1)
+
     unsigned : unsigned_at (c ∷ rest) ≡ Some x → (c ∷ rest ≡ signed_decimal x.0 ++ x.1) × (fits_width 32 x.0 ≡ true)
     unsigned found =
         let n = map_some (λ n. (pos n.0, n.1)) (numeral_at 2147483647 (c ∷ rest)) x found in

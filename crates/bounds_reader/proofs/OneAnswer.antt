@@ -221,8 +221,8 @@ same_said a b x y m n ps qs e f g h = cc
 pub one_meaning : (f : BoundsFile) (a b : Bounds) → Says f a → Says f b → a ≡ b
 one_meaning f a b s t =
     let limits = same_limits a.limits b.limits
-        (same_pos _ _ (sym s.limits.width ∙ t.limits.width)) (same_pos _ _ (sym s.limits.turns ∙ t.limits.turns))
-        (same_pos _ _ (sym s.limits.depth ∙ t.limits.depth)) (same_pos _ _ (sym s.limits.cap ∙ t.limits.cap)) in
+    (same_pos _ _ (sym s.limits.width ∙ t.limits.width)) (same_pos _ _ (sym s.limits.turns ∙ t.limits.turns))
+    (same_pos _ _ (sym s.limits.depth ∙ t.limits.depth)) (same_pos _ _ (sym s.limits.cap ∙ t.limits.cap)) in
     over AreKept bounds_of one_keeping (a.limits, a.entry, a.entry_line, a.params) (b.limits, b.entry, b.entry_line, b.params)
     (same_said _ _ _ _ _ _ _ _ limits (sym s.entry ∙ t.entry) (sym s.entry_line ∙ t.entry_line) (same_params _ _ (sym s.params ∙ t.params)))
     (a.short_entry, a.few_params, a.ranges) (b.short_entry, b.few_params, b.ranges)

@@ -281,8 +281,8 @@ span_takes word x e =
     let first = signed_takes word low.0 low.1 in
     let second = number_takes dots.0 high.0 high.1 in
     let text : word ≡ signed_decimal low.0.0 ++ codes ".." ++ signed_decimal high.0 =
-        first.0 ∙ ap (λ t. signed_decimal low.0.0 ++ t) (dots_take low.0.1 dots.0 dots.1 ∙ ap (λ t. codes ".." ++ t) second.0)
-        ∙ sym (append_assoc (signed_decimal low.0.0) (codes "..") (signed_decimal high.0)) in
+    first.0 ∙ ap (λ t. signed_decimal low.0.0 ++ t) (dots_take low.0.1 dots.0 dots.1 ∙ ap (λ t. codes ".." ++ t) second.0)
+    ∙ sym (append_assoc (signed_decimal low.0.0) (codes "..") (signed_decimal high.0)) in
     subst (λ (y : ℤ × ℤ). (word ≡ signed_decimal y.0 ++ codes ".." ++ signed_decimal y.1) × ((is_short y.0 && is_short y.1) ≡ true)) is
     (text, and_from (is_short low.0.0) (is_short high.0) short.0 second.1)
 
@@ -291,7 +291,7 @@ unfolding span_of
 span_again a b h =
     let both = and_parts (is_short a) (is_short b) h in
     let low : signed_at (signed_decimal a ++ (codes ".." ++ signed_decimal b)) ≡ Some (a, codes ".." ++ signed_decimal b) =
-        signed_again a (codes ".." ++ signed_decimal b) (short_fits a both.0) refl in
+    signed_again a (codes ".." ++ signed_decimal b) (short_fits a both.0) refl in
     rw (append_assoc (signed_decimal a) (codes "..") (signed_decimal b), low, number_again b both.1, both.0) refl
 
 pub span_at_takes : (line : List ℕ) (x : ℤ × ℤ × List ℕ) → span_at line ≡ Some x → BeginsWith line (span_word x.0 x.1) x.2 × ((is_short x.0 && is_short x.1) ≡ true)

@@ -8,7 +8,9 @@ ghost use Rattle.bounds_reader.specs.Views.{form_view, named_view, item_view};
 
 use crate::NoMemory;
 use crate::place::Place;
-use crate::words::{behind_word, carries_nothing, literal_word_at, name_at, number_at, plain_at, span_at};
+use crate::words::{
+    behind_word, carries_nothing, literal_word_at, name_at, number_at, plain_at, span_at,
+};
 use mpy_tree::{Chars, Name};
 use std::alloc::Global;
 
@@ -184,9 +186,7 @@ fn entry_item(alloc: Global, line: &[u8]) -> Result<Option<Item>, NoMemory>
 {
     match entry_line(line) {
         None => Ok(None),
-        Some(word) => Ok(Some(Item::Entry(Name::from_vec(Vec::from_slice(
-            alloc, word,
-        )?)))),
+        Some(word) => Ok(Some(Item::Entry(Name::from_vec(Vec::from_slice(alloc, word)?)))),
     }
 }
 

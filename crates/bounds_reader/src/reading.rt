@@ -1,9 +1,9 @@
 //! Bounds read from their text.
-ghost use Rattle.std.specs.Prelude.{◌≡◌, ◌≤◌, ◌<◌, ◌^◌, ℕ, length, map, IfOk, IfErr};
+ghost use Rattle.std.specs.Prelude.{◌≡◌, ◌≤◌, ◌<◌, ◌^◌, ℕ, None, length, map, OnOk, IfOk, IfErr};
 ghost use Rattle.mpy_tree.specs.declared.refusal.Cause.{Cause as AnyCause};
 ghost use Rattle.bounds_reader.specs.declared.bounds.Bounds.{Bounds as AnyBounds};
 ghost use Rattle.bounds_reader.specs.declared.place.Place.TheVariants as place;
-ghost use Rattle.bounds_reader.specs.Files.{SpellItems, items_of, IsBounds, IsRefused, IsAnswered};
+ghost use Rattle.bounds_reader.specs.Files.{byte_fault, SpellItems, SpellsFile, items_of, IsBounds, IsRefused, IsAnswered};
 ghost use Rattle.bounds_reader.specs.Files.{IsGiven, IsRefusal};
 ghost use Rattle.bounds_reader.specs.Views.{file_view, is_whole, IsMisspelled};
 
@@ -51,18 +51,30 @@ fn file_of(alloc: Global, lines: &[&[u8]]) -> Result<File, BoundsError>
     }
 }
 
+// What a text without faulty bytes says.
+fn file_from(alloc: Global, bytes: &[u8]) -> Result<File, BoundsError>
+    requires { length bytes.now ≤ 1073741824 }
+    ensures spelled { IfOk result (λ f. SpellsFile bytes.now (file_view f)) }
+    ensures bytes { OnOk result (byte_fault bytes.now ≡ None) }
+    ensures refused { IfErr result (IsAnswered bytes.now) }
+{
+    let lines = text_lines(alloc, bytes)?;
+    match byte_fault(&lines) {
+        None => file_of(alloc, &lines),
+        Some(line) => {
+            let cause = Cause::Byte;
+            Err(BoundsError::Fault { cause, line })
+        }
+    }
+}
+
 // One step after another, each over the whole text.
 fn parse(alloc: Global, bytes: &[u8]) -> Result<Bounds, BoundsError>
     requires { length bytes.now ≤ 1073741824 }
     ensures read { IfOk result (IsBounds bytes.now) }
     ensures refused { IfErr result (IsAnswered bytes.now) }
 {
-    let lines = text_lines(alloc, bytes)?;
-    if let Some(line) = byte_fault(&lines) {
-        let cause = Cause::Byte;
-        return Err(BoundsError::Fault { cause, line });
-    }
-    let file = file_of(alloc, &lines)?;
+    let file = file_from(alloc, bytes)?;
     if let Some(line) = limit_fault(&file) {
         let cause = Cause::Limit;
         return Err(BoundsError::Fault { cause, line });

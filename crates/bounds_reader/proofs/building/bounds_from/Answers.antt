@@ -14,7 +14,7 @@ pub invariant_of-result : goal.invariant_of-result
 invariant_of-result c =
     let f = file_view c.args.file in
     let same : map form_of c.from_vec-params.result ≡ map (λ p. p.value.form) f.params =
-        ap (map form_of) c.from_vec-params.ensures ∙ c.in_ok-params_from.ensures in
+    ap (map form_of) c.from_vec-params.ensures ∙ c.in_ok-params_from.ensures in
     record {
       short_entry = (within_limits f c.requires.limits).0;
       few_params = few_params f c.from_vec-params.result c.requires.limits same;

@@ -13,7 +13,7 @@ returns-then-contains c =
     let x = get_or xs i 0 in
     let found : list_any (λ d. d == x) (take i xs) ≡ true = sym c.contains.ensures.value ∙ c.if-contains.true in
     let cut : xs ≡ take i xs ++ x ∷ drop (i + 1) xs =
-        sym (take-append-drop i xs) ∙ ap (λ t. take i xs ++ t) (drop_more xs i 0 c.loop-i-test.true) in
+    sym (take-append-drop i xs) ∙ ap (λ t. take i xs ++ t) (drop_more xs i 0 c.loop-i-test.true) in
     sym (ap has_twice cut ∙ twice_found (take i xs) x (drop (i + 1) xs) found)
 
 pub loop-i-preserved : goal.loop-i-preserved
