@@ -47,14 +47,16 @@ fn push_quoted(text: &Chars, out: &mut Vec<u8>) -> Result<(), NoMemory>
     Ok(())
 }
 
+// Adds numbers with a comma and a space between each two.
+#[tactic(auto, using(crate::proofs::Joining::joined_steps))]
 fn push_numbers(alloc: Global, numbers: &Ints, out: &mut Vec<u8>) -> Result<(), NoMemory>
     ensures { OnOk result (out.new.items ≡ out.old.items ++ commas (map signed_decimal numbers.now)) }
 {
-    for (i, n) in numbers.items().iter().enumerate() {
-        if i > 0 {
-            out.extend_from_slice(b", ")?;
-        }
+    let mut separator: &[u8] = b"";
+    for n in numbers.items() {
+        out.extend_from_slice(separator)?;
         push_number(alloc, *n, out)?;
+        separator = b", ";
     }
     Ok(())
 }
@@ -80,15 +82,16 @@ fn push_value(alloc: Global, value: &Value, out: &mut Vec<u8>) -> Result<(), NoM
 }
 
 /// The values of the case, joined by a comma and a space. Texts stand in single quotes.
+#[tactic(auto, using(crate::proofs::Joining::joined_steps))]
 pub fn print_case(alloc: Global, c: &Case) -> Result<Vec<u8>, NoMemory>
     ensures { IfOk result (λ r. r.items ≡ values_text c.now.values) }
 {
     let mut out = Vec::new(alloc);
-    for (i, value) in c.values.items().iter().enumerate() {
-        if i > 0 {
-            out.extend_from_slice(b", ")?;
-        }
+    let mut separator: &[u8] = b"";
+    for value in c.values.items() {
+        out.extend_from_slice(separator)?;
         push_value(alloc, value, &mut out)?;
+        separator = b", ";
     }
     Ok(out)
 }
