@@ -1,6 +1,5 @@
 -- How many inputs there are, up to a limit.
-use Rattle.std.specs.Prelude.{ℕ, zero, suc, ◌+◌, ◌-◌, ◌*◌, ◌^◌, min, List, [], ◌∷◌, length, sum, map}
-use Rattle.std.specs.List.{range_with_len}
+use Rattle.std.specs.Prelude.{ℕ, zero, suc, ◌≤◌, ◌+◌, ◌-◌, ◌*◌, ◌^◌, min, List, [], ◌∷◌, length}
 use Rattle.bounds_reader.specs.declared.params.Param.{Param}
 use Rattle.bounds_reader.specs.declared.params.Param.TheVariants as param
 use Rattle.input_space.specs.Inputs.{size_of}
@@ -24,3 +23,9 @@ values_count (param.Text least most alphabet) = power_sum (length alphabet) leas
 abbrev pub product_of : List Param → ℕ
 product_of [] = 1
 product_of (p ∷ ps) = values_count p * product_of ps
+
+-- lists and texts have at most 16 elements
+abbrev pub HasShortRows : Param → Type 0
+HasShortRows (param.List least most low high) = most ≤ 16
+HasShortRows (param.Text least most alphabet) = most ≤ 16
+HasShortRows _ = Unit {0}

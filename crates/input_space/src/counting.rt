@@ -1,26 +1,22 @@
 //! How many inputs there are.
-ghost use Rattle.std.specs.Prelude.{◌≡◌, ◌≤◌, ◌+◌, ◌-◌, ◌*◌, ◌^◌, min, true, length, ◌≤ℤ◌};
-ghost use Rattle.bounds_reader.specs.Ranges.{is_in_range};
-ghost use Rattle.bounds_reader.specs.Forms.{form_of};
+ghost use Rattle.std.specs.Prelude.{◌≡◌, ◌≤◌, ◌+◌, ◌-◌, ◌*◌, ◌^◌, min, length};
 ghost use Rattle.input_space.specs.Inputs.{inputs, size_of};
-ghost use Rattle.input_space.specs.Counting.{capped, power_sum, values_count, product_of};
+ghost use Rattle.input_space.specs.Counting.{capped, power_sum, values_count, HasShortRows};
 
 use bounds_reader::{Bounds, Param};
 
 const MOST: u64 = 1_000_000_000_000;
 
 fn capped_sum(a: u64, b: u64) -> u64
-    requires first { a ≤ 1000000000000 }
-    requires second { b ≤ 1000000000000 }
-    ensures { result ≡ capped (a + b) }
+    ensures value { result ≡ capped (a + b) }
+    ensures small { result ≤ 1000000000000 }
 {
-    (a + b).min(MOST)
+    a.saturating_add(b).min(MOST)
 }
 
 fn capped_product(a: u64, b: u64) -> u64
-    requires first { a ≤ 1000000000000 }
-    requires second { b ≤ 1000000000000 }
-    ensures { result ≡ capped (a * b) }
+    ensures value { result ≡ capped (a * b) }
+    ensures small { result ≤ 1000000000000 }
 {
     let product = u128::from(a) * u128::from(b);
     product.min(u128::from(MOST)) as u64
@@ -38,7 +34,6 @@ fn size_of(low: i32, high: i32) -> u64
 
 // How many rows of so many elements each there are.
 fn capped_power(size: u64, exponent: u32) -> u64
-    requires { size ≤ 1000000000000 }
     ensures { result ≡ capped (size ^ exponent) }
 {
     let mut power = 1;
@@ -50,8 +45,7 @@ fn capped_power(size: u64, exponent: u32) -> u64
 
 // How many rows there are with lengths from the least to the most.
 fn capped_rows(size: u64, least: u32, most: u32) -> u64
-    requires size { size ≤ 1000000000000 }
-    requires most { most ≤ 16 }
+    requires { most ≤ 16 }
     ensures { result ≡ capped (power_sum size least (most + 1 - least)) }
 {
     let mut power = capped_power(size, least);
@@ -63,7 +57,11 @@ fn capped_rows(size: u64, least: u32, most: u32) -> u64
     sum
 }
 
-fn capped_values(param: &Param) -> u64 {
+// How many values a parameter has.
+fn capped_values(param: &Param) -> u64
+    requires { HasShortRows param.now }
+    ensures { capped result ≡ capped (values_count param.now) }
+{
     match param {
         Param::Int { low, high } => size_of(*low, *high),
         Param::Bool => 2,
