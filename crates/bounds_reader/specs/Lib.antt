@@ -1,0 +1,10 @@
+pub mod BoundsLaws
+pub mod Files
+pub mod Forms
+pub mod Items
+pub mod Modes
+pub mod Ranges
+pub mod Reading
+pub mod Scanning
+pub mod Views
+pub mod Words

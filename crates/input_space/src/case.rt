@@ -1,0 +1,70 @@
+//! Inputs of a run, and lists of them.
+ghost use Rattle.std.specs.Prelude.{◌≡◌, IfOk, List};
+ghost use Rattle.input_space.specs.declared.case.Case.{Case as AnyCase};
+
+use crate::NoMemory;
+use mpy_tree::Values;
+use std::alloc::Global;
+use std::marker::Model;
+
+/// The arguments of the entry.
+#[derive(Drop)]
+pub struct Case {
+    pub values: Values,
+}
+
+impl Case {
+    /// An equal case.
+    pub fn copy(&self) -> Result<Case, NoMemory>
+        ensures { IfOk result (λ c. c ≡ self.now) }
+    {
+        let values = self.values.copy()?;
+        Ok(Case { values })
+    }
+}
+
+/// A list of cases.
+#[derive(Drop)]
+pub struct Cases {
+    items: Vec<Case>,
+}
+
+impl Model for Cases {
+    ghost Value = { List AnyCase };
+
+    ghost view = { λ a. a.items.items };
+}
+
+impl Cases {
+    /// The list that has these cases.
+    pub fn from_vec(items: Vec<Case>) -> Cases
+        ensures { result ≡ items.items }
+    {
+        Cases { items }
+    }
+
+    /// The cases.
+    pub fn items(&self) -> &[Case]
+        ensures { result.now ≡ self.now }
+    {
+        self.items.as_slice()
+    }
+
+    /// The cases, given back.
+    pub fn into_vec(self) -> Vec<Case>
+        ensures { result.items ≡ self }
+    {
+        self.items
+    }
+
+    /// An equal list.
+    pub fn copy(&self) -> Result<Cases, NoMemory>
+        ensures { IfOk result (λ n. n ≡ self.now) }
+    {
+        let mut copies = Vec::new(*self.items.allocator());
+        for c in &self.items {
+            copies.push(c.copy()?)?;
+        }
+        Ok(Cases { items: copies })
+    }
+}
