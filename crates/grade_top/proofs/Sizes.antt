@@ -22,7 +22,9 @@ double m n a b left right =
 -- a term of a depth has at most half as many literals as the power of two
 literals_by_depth : (e : Term) → 2 * literals_in e ≤ 2 ^ depth e
 literals_by_depth (ast.Int n) = omega arith
-literals_by_depth (ast.Arith op a b) = double (literals_in a) (literals_in b) (depth a) (depth b) (literals_by_depth a) (literals_by_depth b)
+literals_by_depth (ast.Arith op a b) =
+    let none : max (depth b) 0 ≡ depth b = omega arith in
+    rw none (double (literals_in a) (literals_in b) (depth a) (depth b) (literals_by_depth a) (literals_by_depth b))
 literals_by_depth _ = omega arith
 
 second_line : (a b : Bool) (m n : ℕ) → (line_if a m ++ (line_if b n ++ [])) ++ [] ≡ [] → b ≡ false

@@ -1,2 +1,16 @@
+pub mod Blocks
+pub mod Membership
+pub mod Members
+pub mod Fitting
+pub mod Totals
+pub mod Orders
 pub mod Joining
-pub mod Capping
+pub mod Rows
+pub mod Numerals
+pub mod Extents
+pub mod ValueExtents
+pub mod Printed
+pub mod Closing
+pub mod ReadValues
+pub mod OneCase
+pub mod SomeInput

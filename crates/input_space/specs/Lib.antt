@@ -1,6 +1,8 @@
-pub mod Agreement
-pub mod CaseReading
-pub mod Cases
-pub mod Counting
 pub mod Inputs
-pub mod Membership
+pub mod InputLaws
+pub mod Agreement
+pub mod Cases
+pub mod CaseLaws
+pub mod Counts
+pub mod Pieces
+pub mod Readings

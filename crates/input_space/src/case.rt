@@ -1,13 +1,13 @@
-//! Inputs of a run, and lists of them.
+//! Cases: the values of one input.
 ghost use Rattle.std.specs.Prelude.{◌≡◌, IfOk, List};
-ghost use Rattle.input_space.specs.declared.case.Case.{Case as AnyCase};
+ghost use Rattle.input_space.specs.declared.case.Case.{Case};
+ghost use Rattle.input_space.specs.declared.case.CaseError.TheVariants as case_error;
 
 use crate::NoMemory;
 use mpy_tree::Values;
-use std::alloc::Global;
 use std::marker::Model;
 
-/// The arguments of the entry.
+/// A list of values for the parameters of the graded function.
 #[derive(Drop)]
 pub struct Case {
     pub values: Values,
@@ -18,8 +18,9 @@ impl Case {
     pub fn copy(&self) -> Result<Case, NoMemory>
         ensures { IfOk result (λ c. c ≡ self.now) }
     {
-        let values = self.values.copy()?;
-        Ok(Case { values })
+        Ok(Case {
+            values: self.values.copy()?,
+        })
     }
 }
 
@@ -30,7 +31,7 @@ pub struct Cases {
 }
 
 impl Model for Cases {
-    ghost Value = { List AnyCase };
+    ghost Value = { List Case };
 
     ghost view = { λ a. a.items.items };
 }
@@ -66,5 +67,22 @@ impl Cases {
             copies.push(c.copy()?)?;
         }
         Ok(Cases { items: copies })
+    }
+}
+
+/// Why a text isn't read as a case.
+#[derive(Clone, Copy, PartialEq, Eq, Debug, Drop)]
+pub enum CaseError {
+    /// The text isn't values joined by `, `.
+    NoCase,
+    /// There was no memory.
+    NoMemory,
+}
+
+impl From<NoMemory> for CaseError {
+    ghost from_gives = { λ _ e. e ≡ case_error.NoMemory };
+
+    fn from(_error: NoMemory) -> CaseError {
+        CaseError::NoMemory
     }
 }

@@ -1,29 +1,17 @@
 //! How many inputs there are.
-ghost use Rattle.std.specs.Prelude.{◌≡◌, ◌≤◌, ◌+◌, ◌-◌, ◌*◌, ◌^◌, min, length};
-ghost use Rattle.input_space.specs.Inputs.{inputs, size_of};
-ghost use Rattle.input_space.specs.Counting.{capped, power_sum, values_count, HasShortRows};
+ghost use Rattle.std.specs.Prelude.{◌≡◌, ◌≤◌, ◌*◌, ◌^◌, ◌-◌, suc, min, length};
+ghost use Rattle.input_space.specs.Counts.{lists_count};
+ghost use Rattle.input_space.specs.Inputs.{inputs, span, values_of};
 
 use bounds_reader::{Bounds, Param};
 
-const MOST: u64 = 1_000_000_000_000;
+/// No more inputs than this are counted.
+pub const MOST_COUNTED: u64 = 1_000_000_000_000;
 
-fn capped_sum(a: u64, b: u64) -> u64
-    ensures value { result ≡ capped (a + b) }
-    ensures small { result ≤ 1000000000000 }
-{
-    a.saturating_add(b).min(MOST)
-}
-
-fn capped_product(a: u64, b: u64) -> u64
-    ensures value { result ≡ capped (a * b) }
-    ensures small { result ≤ 1000000000000 }
-{
-    let product = u128::from(a) * u128::from(b);
-    product.min(u128::from(MOST)) as u64
-}
-
-fn size_of(low: i32, high: i32) -> u64
-    ensures { result ≡ size_of low high }
+/// How many whole numbers there are from `low` to `high`.
+pub(crate) fn span(low: i32, high: i32) -> u64
+    ensures same { result ≡ span low high }
+    ensures small { result ≤ 2 ^ 32 }
 {
     if low <= high {
         (i64::from(high) - i64::from(low)) as u64 + 1
@@ -32,61 +20,76 @@ fn size_of(low: i32, high: i32) -> u64
     }
 }
 
-// How many rows of so many elements each there are.
-fn capped_power(size: u64, exponent: u32) -> u64
-    ensures { result ≡ capped (size ^ exponent) }
+fn product(a: u64, b: u64) -> u64
+    ensures { result ≡ min (a * b) MOST_COUNTED }
+{
+    a.saturating_mul(b).min(MOST_COUNTED)
+}
+
+#[tactic(auto, using(crate::proofs::Totals::power_more))]
+pub(crate) fn power(base: u64, exponent: u64) -> u64
+    ensures { result ≡ min (base ^ exponent) MOST_COUNTED }
 {
     let mut power = 1;
     for _turn in 0..exponent {
-        power = capped_product(power, size);
+        power = product(power, base);
     }
     power
 }
 
-// How many rows there are with lengths from the least to the most.
-fn capped_rows(size: u64, least: u32, most: u32) -> u64
-    requires { most ≤ 16 }
-    ensures { result ≡ capped (power_sum size least (most + 1 - least)) }
+/// How many lengths there are from `least` to `most`.
+pub(crate) fn lengths(least: u32, most: u32) -> u64
+    ensures { result ≡ suc most - least }
 {
-    let mut power = capped_power(size, least);
-    let mut sum = 0;
-    for _length in least..most + 1 {
-        sum = capped_sum(sum, power);
-        power = capped_product(power, size);
-    }
-    sum
+    (u64::from(most) + 1).saturating_sub(u64::from(least))
 }
 
-// How many values a parameter has.
-fn capped_values(param: &Param) -> u64
-    requires { HasShortRows param.now }
-    ensures { capped result ≡ capped (values_count param.now) }
+// How many lists over so many elements have a length from `least` to `most`.
+#[tactic(auto, using(crate::proofs::Totals::lists_more))]
+fn lists_count(base: u64, least: u32, most: u32) -> u64
+    ensures { result ≡ min (lists_count base least (suc most - least)) MOST_COUNTED }
 {
-    match param {
-        Param::Int { low, high } => size_of(*low, *high),
+    let mut count = 0;
+    for k in 0..lengths(least, most) {
+        count = (count + power(base, u64::from(least) + k)).min(MOST_COUNTED);
+    }
+    count
+}
+
+fn values_count(p: &Param) -> u64
+    ensures { result ≡ min (length (values_of p.now)) MOST_COUNTED }
+{
+    match p {
+        Param::Int { low, high } => span(*low, *high),
         Param::Bool => 2,
         Param::List {
             least,
             most,
             low,
             high,
-        } => capped_rows(size_of(*low, *high), *least, *most),
+        } => lists_count(span(*low, *high), *least, *most),
         Param::Text {
             least,
             most,
             alphabet,
-        } => capped_rows(alphabet.len() as u64, *least, *most),
+        } => lists_count(alphabet.len() as u64, *least, *most),
     }
 }
 
-/// How many inputs there are within the bounds, or 1,000,000,000,000 where there are more. Takes no
-/// memory.
-pub fn inputs_count(b: &Bounds) -> u64
-    ensures { result ≡ min (length (inputs b.now.params)) 1000000000000 }
+/// How many inputs these parameters have, or `MOST_COUNTED` where there are more.
+pub(crate) fn count_of(params: &[Param]) -> u64
+    ensures { result ≡ min (length (inputs params.now)) MOST_COUNTED }
 {
     let mut count = 1;
-    for param in b.params.items() {
-        count = capped_product(count, capped_values(param));
+    for p in params {
+        count = product(count, values_count(p));
     }
     count
+}
+
+/// How many inputs there are within the bounds, or `MOST_COUNTED` where there are more.
+pub fn inputs_count(b: &Bounds) -> u64
+    ensures { result ≡ min (length (inputs b.now.params)) MOST_COUNTED }
+{
+    count_of(b.params.items())
 }

@@ -1,20 +1,24 @@
-//! The inputs within bounds: their order and number, and cases as text.
+//! The inputs within the bounds, and cases: lists of values, as texts too.
 #![tactic(auto)]
 
 mod case;
-mod case_error;
 mod counting;
-mod membership;
+mod laws;
+mod numbers;
+mod pieces;
+mod places;
 mod printing;
 mod reading;
+mod within;
 
-pub use case::{Case, Cases};
-pub use case_error::CaseError;
-pub use counting::inputs_count;
-pub use membership::in_bounds;
-pub use printing::print_case;
+pub use case::{Case, CaseError, Cases};
+pub use counting::{MOST_COUNTED, inputs_count};
+pub use laws::{inputs_fit, one_case, printed_is_read, some_input, within_is_membership};
+pub use places::case_at;
+pub use printing::{print_case, print_value};
 pub use reading::read_case;
 use std::alloc::AllocError;
+pub use within::{in_bounds, is_within, param_type, signature};
 
 /// Want of memory, where a call has no other refusal.
 pub type NoMemory = AllocError;

@@ -1,31 +1,56 @@
-//! Cases as text.
-ghost use Rattle.std.specs.Prelude.{◌≡◌, ◌++◌, OnOk, IfOk, codes, map};
+//! The texts of values and of cases.
+ghost use Rattle.std.specs.Prelude.{◌≡◌, ◌++◌, true, All, IfOk, OnOk, codes, map};
 ghost use Rattle.std.specs.Fmt.{signed_decimal};
-ghost use Rattle.mpy_tree.specs.Printing.{commas, escaped, quoted_text, truth_text, value_text, values_text};
+ghost use Rattle.mpy_tree.specs.Operations.{fits_width};
+ghost use Rattle.mpy_tree.specs.Printing.{commas, escaped, quoted_text, truth_text, value_text};
+ghost use Rattle.mpy_tree.specs.Printing.{values_text};
+ghost use Rattle.input_space.specs.CaseLaws.{IsPrintable};
+ghost use Rattle.input_space.specs.Cases.{SpellsCase};
 
 use crate::NoMemory;
 use crate::case::Case;
-use mpy_tree::{Chars, Ints, Value};
+use itoa::Buffer;
+use mpy_tree::Value;
 use std::alloc::Global;
 
-fn push_number(alloc: Global, n: i32, out: &mut Vec<u8>) -> Result<(), NoMemory>
-    ensures { OnOk result (out.new.items ≡ out.old.items ++ signed_decimal n) }
+fn print_number(out: &mut Vec<u8>, z: i32) -> Result<(), NoMemory>
+    ensures { OnOk result (out.new.items ≡ out.old.items ++ signed_decimal z) }
 {
-    let text = format!(in alloc; "{n}")?;
-    out.extend_from_slice(text.as_bytes())
+    let mut buffer = Buffer::new();
+    out.extend_from_slice(buffer.format(z).as_bytes())?;
+    Ok(())
 }
 
-fn push_truth(b: bool, out: &mut Vec<u8>) -> Result<(), NoMemory>
+fn print_truth(out: &mut Vec<u8>, b: bool) -> Result<(), NoMemory>
     ensures { OnOk result (out.new.items ≡ out.old.items ++ truth_text b) }
 {
     if b {
-        out.extend_from_slice(b"True")
+        out.extend_from_slice(b"True")?;
     } else {
-        out.extend_from_slice(b"False")
+        out.extend_from_slice(b"False")?;
     }
+    Ok(())
 }
 
-fn push_escaped(c: u8, out: &mut Vec<u8>) -> Result<(), NoMemory>
+#[tactic(auto, using(crate::proofs::Joining::joined_steps))]
+fn print_numbers(out: &mut Vec<u8>, zs: &[i32]) -> Result<(), NoMemory>
+    ensures text { OnOk result
+        (out.new.items
+        ≡ out.old.items ++ (codes "[" ++ commas (map signed_decimal zs.now) ++ codes "]")) }
+    ensures fits { OnOk result (All (λ z. fits_width 32 z ≡ true) zs.now) }
+{
+    let mut separator: &[u8] = b"";
+    out.extend_from_slice(b"[")?;
+    for z in zs {
+        out.extend_from_slice(separator)?;
+        print_number(out, *z)?;
+        separator = b", ";
+    }
+    out.extend_from_slice(b"]")?;
+    Ok(())
+}
+
+fn print_character(out: &mut Vec<u8>, c: u8) -> Result<(), NoMemory>
     ensures { OnOk result (out.new.items ≡ out.old.items ++ escaped c) }
 {
     match c {
@@ -36,61 +61,42 @@ fn push_escaped(c: u8, out: &mut Vec<u8>) -> Result<(), NoMemory>
     Ok(())
 }
 
-fn push_quoted(text: &Chars, out: &mut Vec<u8>) -> Result<(), NoMemory>
+fn print_text(out: &mut Vec<u8>, text: &[u8]) -> Result<(), NoMemory>
     ensures { OnOk result (out.new.items ≡ out.old.items ++ quoted_text text.now) }
 {
     out.extend_from_slice(b"'")?;
-    for c in text.bytes() {
-        push_escaped(*c, out)?;
+    for c in text {
+        print_character(out, *c)?;
     }
     out.extend_from_slice(b"'")?;
     Ok(())
 }
 
-// Adds numbers with a comma and a space between each two.
-#[tactic(auto, using(crate::proofs::Joining::joined_steps))]
-fn push_numbers(alloc: Global, numbers: &Ints, out: &mut Vec<u8>) -> Result<(), NoMemory>
-    ensures { OnOk result (out.new.items ≡ out.old.items ++ commas (map signed_decimal numbers.now)) }
+/// Adds the text of a value: a number in decimal, `True` or `False`, a list as `[1, -2]`, a text in
+/// single quotes. Each value is one that is read back from its text.
+pub fn print_value(out: &mut Vec<u8>, v: &Value) -> Result<(), NoMemory>
+    ensures text { OnOk result (out.new.items ≡ out.old.items ++ value_text v.now) }
+    ensures printable { OnOk result (IsPrintable v.now) }
 {
-    let mut separator: &[u8] = b"";
-    for n in numbers.items() {
-        out.extend_from_slice(separator)?;
-        push_number(alloc, *n, out)?;
-        separator = b", ";
-    }
-    Ok(())
-}
-
-fn push_list(alloc: Global, numbers: &Ints, out: &mut Vec<u8>) -> Result<(), NoMemory>
-    ensures { OnOk result (out.new.items ≡ out.old.items ++ (codes "[" ++ commas (map signed_decimal numbers.now) ++ codes "]")) }
-{
-    out.extend_from_slice(b"[")?;
-    push_numbers(alloc, numbers, out)?;
-    out.extend_from_slice(b"]")?;
-    Ok(())
-}
-
-fn push_value(alloc: Global, value: &Value, out: &mut Vec<u8>) -> Result<(), NoMemory>
-    ensures { OnOk result (out.new.items ≡ out.old.items ++ value_text value.now) }
-{
-    match value {
-        Value::Int(n) => push_number(alloc, *n, out),
-        Value::Bool(b) => push_truth(*b, out),
-        Value::List(numbers) => push_list(alloc, numbers, out),
-        Value::Text(text) => push_quoted(text, out),
+    match v {
+        Value::Int(z) => print_number(out, *z),
+        Value::Bool(b) => print_truth(out, *b),
+        Value::List(zs) => print_numbers(out, zs.items()),
+        Value::Text(cs) => print_text(out, cs.bytes()),
     }
 }
 
-/// The values of the case, joined by a comma and a space. Texts stand in single quotes.
+/// The values of the case, with a comma and a space between each two; the text spells the case.
 #[tactic(auto, using(crate::proofs::Joining::joined_steps))]
 pub fn print_case(alloc: Global, c: &Case) -> Result<Vec<u8>, NoMemory>
-    ensures { IfOk result (λ r. r.items ≡ values_text c.now.values) }
+    ensures text { IfOk result (λ t. t.items ≡ values_text c.now.values) }
+    ensures spelled { IfOk result (λ t. SpellsCase t.items c.now.values) }
 {
     let mut out = Vec::new(alloc);
     let mut separator: &[u8] = b"";
-    for value in c.values.items() {
+    for v in c.values.items() {
         out.extend_from_slice(separator)?;
-        push_value(alloc, value, &mut out)?;
+        print_value(&mut out, v)?;
         separator = b", ";
     }
     Ok(out)

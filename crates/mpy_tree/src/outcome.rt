@@ -1,6 +1,6 @@
 //! How a run ends.
 ghost use Rattle.std.specs.Prelude.{◌≡◌};
-ghost use Rattle.mpy_tree.specs.Outcomes.{told};
+ghost use Rattle.mpy_tree.specs.Outcomes.{fault_text, told};
 
 use crate::value::Value;
 
@@ -27,6 +27,26 @@ pub enum FaultKind {
     Step,
     /// A function ends without a value.
     NoValue,
+}
+
+impl FaultKind {
+    /// The kind as it prints: its name.
+    pub fn name(self) -> &'static str
+        ensures { result.now ≡ fault_text self }
+    {
+        match self {
+            FaultKind::Overflow => "Overflow",
+            FaultKind::Divisor => "Divisor",
+            FaultKind::Index => "Index",
+            FaultKind::Unset => "Unset",
+            FaultKind::Turns => "Turns",
+            FaultKind::Depth => "Depth",
+            FaultKind::Length => "Length",
+            FaultKind::Power => "Power",
+            FaultKind::Step => "Step",
+            FaultKind::NoValue => "NoValue",
+        }
+    }
 }
 
 /// Why an operation has no value.

@@ -1,0 +1,5 @@
+pub mod Fetches
+pub mod Files
+pub mod Refusing
+pub mod Texts
+pub mod Views

@@ -1,0 +1,4 @@
+pub mod Answers
+pub mod OneAnswer
+pub mod OneStep
+pub mod Steps

@@ -1,0 +1,37 @@
+-- What the answers of the readers say.
+use Rattle.std.specs.Prelude.{◌≡◌, ℕ, List, Result, Ok, Err}
+use Rattle.mpy_tree.specs.declared.refusal.Cause.{Cause}
+use Rattle.mpy_tree.specs.declared.refusal.Source.{Source}
+use Rattle.mpy_tree.specs.declared.refusal.Refusal.{Refusal}
+use Rattle.mpy_tree.specs.declared.tree.Prog.{Prog}
+use Rattle.mpy_tree.specs.declared.typing.Fact.{Fact}
+use Rattle.mpy_tree.specs.declared.typing.Types.{Types}
+use Rattle.mpy_tree.specs.Syntax.{Routine}
+use Rattle.mpy_tree.specs.View.{routines_of}
+use Rattle.source_files.specs.declared.stop.Stop.{Stop}
+use Rattle.source_files.specs.declared.stop.Stop.TheVariants as stop
+use Rattle.task_read.specs.declared.error.TaskError.{TaskError}
+use Rattle.task_read.specs.declared.error.TaskError.TheVariants.{Refused, NoMemory}
+use Rattle.task_read.specs.TypedPrograms.{Entry, IsTypedProgram, IsProgramRefused}
+
+-- what stops a command where a reader answers so
+abbrev pub stop_of : TaskError → Stop
+stop_of (Refused r) = stop.Refused r
+stop_of NoMemory = stop.NoMemory
+
+-- the source is refused for a cause and at a line of which P holds, or memory lacked
+abbrev pub RefusesBy : Source → (Cause → ℕ → Type 0) → TaskError → Type 0
+RefusesBy s P (Refused r) = (r.source ≡ s) × P r.cause r.line
+RefusesBy s P NoMemory = Unit {0}
+
+-- this program and these facts are given, unless memory lacked
+abbrev pub IsGiven : List Routine → List Fact → Result (Prog × Types) TaskError → Type 0
+IsGiven p T (Ok r) = (routines_of r.0 ≡ p) × (r.1.facts ≡ T)
+IsGiven p T (Err (Refused r)) = ⊥
+IsGiven p T (Err NoMemory) = Unit {0}
+
+-- the source is refused so, unless memory lacked
+abbrev pub IsRefusal : Source → Cause → ℕ → Result (Prog × Types) TaskError → Type 0
+IsRefusal s c line (Ok r) = ⊥
+IsRefusal s c line (Err (Refused r)) = (r.source ≡ s) × (r.cause ≡ c) × (r.line ≡ line)
+IsRefusal s c line (Err NoMemory) = Unit {0}

@@ -1,0 +1,43 @@
+-- The steps that read the bounds and the programs of a task.
+use Rattle.std.specs.Prelude.{◌≡◌, ℕ, List, map}
+use Rattle.mpy_tree.specs.declared.refusal.Cause.{Cause}
+use Rattle.mpy_tree.specs.declared.refusal.Source.{Source}
+use Rattle.mpy_tree.specs.declared.refusal.Source.TheVariants as source
+use Rattle.mpy_tree.specs.declared.refusal.Refusal.{Refusal}
+use Rattle.mpy_tree.specs.declared.typing.Fact.{Fact}
+use Rattle.mpy_tree.specs.Syntax.{Routine}
+use Rattle.bounds_reader.specs.declared.bounds.Bounds.{Bounds}
+use Rattle.bounds_reader.specs.Files.{IsBounds, IsRefused as IsBoundsRefused}
+use Rattle.input_space.specs.Inputs.{param_type}
+use Rattle.task_read.specs.Steps.{Step}
+use Rattle.task_read.specs.TypedPrograms.{Entry, IsTypedProgram, IsProgramRefused}
+
+abbrev pub refusal : Source → Cause → ℕ → Refusal
+refusal s cause line = record { source = s; cause = cause; line = line }
+
+-- a source is refused for a cause and at a line of which P holds
+abbrev pub IsOf : Source → (Cause → ℕ → Type 0) → Refusal → Type 0
+IsOf s P r = (r.source ≡ s) × P r.cause r.line
+
+-- the bounds
+abbrev pub bounds_step : List ℕ → Step Bounds
+bounds_step text = record {
+  gives = IsBounds text;
+  refuses = IsOf source.Bounds (IsBoundsRefused text);
+}
+
+-- the function that a run within the bounds enters
+abbrev pub entry_at : Bounds → Entry
+entry_at b = record { name = b.entry; types = map param_type b.params }
+
+-- a program, and the types of its names and results
+pub record Typed : Type 0 where
+  pub program : List Routine
+  pub types : List Fact
+
+-- a program read for an entry
+abbrev pub program_step : Source → List ℕ → Entry → Step Typed
+program_step s text e = record {
+  gives = λ p. IsTypedProgram text e p.program p.types;
+  refuses = IsOf s (IsProgramRefused text e);
+}
