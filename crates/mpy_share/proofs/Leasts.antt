@@ -17,7 +17,7 @@ use Rattle.mpy_tree.specs.Syntax.{at, Action, Block, end, step, MaybeBlock, no_b
 use Rattle.mpy_tree.specs.Syntax as ast
 use Rattle.mpy_tree.specs.Syntax.{Routine}
 use Rattle.mpy_tree.proofs.Leasts.{lesser_of_nil}
-use Rattle.mpy_types.proofs.Soonest.{lesser_assoc, least_append}
+use Rattle.mpy_scopes.proofs.Soonest.{lesser_assoc, least_append}
 
 pub parts_more : {A : Type 0} (g : A → List ℕ) (xs ys : List A) → least (flat_map g (xs ++ ys)) ≡ lesser (least (flat_map g xs)) (least (flat_map g ys))
 parts_more g xs ys = ap least (flat_map-append g xs ys) ∙ least_append (flat_map g xs) (flat_map g ys)

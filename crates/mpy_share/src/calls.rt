@@ -4,13 +4,13 @@ ghost use Rattle.std.specs.List.{flat_map, list_any};
 ghost use Rattle.mpy_tree.specs.View.{term_of, terms_of, end_by, action_of, block_of, routine_of};
 ghost use Rattle.mpy_tree.specs.Sites.{nodes, all_nodes, end_nodes, own_terms, site_nodes, sites};
 ghost use Rattle.mpy_tree.specs.Leasts.{least};
-ghost use Rattle.mpy_types.specs.Seen.{site_of};
+ghost use Rattle.mpy_scopes.specs.Seen.{site_of};
 ghost use Rattle.mpy_tree.specs.Sharing.{is_call_of, called_on, is_called, has_line};
 
 use crate::share::on_line_if;
 use crate::walk::{Look, least_in};
+use mpy_scopes::Site;
 use mpy_tree::{Act, Expr, Exprs, Func, Name};
-use mpy_types::Site;
 
 /// Whether a call in an expression names a function.
 #[tactic(auto, using(crate::proofs::Leasts::any_of_either))]

@@ -11,8 +11,9 @@ ghost use Rattle.mpy_tree.specs.Sharing.{is_called, shared, shared_on};
 use crate::calls::is_called;
 use crate::share::{Place, Shares};
 use crate::walk::least_in;
+use mpy_scopes::sooner;
 use mpy_tree::{Fact, Func, Prog, Types};
-use mpy_types::{FactList, sooner};
+use mpy_types::FactList;
 
 /// Whether no two names of a program with these types share a list. It takes no memory.
 ///
@@ -31,7 +32,7 @@ pub fn unshared(p: &Prog, t: &Types) -> Result<(), u32>
 }
 
 // The least line on which a list is shared.
-#[tactic(auto, unfolding(mpy_tree::specs::Leasts::least), using(mpy_types::proofs::Soonest::lesser_of_none))]
+#[tactic(auto, unfolding(mpy_tree::specs::Leasts::least), using(mpy_scopes::proofs::Soonest::lesser_of_none))]
 fn least_shared(funcs: &[Func], facts: &[Fact]) -> Option<u32>
     ensures { result ≡ least (shared (single (set_of facts.now)) (map routine_of funcs.now)) }
 {

@@ -7,14 +7,15 @@ ghost use Rattle.mpy_tree.specs.Locals.{is_among};
 ghost use Rattle.mpy_tree.specs.Leasts.{least};
 ghost use Rattle.mpy_tree.specs.Rules.{single, type_in, is_type};
 ghost use Rattle.mpy_tree.specs.Sites.{sites};
-ghost use Rattle.mpy_types.specs.Seen.{site_of};
+ghost use Rattle.mpy_scopes.specs.Seen.{site_of};
 ghost use Rattle.mpy_tree.specs.Sharing.{opens, open_to, some_name, changes, changed_on, shared_by};
 ghost use Rattle.mpy_tree.specs.Sharing.{shared_on, on_line_if};
 ghost use Rattle.mpy_tree.specs.declared.typing.Ty.TheVariants.{List as listed};
 
 use crate::walk::{Look, least_in};
+use mpy_scopes::Site;
 use mpy_tree::{Act, Expr, Func, Name, Names, Stmts, Ty};
-use mpy_types::{Known, Site, type_in};
+use mpy_types::{Known, type_in};
 
 /// Whether an expression is open to a name, if it is a list.
 #[tactic(auto, using(crate::proofs::Leasts::in_either))]

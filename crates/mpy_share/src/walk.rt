@@ -5,10 +5,10 @@ ghost use Rattle.mpy_tree.specs.View.{action_of, block_of, branches_of, block_or
 ghost use Rattle.mpy_tree.specs.Leasts.{least};
 ghost use Rattle.mpy_tree.specs.Sites.{Site as Stands, sites};
 ghost use Rattle.mpy_share.specs.Walks.{walk, walk_inside, walk_arms, walk_else};
-ghost use Rattle.mpy_types.specs.Seen.{site_of};
+ghost use Rattle.mpy_scopes.specs.Seen.{site_of};
 
+use mpy_scopes::{Site, sooner};
 use mpy_tree::{Act, Arms, Stmts};
-use mpy_types::{Site, sooner};
 
 /// What is looked for in the statements of a body.
 pub trait Look {

@@ -14,7 +14,7 @@ use Rattle.mpy_tree.specs.Faults.{Place, slots, listed, slot_fault, slots_fault,
 use Rattle.mpy_tree.specs.Rules.{single}
 use Rattle.mpy_tree.specs.Typings.{set_of, IsTyping}
 use Rattle.mpy_types.proofs.SetLaws.{join_none}
-use Rattle.mpy_types.proofs.Places.{at_place}
+use Rattle.mpy_scopes.proofs.Places.{at_place}
 use Rattle.mpy_types.proofs.Targets.{stands_among}
 use Rattle.mpy_type_laws.proofs.Targets.{within_slots, least_within_slots}
 

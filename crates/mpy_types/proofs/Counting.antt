@@ -8,7 +8,6 @@ use Rattle.mpy_tree.specs.declared.tree.Exprs.{Exprs}
 use Rattle.mpy_tree.specs.Syntax.{Term, Terms, Routine}
 use Rattle.mpy_tree.specs.View.{term_of, terms, terms_of, expr_step, exprs_step}
 use Rattle.mpy_tree.specs.declared.tree.Expr.TheFolds.{fold_out-Exprs}
-use Rattle.mpy_tree.specs.Names.{count}
 use Rattle.mpy_tree.specs.Rules.{Slots, all_types, are_arguments}
 
 module _ (S : Slots) (p : List Routine) (i : ℕ) where
@@ -36,11 +35,3 @@ at_the_end S p i j xs es k n h e =
     ap (λ fs. are_arguments S j (drop k xs) (all_types S p i (terms (map term_of fs)))) (drop_all k es h)
     ∙ none_left S j xs k
     ∙ ap (nat_le (length xs)) (sym e)
-
-count_terms : (es : List Term) → count (terms es) ≡ length es
-count_terms [] = refl
-count_terms (e ∷ es) = let h : count (terms es) ≡ length es = count_terms es in omega arith
-
--- how many arguments a call has
-pub args_of : (es : Exprs) → count (terms_of es) ≡ length es.items.items
-args_of es = ap count (fold_out-Exprs Term Terms expr_step exprs_step es) ∙ count_terms (map term_of es.items.items) ∙ length-map es.items.items term_of

@@ -3,8 +3,6 @@ pub mod Every
 pub mod Linked
 pub mod Monotone
 pub mod Numbering
-pub mod Places
-pub mod Positions
 pub mod Raising
 pub mod SetLaws
 pub mod Soonest

@@ -21,7 +21,7 @@ use Rattle.mpy_types.specs.declared.inflow.Via.{Via}
 use Rattle.mpy_types.specs.declared.inflow.Via.TheVariants.{Whole, Members, Texts}
 use Rattle.mpy_types.specs.declared.inflow.Inflow.{Inflow}
 use Rattle.mpy_types.specs.Inflows.{deeper, through, fixed, from_slot, from_result, from_call, from_arith, inflows_of, inflows_from, into, flow_inflows}
-use Rattle.mpy_types.specs.Numbers.{number}
+use Rattle.mpy_scopes.specs.Numbers.{number}
 use Rattle.mpy_types.specs.Tables.{type_at, types_numbered, facts_by}
 use Rattle.mpy_types.specs.Passes.{types_from, Holds, AllHold, IsBelow, AreLeast}
 use Rattle.mpy_types.proofs.Every.{Every, every_of, all_of, every_both, every_front, every_rest}

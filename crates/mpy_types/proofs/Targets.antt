@@ -15,7 +15,7 @@ use Rattle.mpy_tree.specs.Locals.{is_among, and_new, assigned, locals, site_assi
 use Rattle.mpy_tree.specs.Flows.{Flow, act_flows, site_flows, argument_flows, callee_flows, node_flows, all_site_flows, flows_from, given_flows, entry_flows, flows}
 use Rattle.mpy_tree.specs.Faults.{Place, place, local_line, routine_slots, slots_from, slots}
 use Rattle.mpy_types.proofs.Every.{Every, every_both}
-use Rattle.mpy_types.proofs.Places.{place_same}
+use Rattle.mpy_scopes.proofs.Places.{place_same}
 
 or_right : (a b : Bool) → IsTrue b → IsTrue (a || b)
 or_right true b h = refl

@@ -17,7 +17,7 @@ use Rattle.mpy_types.specs.declared.inflow.Via.TheVariants.{Whole, Members, Text
 use Rattle.mpy_types.specs.declared.inflow.Source.{Source}
 use Rattle.mpy_types.specs.declared.inflow.Source.TheVariants as source
 use Rattle.mpy_types.specs.declared.inflow.Inflow.{Inflow}
-use Rattle.mpy_types.specs.Numbers.{number}
+use Rattle.mpy_scopes.specs.Numbers.{number}
 
 abbrev pub deeper : Via → Via
 deeper Whole = Members

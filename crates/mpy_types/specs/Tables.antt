@@ -6,7 +6,7 @@ use Rattle.mpy_tree.specs.View.{routine_of}
 use Rattle.mpy_tree.specs.Syntax.{Routine}
 use Rattle.mpy_tree.specs.TypeSets.{no_types}
 use Rattle.mpy_tree.specs.SetTypes.{FactSet}
-use Rattle.mpy_types.specs.Numbers.{number}
+use Rattle.mpy_scopes.specs.Numbers.{number}
 
 -- the types at a number, none beyond the last
 abbrev pub type_at : List TypeSet → ℕ → TypeSet

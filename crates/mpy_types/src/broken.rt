@@ -7,11 +7,11 @@ ghost use Rattle.mpy_tree.specs.Names.{lines_of};
 ghost use Rattle.mpy_tree.specs.Leasts.{lesser, least};
 ghost use Rattle.mpy_tree.specs.Faults.{broken_from};
 ghost use Rattle.mpy_tree.specs.Sites.{sites};
-ghost use Rattle.mpy_types.specs.Seen.{site_of};
+ghost use Rattle.mpy_scopes.specs.Seen.{site_of};
 
 use crate::known::Known;
-use crate::nodes::{Site, push_sites};
 use crate::rules::{arith_type, member_of, type_in};
+use mpy_scopes::{Site, push_sites, sooner, sooner_if};
 use mpy_tree::{Act, ArithOp, Expr, Func, Name, NoMemory, Ty};
 use std::alloc::Global;
 
@@ -80,7 +80,7 @@ fn is_sequence(ty: Option<Ty>) -> bool
 }
 
 /// The least line of a statement that breaks its rule.
-#[tactic(auto, unfolding(mpy_tree::specs::Leasts::least), using(crate::proofs::Soonest::lesser_of_none))]
+#[tactic(auto, unfolding(mpy_tree::specs::Leasts::least), using(mpy_scopes::proofs::Soonest::lesser_of_none))]
 pub fn least_broken<K: Known>(
     alloc: Global,
     known: &K,
@@ -97,7 +97,7 @@ pub fn least_broken<K: Known>(
 }
 
 // The least line of a function.
-#[tactic(auto, unfolding(mpy_tree::specs::Leasts::least), using(crate::proofs::Soonest::lesser_of_none))]
+#[tactic(auto, unfolding(mpy_tree::specs::Leasts::least), using(mpy_scopes::proofs::Soonest::lesser_of_none))]
 fn broken_in<K: Known>(
     alloc: Global,
     known: &K,
@@ -117,26 +117,4 @@ fn broken_in<K: Known>(
         first = sooner_if(first, fault, s.line());
     }
     Ok(first)
-}
-
-/// The sooner of two lines.
-pub fn sooner(one: Option<u32>, other: Option<u32>) -> Option<u32>
-    ensures { result ≡ lesser one other }
-{
-    match (one, other) {
-        (None, _) => other,
-        (_, None) => one,
-        (Some(m), Some(n)) => Some(m.min(n)),
-    }
-}
-
-/// The sooner of two lines, under a condition.
-pub fn sooner_if(first: Option<u32>, fault: bool, line: u32) -> Option<u32>
-    ensures { result ≡ (if fault then lesser first (Some line) else first) }
-{
-    if fault {
-        sooner(first, Some(line))
-    } else {
-        first
-    }
 }

@@ -13,11 +13,10 @@ ghost use Rattle.mpy_types.specs.Views.{place_of};
 
 use crate::broken::least_broken;
 use crate::collect::inflows;
-use crate::faults::{entry_fault, names_fault};
-use crate::scope::{Scopes, read_scopes};
 use crate::slots::{Place, facts_at, slots, slots_fault};
 use crate::solve::least_types;
 use crate::table::Table;
+use mpy_scopes::{Scopes, entry_fault, names_fault, read_scopes};
 use mpy_tree::{Cause, Facts, NoMemory, Prog, Signature, TypeError, Types};
 use std::alloc::Global;
 

@@ -9,14 +9,13 @@ ghost use Rattle.mpy_tree.specs.TypeSets.{just};
 ghost use Rattle.mpy_tree.specs.Flows.{flows, flows_from, given_flows, all_site_flows, act_flows};
 ghost use Rattle.mpy_tree.specs.Flows.{node_flows, argument_flows, entry_flows};
 ghost use Rattle.mpy_types.specs.Inflows.{inflows_of, from_slot, from_call, into, flow_inflows, fixed};
-ghost use Rattle.mpy_types.specs.Seen.{slot_of};
-ghost use Rattle.mpy_types.specs.Seen.{site_of};
+ghost use Rattle.mpy_scopes.specs.Seen.{slot_of};
+ghost use Rattle.mpy_scopes.specs.Seen.{site_of};
 
-use crate::called::{Numbered, builtin_gives, called};
-use crate::flow::Target;
 use crate::inflow::{Inflow, Source, Via};
-use crate::nodes::{Site, push_site_nodes, push_sites};
-use crate::scope::Scopes;
+use mpy_scopes::{
+    Numbered, Scopes, Site, Target, builtin_gives, called, push_site_nodes, push_sites,
+};
 use mpy_tree::{Act, ArithOp, Builtin, Expr, Exprs, Func, Name, NoMemory, Ty, TypeSet};
 use std::alloc::Global;
 

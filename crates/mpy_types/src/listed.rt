@@ -4,10 +4,10 @@ ghost use Rattle.mpy_tree.specs.declared.typing.Slot.{Slot};
 ghost use Rattle.mpy_tree.specs.declared.typing.Slot.TheVariants as slot;
 ghost use Rattle.mpy_tree.specs.Typings.{set_of};
 ghost use Rattle.mpy_tree.specs.SetTypes.{same_slot, same_place};
-ghost use Rattle.mpy_types.specs.Seen.{slot_of};
+ghost use Rattle.mpy_scopes.specs.Seen.{slot_of};
 
-use crate::flow::Target;
 use crate::known::Known;
+use mpy_scopes::Target;
 use mpy_tree::{Fact, Name, Slot, TypeSet};
 
 /// The facts of a list.

@@ -8,8 +8,8 @@ ghost use Rattle.mpy_tree.specs.Rules.{negative_type, callee_type, are_arguments
 ghost use Rattle.mpy_tree.specs.Rules.{all_sequences, type_if, are_operands, builtin_type};
 ghost use Rattle.mpy_tree.specs.Rules.{member_of};
 
-use crate::called::{Numbered, builtin_gives, called};
 use crate::known::Known;
+use mpy_scopes::{Numbered, builtin_gives, called};
 use mpy_tree::{ArithOp, Builtin, CmpOp, Expr, Exprs, Func, Name, Ty};
 
 /// The type of an expression in a function of a program, if each of its nodes obeys its rule.

@@ -5,14 +5,11 @@ ghost use Rattle.mpy_tree.specs.Sites.{sites};
 ghost use Rattle.mpy_tree.specs.Faults.{slots, routine_slots, local_line, assigned_on, listed};
 ghost use Rattle.mpy_tree.specs.Faults.{slot_fault, slots_fault, facts_at};
 ghost use Rattle.mpy_types.specs.Tables.{facts_of};
-ghost use Rattle.mpy_types.specs.Seen.{name_of, site_of};
+ghost use Rattle.mpy_scopes.specs.Seen.{name_of, site_of};
 ghost use Rattle.mpy_types.specs.Views.{place_of};
 
-use crate::flow::Target;
-use crate::names::assigned;
-use crate::nodes::{Site, push_sites};
-use crate::scope::{Scope, Scopes};
 use crate::table::Table;
+use mpy_scopes::{Scope, Scopes, Site, Target, assigned, push_sites};
 use mpy_tree::{Cause, Fact, Func, Name, NoMemory, Slot, Ty, TypeError, TypeSet};
 use std::alloc::{AllocError, Global};
 

@@ -1,11 +1,10 @@
 //! A table of facts.
 ghost use Rattle.std.specs.Prelude.{◌≡◌};
-ghost use Rattle.mpy_types.specs.Seen.{slot_of};
+ghost use Rattle.mpy_scopes.specs.Seen.{slot_of};
 ghost use Rattle.mpy_types.specs.Tables.{facts_of, type_at};
 
-use crate::flow::Target;
 use crate::known::Known;
-use crate::scope::Scopes;
+use mpy_scopes::{Scopes, Target};
 use mpy_tree::{Name, TypeSet};
 
 /// The types of each slot, by its number.

@@ -3,7 +3,7 @@ use Rattle.mpy_tree.specs.View.{routine_of}
 use Rattle.mpy_tree.specs.Rules.{single, site_obeys}
 use Rattle.mpy_tree.specs.Names.{lines_of}
 use Rattle.mpy_tree.specs.Leasts.{lesser, least}
-use Rattle.mpy_types.specs.Seen.{site_of}
+use Rattle.mpy_scopes.specs.Seen.{site_of}
 use Rattle.mpy_types.proofs.broken.broken_in.Given as goal
 
 -- the least so far, with those of the statements that are left

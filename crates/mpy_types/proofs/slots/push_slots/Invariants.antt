@@ -2,7 +2,7 @@ use Rattle.std.proofs.Common.{◌≡◌, ◌++◌, map, drop}
 use Rattle.mpy_tree.specs.declared.typing.Slot.TheVariants as slot
 use Rattle.mpy_tree.specs.View.{routine_of}
 use Rattle.mpy_tree.specs.Faults.{place, local_line}
-use Rattle.mpy_types.specs.Seen.{name_of}
+use Rattle.mpy_scopes.specs.Seen.{name_of}
 use Rattle.mpy_types.specs.Views.{place_of}
 use Rattle.mpy_types.proofs.slots.push_slots.Given as goal
 

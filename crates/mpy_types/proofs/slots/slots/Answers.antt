@@ -1,7 +1,8 @@
 use Rattle.std.proofs.Common.{◌++◌, map, sym, ap, ◌∙◌}
 use Rattle.mpy_tree.specs.Faults.{slots_from}
-use Rattle.mpy_types.specs.Views.{place_of, scope_routine}
-use Rattle.mpy_types.proofs.Places.{scoped}
+use Rattle.mpy_scopes.specs.Views.{scope_routine}
+use Rattle.mpy_types.specs.Views.{place_of}
+use Rattle.mpy_scopes.proofs.Places.{scoped}
 use Rattle.mpy_types.proofs.slots.slots.Goals as goal
 
 pub loop-i-init : goal.loop-i-init

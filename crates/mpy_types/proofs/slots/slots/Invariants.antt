@@ -1,7 +1,8 @@
 use Rattle.std.proofs.Common.{◌≡◌, ◌++◌, map, drop}
 use Rattle.mpy_tree.specs.View.{routine_of}
 use Rattle.mpy_tree.specs.Faults.{slots, slots_from}
-use Rattle.mpy_types.specs.Views.{place_of, scope_routine}
+use Rattle.mpy_scopes.specs.Views.{scope_routine}
+use Rattle.mpy_types.specs.Views.{place_of}
 use Rattle.mpy_types.proofs.slots.slots.Given as goal
 
 abbrev pub invariant-loop-i : goal.invariant-loop-i

@@ -3,7 +3,7 @@ use Rattle.std.specs.List.{flat_map}
 use Rattle.mpy_tree.specs.View.{routine_of}
 use Rattle.mpy_tree.specs.Flows.{all_site_flows}
 use Rattle.mpy_types.specs.Inflows.{flow_inflows}
-use Rattle.mpy_types.specs.Seen.{site_of}
+use Rattle.mpy_scopes.specs.Seen.{site_of}
 use Rattle.mpy_types.proofs.collect.Reader.push_body.Given as goal
 
 abbrev pub invariant-loop-s : goal.invariant-loop-s

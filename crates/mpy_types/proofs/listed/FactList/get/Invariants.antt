@@ -1,7 +1,7 @@
 use Rattle.std.proofs.Common.{◌≡◌, drop}
 use Rattle.mpy_tree.specs.TypeSets.{join}
 use Rattle.mpy_tree.specs.Typings.{set_of}
-use Rattle.mpy_types.specs.Seen.{slot_of}
+use Rattle.mpy_scopes.specs.Seen.{slot_of}
 use Rattle.mpy_types.proofs.listed.FactList.get.Given as goal
 
 -- with those of the facts that are left, the types so far are all

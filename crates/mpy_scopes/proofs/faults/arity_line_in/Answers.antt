@@ -1,0 +1,12 @@
+use Rattle.std.proofs.Common.{map, ◌∙◌}
+use Rattle.mpy_tree.specs.View.{routine_of}
+use Rattle.mpy_tree.specs.Names.{has_arity_fault}
+use Rattle.mpy_scopes.specs.Seen.{site_of}
+use Rattle.mpy_scopes.proofs.Soonest.{lines_more}
+use Rattle.mpy_scopes.proofs.faults.arity_line_in.Goals as goal
+
+pub loop-s-preserved : goal.loop-s-preserved
+loop-s-preserved c =
+    c.loop-s.invariant
+    ∙ lines_more (has_arity_fault (map routine_of c.args.funcs.now)) site_of c.deref-s-items.result.now c.loop-s.s-index c.s-item.result c.in_ok-fault.fault c.loop-s.first c.sooner_if-first.result c.loop-s-test.true c.s-item.is c.in_ok-fault.ensures
+    (c.sooner_if-first.ensures ∙ cc)

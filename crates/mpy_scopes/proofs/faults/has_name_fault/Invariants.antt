@@ -1,0 +1,11 @@
+use Rattle.std.proofs.Common.{◌≡◌, map, drop}
+use Rattle.std.specs.List.{list_any}
+use Rattle.mpy_tree.specs.View.{routine_of}
+use Rattle.mpy_tree.specs.Names.{is_name_fault, has_name_fault}
+use Rattle.mpy_scopes.specs.Seen.{name_of, site_of, node_of}
+use Rattle.mpy_scopes.proofs.faults.has_name_fault.Given as goal
+
+abbrev pub invariant-loop-n : goal.invariant-loop-n
+invariant-loop-n l =
+    has_name_fault (map routine_of l.funcs) (map name_of l.names.names.items) (site_of l.s)
+    ≡ list_any (is_name_fault (map routine_of l.funcs) (map name_of l.names.names.items)) (map node_of (drop l.n-index l.n-items))

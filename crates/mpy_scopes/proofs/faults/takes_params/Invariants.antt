@@ -1,0 +1,7 @@
+use Rattle.std.proofs.Common.{◌≡◌, map, drop}
+use Rattle.mpy_tree.specs.View.{routine_of}
+use Rattle.mpy_tree.specs.Running.{found}
+use Rattle.mpy_scopes.proofs.faults.takes_params.Given as goal
+
+abbrev pub invariant-loop-func : goal.invariant-loop-func
+invariant-loop-func l = found (map routine_of l.funcs) l.f ≡ found (map routine_of (drop l.func-index l.funcs)) l.f

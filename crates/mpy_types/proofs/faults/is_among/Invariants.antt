@@ -1,7 +1,0 @@
-use Rattle.std.proofs.Common.{◌≡◌, map, drop}
-use Rattle.mpy_tree.specs.Locals.{is_among}
-use Rattle.mpy_types.specs.Seen.{name_of}
-use Rattle.mpy_types.proofs.faults.is_among.Given as goal
-
-abbrev pub invariant-loop-y : goal.invariant-loop-y
-invariant-loop-y l = is_among (map name_of l.names) l.x ≡ is_among (map name_of (drop l.y-index l.names)) l.x
