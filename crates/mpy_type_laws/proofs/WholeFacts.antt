@@ -41,7 +41,7 @@ only_one ty.Bool = refl
 only_one ty.List = refl
 only_one ty.Text = refl
 
-join_same : (t : Ty) → join (just t) (just t) ≡ just t
+pub join_same : (t : Ty) → join (just t) (just t) ≡ just t
 join_same ty.Int = refl
 join_same ty.Bool = refl
 join_same ty.List = refl

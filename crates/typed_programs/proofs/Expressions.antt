@@ -21,7 +21,8 @@ use Rattle.mpy_tree.specs.Values.{◌>>=◌, on_line, State, set_or_fault}
 use Rattle.mpy_tree.specs.Operations.{holds, number, text_within, negative, arith, compare, truth, index}
 use Rattle.mpy_tree.specs.Expressions.{Calls, value_of, values_of, maybe_value_of, both, either, list_of, slice_of, apply, builtin, called as called_by}
 use Rattle.mpy_tree.specs.SetTypes.{Callee, called, builtin_gives}
-use Rattle.mpy_tree.specs.Rules.{Slots, type_in, all_types, both_are, choice_type, negative_type, arith_type, compare_type, index_type, same_type, slice_type, is_type, all_numbers, all_sequences, end_types, are_operands, is_argument, are_arguments, callee_type, called_type, call_type, ◌>>=◌ as ◌>?◌}
+use Rattle.mpy_tree.specs.Options.{◌>>=◌ as ◌>?◌}
+use Rattle.mpy_tree.specs.Rules.{Slots, type_in, all_types, both_are, choice_type, negative_type, arith_type, compare_type, index_type, same_type, slice_type, is_type, all_numbers, all_sequences, end_types, are_operands, is_argument, are_arguments, callee_type, called_type, call_type}
 use Rattle.mpy_tree.specs.Fitting.{type_of}
 use Rattle.typed_programs.specs.Keeping.{IsOf, IsFor, is_for, are_for, AreFor, Gives, takes_call, KeepTypes, result_slot, Agrees}
 use Rattle.typed_programs.proofs.FittingLists.{and_true, and_both}

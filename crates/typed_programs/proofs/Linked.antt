@@ -24,9 +24,9 @@ use Rattle.mpy_tree.specs.Names.{lines_of}
 use Rattle.mpy_tree.specs.Faults.{Place, slots, listed, slot_fault, slots_fault, broken_from, fault_on, nodes_fault, names_fault, entry_fault, or_fault}
 use Rattle.mpy_tree.specs.Typings.{AreTypes, set_of}
 use Rattle.mpy_tree.specs.Fitting.{fits_as, all_fit_as}
-use Rattle.mpy_types.proofs.Raising.{at_place}
-use Rattle.mpy_type_laws.proofs.Every.{Every, every_of}
-use Rattle.mpy_type_laws.proofs.Targets.{stands_among, Lands, flows_land}
+use Rattle.mpy_scopes.proofs.Places.{at_place}
+use Rattle.mpy_types.proofs.Every.{Every, every_of}
+use Rattle.mpy_types.proofs.Targets.{stands_among, Lands, flows_land}
 use Rattle.typed_programs.specs.Keeping.{is_for, are_for, AreFor, takes_call, Settles, IsTyped}
 use Rattle.typed_programs.proofs.FittingLists.{and_true, and_both}
 use Rattle.typed_programs.proofs.OneType.{settled}

@@ -13,8 +13,9 @@ use Rattle.mpy_tree.specs.Syntax as ast
 use Rattle.mpy_tree.specs.Builtins.{builtin_of, takes}
 use Rattle.mpy_tree.specs.TypeSets.{has, just, join, members, only, only_of, IsWithin}
 use Rattle.mpy_tree.specs.SetTypes.{FactSet, types_in, arith_types, call_types, Callee, called, builtin_gives}
-use Rattle.mpy_tree.specs.Rules.{single, type_in, same_type, member_of, arith_type, sum_type, product_type, both_are, negative_type, compare_type, index_type, slice_type, choice_type, are_operands, called_type, are_arguments, all_numbers, all_types, end_types, ◌>>=◌ as ◌>?◌}
-use Rattle.mpy_type_laws.proofs.Every.{join_same}
+use Rattle.mpy_tree.specs.Options.{◌>>=◌ as ◌>?◌}
+use Rattle.mpy_tree.specs.Rules.{single, type_in, same_type, member_of, arith_type, sum_type, product_type, both_are, negative_type, compare_type, index_type, slice_type, choice_type, are_operands, called_type, are_arguments, all_numbers, all_types, end_types}
+use Rattle.mpy_type_laws.proofs.WholeFacts.{join_same}
 use Rattle.typed_programs.proofs.Operators.{truth_is}
 use Rattle.typed_programs.proofs.Arguments.{if_given}
 use Rattle.typed_programs.proofs.Expressions.{truths, first_of, if_some, not_local}

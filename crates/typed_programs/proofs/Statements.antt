@@ -26,7 +26,7 @@ use Rattle.mpy_tree.specs.Sites.{Site, does, sites, inside, in_arms, in_last}
 use Rattle.mpy_tree.specs.Flows.{site_flows}
 use Rattle.mpy_tree.specs.Rules.{Slots, single, type_in, site_obeys, augment_obeys, put_obeys, is_sequence, is_type, member_of, arith_type, index_type}
 use Rattle.mpy_tree.specs.Fitting.{type_of}
-use Rattle.mpy_type_laws.proofs.Every.{Every, every_of}
+use Rattle.mpy_types.proofs.Every.{Every, every_of}
 use Rattle.typed_programs.specs.Keeping.{IsOf, IsFor, Gives, KeepTypes, Agrees, EndsWell, Settles, IsTyped}
 use Rattle.typed_programs.proofs.FittingLists.{and_true}
 use Rattle.typed_programs.proofs.Operators.{Fits, has_type, that_fits, arith_yields, index_yields, put_yields, append_yields, list_fits, one_fits}

@@ -9,8 +9,8 @@ use Rattle.mpy_tree.specs.TypeSets.{only}
 use Rattle.mpy_tree.specs.SetTypes.{FactSet, same_place}
 use Rattle.mpy_tree.specs.Faults.{Place, slots, facts_at, facts_with, fact}
 use Rattle.mpy_tree.specs.Typings.{IsOfSlot, IsTyping, AreTypes}
-use Rattle.mpy_types.proofs.Raising.{place_same}
-use Rattle.mpy_type_laws.proofs.Every.{Every}
+use Rattle.mpy_scopes.proofs.Places.{place_same}
+use Rattle.mpy_types.proofs.Every.{Every}
 use Rattle.mpy_type_laws.proofs.WholeFacts.{typing_types}
 
 abbrev IsAmong : List Place → Place → Type 0
