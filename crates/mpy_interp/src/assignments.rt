@@ -14,6 +14,20 @@ use crate::operators::operate;
 use crate::stop::Stop;
 use mpy_tree::{ArithOp, Expr, Name, Value};
 
+/// The element `x[i]` of a list.
+#[derive(Drop)]
+pub struct Place<'a> {
+    pub x: &'a Name,
+    pub i: &'a Expr,
+}
+
+/// The change `op= e`.
+#[derive(Drop)]
+pub struct Change<'a> {
+    pub op: ArithOp,
+    pub e: &'a Expr,
+}
+
 impl<C: Calls> Machine<'_, C> {
     /// The new value of `x` in `x op= e`.
     pub fn augmented(
@@ -65,19 +79,18 @@ impl<C: Calls> Machine<'_, C> {
         &self,
         frame: &Frame<'_>,
         line: u32,
-        x: &Name,
-        i: &Expr,
-        op: ArithOp,
-        e: &Expr,
+        place: &Place<'_>,
+        change: &Change<'_>,
     ) -> Result<Value, Stop>
         ensures { Meets result (set_at_by self.now.limits.now (C.gives self.now.calls.now)
-            (state_of frame.now) line x.now (term_of i.now) (arith self.now.limits.now op) (term_of e.now)) }
+            (state_of frame.now) line place.now.x.now (term_of place.now.i.now)
+            (arith self.now.limits.now change.now.op) (term_of change.now.e.now)) }
     {
-        let v = frame.get(line, x)?;
-        let k = self.eval(frame, line, i)?;
+        let v = frame.get(line, place.x)?;
+        let k = self.eval(frame, line, place.i)?;
         let old = element_at(self.alloc, line, &v, &k)?;
-        let w = self.eval(frame, line, e)?;
-        let new = operate(self.alloc, self.limits, line, op, &old, &w)?;
+        let w = self.eval(frame, line, change.e)?;
+        let new = operate(self.alloc, self.limits, line, change.op, &old, &w)?;
         replace_at(line, v, &k, &new)
     }
 }

@@ -2,7 +2,8 @@
 ghost use Rattle.std.specs.Prelude.{◌≡◌, ◌⊎◌};
 ghost use Rattle.mpy_interp.specs.Answers.{Meets};
 ghost use Rattle.mpy_tree.specs.Values.{on_line};
-ghost use Rattle.mpy_tree.specs.Operations.{holds, compare, equal, truth, has_number, is_front, is_part, member};
+ghost use Rattle.mpy_tree.specs.Operations.{holds, compare, equal, truth, has_number, is_front};
+ghost use Rattle.mpy_tree.specs.Operations.{is_part, member};
 
 use crate::stop::{Stop, stuck};
 use mpy_tree::{CmpOp, Value};

@@ -150,7 +150,8 @@ impl<C: Calls> Machine<'_, C> {
         no: &Expr,
     ) -> Result<Value, Stop>
         ensures { Meets result (value_of self.now.limits.now (C.gives self.now.calls.now)
-            (state_of frame.now) line (ast.Cond (term_of test.now) (term_of yes.now) (term_of no.now))) }
+            (state_of frame.now) line
+            (ast.Cond (term_of test.now) (term_of yes.now) (term_of no.now))) }
     {
         let v = self.eval(frame, line, test)?;
         if is_true(&v) {
@@ -184,7 +185,8 @@ impl<C: Calls> Machine<'_, C> {
     // The values of expressions, from left to right.
     #[cycle(eval)]
     fn eval_all(&self, frame: &Frame<'_>, line: u32, es: &Exprs) -> Result<Vec<Value>, Stop>
-        ensures { MeetsBy (λ v. v.items) result (values_of self.now.limits.now (C.gives self.now.calls.now)
+        ensures { MeetsBy (λ v. v.items) result
+            (values_of self.now.limits.now (C.gives self.now.calls.now)
             (state_of frame.now) line (terms_of es.now)) }
     {
         let mut values = Vec::new(self.alloc);

@@ -4,12 +4,14 @@ ghost use Rattle.std.specs.declared.result.Result.{Result};
 ghost use Rattle.mpy_tree.specs.declared.value.Value.{Value};
 ghost use Rattle.mpy_tree.specs.declared.outcome.Halted.{Halted};
 ghost use Rattle.mpy_tree.specs.Syntax as ast;
-ghost use Rattle.mpy_tree.specs.View.{term_of, maybe_term, action_of, block_of, branches_of, block_or_none};
+ghost use Rattle.mpy_tree.specs.View.{term_of, maybe_term, action_of, block_of, branches_of};
+ghost use Rattle.mpy_tree.specs.View.{block_or_none};
 ghost use Rattle.mpy_interp.specs.Answers.{Meets};
 ghost use Rattle.mpy_interp.specs.Completions.{EndsAs};
 ghost use Rattle.mpy_interp.specs.Frames.{state_of};
 ghost use Rattle.mpy_tree.specs.Statements.{store, give, run_block, run_action, run_arms, run_else};
 
+use crate::assignments::{Change, Place};
 use crate::calls::Calls;
 use crate::comparisons::is_true;
 use crate::frame::Frame;
@@ -44,7 +46,8 @@ impl<C: Calls> Machine<'_, C> {
     /// Runs a body.
     #[cycle(exec)]
     pub fn exec_block<'a>(&self, frame: &mut Frame<'a>, body: &'a Stmts) -> Result<Completion, Stop>
-        ensures { EndsAs result (state_of frame.new) (run_block self.now.limits.now (C.gives self.now.calls.now)
+        ensures { EndsAs result (state_of frame.new)
+            (run_block self.now.limits.now (C.gives self.now.calls.now)
             (block_of body.now) (state_of frame.old)) }
     {
         for s in &body.items {
@@ -66,7 +69,8 @@ impl<C: Calls> Machine<'_, C> {
         line: u32,
         act: &'a Act,
     ) -> Result<Completion, Stop>
-        ensures { EndsAs result (state_of frame.new) (run_action self.now.limits.now (C.gives self.now.calls.now)
+        ensures { EndsAs result (state_of frame.new)
+            (run_action self.now.limits.now (C.gives self.now.calls.now)
             (action_of act.now) line (state_of frame.old)) }
     {
         match act {
@@ -83,7 +87,7 @@ impl<C: Calls> Machine<'_, C> {
                 stored(frame, x, v)
             }
             Act::AugmentAt(x, i, op, e) => {
-                let v = self.replaced_by(frame, line, x, i, *op, e);
+                let v = self.replaced_by(frame, line, &Place { x, i }, &Change { op: *op, e });
                 stored(frame, x, v)
             }
             Act::Append(x, e) => {
@@ -107,7 +111,8 @@ impl<C: Calls> Machine<'_, C> {
         line: u32,
         e: &Option<Expr>,
     ) -> Result<Completion, Stop>
-        ensures { EndsAs result (state_of frame.now) (give self.now.limits.now (C.gives self.now.calls.now)
+        ensures { EndsAs result (state_of frame.now)
+            (give self.now.limits.now (C.gives self.now.calls.now)
             (state_of frame.now) line (maybe_term e.now)) }
     {
         match e {
@@ -127,7 +132,8 @@ impl<C: Calls> Machine<'_, C> {
         arms: &'a Arms,
         last: &'a Option<Stmts>,
     ) -> Result<Completion, Stop>
-        ensures { EndsAs result (state_of frame.new) (run_arms self.now.limits.now (C.gives self.now.calls.now)
+        ensures { EndsAs result (state_of frame.new)
+            (run_arms self.now.limits.now (C.gives self.now.calls.now)
             (branches_of arms.now)
             (run_else self.now.limits.now (C.gives self.now.calls.now)
             (block_or_none last.now) (state_of frame.old))
@@ -155,7 +161,8 @@ impl<C: Calls> Machine<'_, C> {
         line: u32,
         test: &Expr,
     ) -> Result<Completion, Stop>
-        ensures { EndsAs result (state_of frame.new) (run_action self.now.limits.now (C.gives self.now.calls.now)
+        ensures { EndsAs result (state_of frame.new)
+            (run_action self.now.limits.now (C.gives self.now.calls.now)
             (ast.While (term_of test.now) (block_of body.now)) line (state_of frame.old)) }
     {
         let mut left = self.limits.turns;
@@ -188,7 +195,8 @@ impl<C: Calls> Machine<'_, C> {
         x: &'a Name,
         e: &Expr,
     ) -> Result<Completion, Stop>
-        ensures { EndsAs result (state_of frame.new) (run_action self.now.limits.now (C.gives self.now.calls.now)
+        ensures { EndsAs result (state_of frame.new)
+            (run_action self.now.limits.now (C.gives self.now.calls.now)
             (ast.For x.now (term_of e.now) (block_of body.now)) line (state_of frame.old)) }
     {
         let list = self.eval(frame, line, e)?;

@@ -1,9 +1,12 @@
 //! Operators on lists and texts.
-ghost use Rattle.std.specs.Prelude.{◌≡◌, ◌*◌, ◌<◌, ◌≤◌, ◌⊎◌, MatchOption, ℕ, ◌++◌, ◌∷◌, [], length, map, IfOk};
+ghost use Rattle.std.specs.Prelude.{◌≡◌, ◌*◌, ◌<◌, ◌≤◌, ◌⊎◌, MatchOption, ℕ, ◌++◌, ◌∷◌, [], length};
+ghost use Rattle.std.specs.Prelude.{map, IfOk};
 ghost use Rattle.mpy_interp.specs.Answers.{Meets, MeetsBy};
 ghost use Rattle.mpy_tree.specs.Operations.{copy_count};
 ghost use Rattle.mpy_tree.specs.Values.{on_line};
-ghost use Rattle.mpy_tree.specs.Operations.{list_within, text_within, repeated, index, index_in, element, slice, end_or, put, append, members, numbers, cut};
+ghost use Rattle.mpy_tree.specs.Operations.{list_within, text_within, repeated, index, index_in};
+ghost use Rattle.mpy_tree.specs.Operations.{element, slice, end_or, put, append, members, numbers};
+ghost use Rattle.mpy_tree.specs.Operations.{cut};
 ghost use Rattle.mpy_tree.specs.Expressions.{wholes, list_of, end_of, slice_of};
 
 use crate::stop::{Stop, faulted, stuck};
@@ -82,7 +85,7 @@ pub fn join_texts(
 }
 
 /// `xs * n` of a list.
-#[tactic(auto, using(mpy_tree::proofs::Copies::list_repeated, mpy_tree::proofs::Copies::list_too_long))]
+#[tactic(auto, using(crate::proofs::Copies::lists))]
 pub fn repeat_list(alloc: Global, l: &Limits, line: u32, xs: &Ints, n: i32) -> Result<Value, Stop>
     ensures { Meets result (on_line line (list_within l.now (repeated xs.now n))) }
 {
@@ -93,7 +96,7 @@ pub fn repeat_list(alloc: Global, l: &Limits, line: u32, xs: &Ints, n: i32) -> R
 }
 
 /// `cs * n` of a text.
-#[tactic(auto, using(mpy_tree::proofs::Copies::text_repeated, mpy_tree::proofs::Copies::text_too_long))]
+#[tactic(auto, using(crate::proofs::Copies::texts))]
 pub fn repeat_text(alloc: Global, l: &Limits, line: u32, cs: &Chars, n: i32) -> Result<Value, Stop>
     ensures { Meets result (on_line line (text_within l.now (repeated cs.now n))) }
 {
@@ -103,7 +106,8 @@ pub fn repeat_text(alloc: Global, l: &Limits, line: u32, cs: &Chars, n: i32) -> 
     }
 }
 
-// How many copies of a list of so many elements a repetition makes, unless they are more than the cap.
+// How many copies of a list of so many elements a repetition makes, unless they are more than the
+// cap.
 fn copies_within(len: usize, n: i32, cap: u32) -> Option<usize>
     ensures { MatchOption result (cap < len * copy_count n)
         (λ times. (len * times ≤ cap) × ((len ≡ 0) ⊎ (times ≡ copy_count n))) }

@@ -73,7 +73,8 @@ fn operate_on_numbers(
     a: &Value,
     b: &Value,
 ) -> Result<Value, Stop>
-    requires { (op ≡ ArithOp.Sub) ⊎ (op ≡ ArithOp.Floor) ⊎ (op ≡ ArithOp.Rem) ⊎ (op ≡ ArithOp.Power) }
+    requires { (op ≡ ArithOp.Sub) ⊎ (op ≡ ArithOp.Floor) ⊎ (op ≡ ArithOp.Rem)
+        ⊎ (op ≡ ArithOp.Power) }
     ensures { Meets result (on_line line (arith l.now op a.now b.now)) }
 {
     match (a, b) {

@@ -15,7 +15,8 @@ use std::alloc::{AllocError, Global};
 
 /// How a run of the program ends on these arguments, of which the function `entry` is called.
 ///
-/// The program needn't be typed: where it is stuck, the fault is Unset. So the types aren't looked at.
+/// The program needn't be typed: where it is stuck, the fault is Unset. So the types aren't looked
+/// at.
 pub fn run(
     alloc: Global,
     p: &Prog,
@@ -93,8 +94,8 @@ impl<C: Calls> Machine<'_, C> {
     }
 }
 
-// The value that the program gives, or its fault. A level of calls is a type of its own, so that the
-// interpreter of each is proved to end by the program's tree alone.
+// The value that the program gives, or its fault. A level of calls is a type of its own, so that
+// the interpreter of each is proved to end by the program's tree alone.
 fn evaluate(
     alloc: Global,
     p: &Prog,

@@ -1,4 +1,5 @@
--- The tree of a program has all of it, and the flat lists of its statements and nodes stand in the tree's order.
+-- The tree of a program has all of it, and the flat lists of its statements and nodes stand in the
+-- tree's order.
 use Rattle.std.specs.Prelude.{◌≡◌, ℕ, Bool, true, false, List, [], ◌∷◌, ◌++◌, map, if◌then◌else◌}
 use Rattle.std.specs.List.{flat_map}
 use Rattle.mpy_tree.specs.Syntax.{Term, Block, Routine}

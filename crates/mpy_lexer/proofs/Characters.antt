@@ -40,3 +40,5 @@ all_found quote bytes found h l = ap (option_map (λ cs. found ++ cs)) (characte
 -- the literal isn't one
 pub not_closed : (quote : ℕ) (bytes found : List ℕ) → character_at quote bytes ≡ None → is_last quote bytes ≡ false → option_map (λ cs. found ++ cs) (characters quote bytes) ≡ None
 not_closed quote bytes found h l = ap (option_map (λ cs. found ++ cs)) (characters_step quote bytes ∙ ap (go_on quote bytes) h ∙ ap (λ b. cond b (Some []) None) l)
+
+pub ruleset walk = (characters_step, all_found, not_closed)

@@ -4,7 +4,7 @@ use Rattle.std.specs.Prelude.{All}
 use Rattle.std.specs.List.{concat, list_all, list_any, prefix_len}
 use Rattle.std.specs.Option.{option_or}
 use Rattle.std.proofs.Math.Seq.{take-append_seam}
-use Rattle.std.proofs.lemmas.Bool.{and_parts}
+use Rattle.std.proofs.lemmas.Bool.{and_parts, or_parts}
 use Rattle.std.proofs.lemmas.Bool.Decides.{nat_tests}
 use Rattle.std.proofs.lemmas.List.{take-append-drop, length-take-le, take_all, drop_all}
 use Rattle.std.proofs.lemmas.List.Elements.{All-nil, All-cons, All-head, All-tail}
@@ -32,7 +32,7 @@ use Rattle.mpy_lexer.specs.TokenLaws.{is_passed_over, IsLongest, first_line, IsN
 use Rattle.mpy_lexer.proofs.PieceForms.{run_passes}
 use Rattle.mpy_lexer.proofs.PieceLengths.{piece_within, at_front}
 use Rattle.mpy_lexer.proofs.LineCuts.{line_some}
-use Rattle.mpy_lexer.proofs.TokenSpans.{concat-lines}
+use Rattle.mpy_lexer.proofs.TokenSpans.{concat-lines, unless}
 use Rattle.mpy_lexer.proofs.Longest.{piece_longest}
 
 -- what is passed over
@@ -237,10 +237,6 @@ no_line : (from n : ℕ) (later : List ℕ) (form : Form) (ts : List Token) → 
 no_line from zero later form ts within h = rw add-zero h
 no_line from (suc n) later form ts within h = absurd (omega arith)
 
-neither : (a b : Bool) → a || b ≡ false → (a ≡ false) × (b ≡ false)
-neither true b e = absurd cc
-neither false b e = (refl, e)
-
 one_on : (form : Form) (from n : ℕ) (l later : List ℕ) (ts : List Token) → 0 < n → IsCovered form (from + 1 + (n - 1)) (drop (n - 1) l ++ later) ts → (c : ℕ) → IsCovered form (from + n) (drop n (c ∷ l) ++ later) ts
 one_on form from zero l later ts some h c = absurd (omega arith)
 one_on form from (suc n) l later ts some h c =
@@ -261,7 +257,7 @@ parts_before form (c ∷ l) from (suc n) later ts within ends right h =
 parts_before form (c ∷ l) from zero later ts within ends right h =
     let p = piece_at form (c ∷ l) in
     let others = parts form (from + 1) (p.len - 1) l in
-    let both = neither (is_wrong p.sort) (list_any (λ q. is_wrong q.sort) others) right in
+    let both = or_parts (is_wrong p.sort) (list_any (λ q. is_wrong q.sort) others) right in
     let some : 0 < p.len = at_front form (c ∷ l) (omega arith) in
     let most : p.len ≤ length (c ∷ l) = piece_within form (c ∷ l) in
     let end : from + 1 + length l ≡ from + length (c ∷ l) = omega arith in
@@ -359,11 +355,7 @@ unfolding faulty_lines
 all_right opened [] e = All-nil (λ r. r.is_wrong ≡ false)
 all_right opened (r ∷ rs) e =
     let both = faultless_case (r.is_wrong || has_unmatched r.number opened r.tokens) r.number (faulty_lines (open_after r.number opened r.tokens) rs) e in
-    All-cons (λ r. r.is_wrong ≡ false) r rs (neither r.is_wrong (has_unmatched r.number opened r.tokens) both.0).0 (all_right (open_after r.number opened r.tokens) rs both.1)
-
-unless : (fault : Option LexError) (found ls : List Line) → lines_unless fault found ≡ Ok ls → (fault ≡ None) × (found ≡ ls)
-unless None found ls e = (refl, cc)
-unless (Some x) found ls e = absurd cc
+    All-cons (λ r. r.is_wrong ≡ false) r rs (or_parts r.is_wrong (has_unmatched r.number opened r.tokens) both.0).0 (all_right (open_after r.number opened r.tokens) rs both.1)
 
 second_none : {A : Type 0} → (o p q : Option A) → option_or o (option_or p q) ≡ None → p ≡ None
 second_none None None q e = refl

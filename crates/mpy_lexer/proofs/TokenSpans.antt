@@ -117,8 +117,9 @@ lines_placed form source opened (r ∷ rs) h =
     (λ e. record { some = begun opened r.tokens (continued next rs) e; tokens = All-append (IsIn form source) r.tokens (continued next rs) here (continued_placed form source next rs others) })
     (lines_placed form source next rs others)
 
-unless : (fault : Option LexError) (found ls : List Line) → lines_unless fault found ≡ Ok ls → found ≡ ls
-unless None found ls e = cc
+-- lines are given only where there is no fault
+pub unless : (fault : Option LexError) (found ls : List Line) → lines_unless fault found ≡ Ok ls → (fault ≡ None) × (found ≡ ls)
+unless None found ls e = (refl, cc)
 unless (Some x) found ls e = absurd cc
 
 pub of_source : (form : Form) (source : List ℕ) → All (IsLineOf form source) (logical_lines [] (rows form source))
@@ -127,5 +128,5 @@ of_source form source = lines_placed form source [] (rows form source) (all_plac
 pub spans : (form : Form) (source : List ℕ) (ls : List Line) → lex form source ≡ Ok ls → All (IsLineOf form source) ls
 unfolding lex
 spans form source ls e =
-    let same : logical_lines [] (rows form source) ≡ ls = unless (first_fault (rows form source)) (logical_lines [] (rows form source)) ls e in
+    let same : logical_lines [] (rows form source) ≡ ls = (unless (first_fault (rows form source)) (logical_lines [] (rows form source)) ls e).1 in
     rw (← same) (of_source form source)

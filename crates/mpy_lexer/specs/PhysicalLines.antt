@@ -1,5 +1,6 @@
 -- Physical lines: their bytes, and what is in them.
-use Rattle.std.specs.Prelude.{ℕ, ◌+◌, Bool, true, false, not, ◌&&◌, ◌||◌, ◌==◌, nat_le, nat_eq, List, [], ◌∷◌, length, take, drop, Option, Some, None, if◌then◌else◌}
+use Rattle.std.specs.Prelude.{ℕ, ◌+◌, Bool, true, false, not, ◌&&◌, ◌||◌, ◌==◌, nat_le, nat_eq}
+use Rattle.std.specs.Prelude.{List, [], ◌∷◌, length, take, drop, Option, Some, None, if◌then◌else◌}
 use Rattle.std.specs.List.{list_any, flat_map, prefix_len, count_by, starts_with}
 use Rattle.mpy_lexer.specs.declared.forms.Form.{Form}
 use Rattle.mpy_lexer.specs.declared.forms.Form.TheVariants.{Program, Rules}
@@ -23,7 +24,8 @@ with_byte c (l ∷ ls) = (c ∷ l) ∷ ls
 -- the text cut behind each byte 10
 unfoldable pub physical_lines : List ℕ → List (List ℕ)
 physical_lines [] = []
-physical_lines (c ∷ rest) = if c == 10 then (c ∷ []) ∷ physical_lines rest else with_byte c (physical_lines rest)
+physical_lines (c ∷ rest) =
+    if c == 10 then (c ∷ []) ∷ physical_lines rest else with_byte c (physical_lines rest)
 
 -- outside comments: 32 to 126, the 10 at the end, a 13 directly before it, and a 9 in white space
 abbrev pub is_line_feed_next : List ℕ → Bool
@@ -31,11 +33,14 @@ is_line_feed_next [] = false
 is_line_feed_next (c ∷ rest) = c == 10
 
 abbrev pub is_allowed : Bool → ℕ → List ℕ → Bool
-is_allowed in_space c rest = (nat_le 32 c && nat_le c 126) || c == 10 || (c == 13 && is_line_feed_next rest) || (c == 9 && in_space)
+is_allowed in_space c rest =
+    (nat_le 32 c && nat_le c 126) || c == 10 || (c == 13 && is_line_feed_next rest)
+    || (c == 9 && in_space)
 
 unfoldable pub has_foreign_byte : Bool → List ℕ → Bool
 has_foreign_byte in_space [] = false
-has_foreign_byte in_space (c ∷ rest) = not (is_allowed in_space c rest) || has_foreign_byte in_space rest
+has_foreign_byte in_space (c ∷ rest) =
+    not (is_allowed in_space c rest) || has_foreign_byte in_space rest
 
 abbrev pub is_foreign : Sort → List ℕ → Bool
 is_foreign sort.Space bytes = has_foreign_byte true bytes
@@ -55,7 +60,8 @@ is_wrong sort.Wrong = true
 is_wrong _ = false
 
 abbrev pub token_in : Sort → ℕ → List ℕ → List Token
-token_in (sort.Token k) from bytes = record { kind = k; from = from; to = from + length bytes; text = bytes } ∷ []
+token_in (sort.Token k) from bytes =
+    record { kind = k; from = from; to = from + length bytes; text = bytes } ∷ []
 token_in _ from bytes = []
 
 abbrev pub tokens_of : List Part → List Token
@@ -82,7 +88,14 @@ byte_cause form line ps =
 
 -- what is in a physical line, by its parts
 abbrev pub row_by : Form → ℕ → List ℕ → List Part → Row
-row_by form number line ps = record { number = number; column = column_of line; cause = byte_cause form line ps; is_wrong = list_any (λ p. is_wrong p.sort) ps; tokens = tokens_of ps }
+row_by form number line ps =
+    record {
+      number = number;
+      column = column_of line;
+      cause = byte_cause form line ps;
+      is_wrong = list_any (λ p. is_wrong p.sort) ps;
+      tokens = tokens_of ps;
+    }
 
 unfoldable pub row_of : Form → ℕ → ℕ → List ℕ → Row
 row_of form number from line = row_by form number line (parts form from 0 line)
@@ -90,8 +103,11 @@ row_of form number from line = row_by form number line (parts form from 0 line)
 -- what is in each line, where the first has this number and place
 unfoldable pub rows_of : Form → ℕ → ℕ → List (List ℕ) → List Row
 rows_of form number from [] = []
-rows_of form number from (l ∷ ls) = row_of form number from l ∷ rows_of form (number + 1) (from + length l) ls
+rows_of form number from (l ∷ ls) =
+    row_of form number from l ∷ rows_of form (number + 1) (from + length l) ls
 
 -- what is in each line of a source
 unfoldable pub rows : Form → List ℕ → List Row
-rows form bytes = let skipped = byte_order_mark_len bytes in rows_of form 1 skipped (physical_lines (drop skipped bytes))
+rows form bytes =
+    let skipped = byte_order_mark_len bytes in
+    rows_of form 1 skipped (physical_lines (drop skipped bytes))

@@ -1,5 +1,7 @@
 -- What a physical line is made of: at each place the longest form that begins there.
-use Rattle.std.specs.Prelude.{ℕ, zero, suc, ◌+◌, ◌-◌, ◌*◌, Bool, false, not, ◌&&◌, ◌||◌, ◌==◌, nat_le, List, [], ◌∷◌, length, take, drop, Option, Some, None, option_map, if◌then◌else◌}
+use Rattle.std.specs.Prelude.{ℕ, zero, suc, ◌+◌, ◌-◌, ◌*◌, Bool, false, not, ◌&&◌, ◌||◌, ◌==◌}
+use Rattle.std.specs.Prelude.{nat_le, List, [], ◌∷◌, length, take, drop, Option, Some, None}
+use Rattle.std.specs.Prelude.{option_map, if◌then◌else◌}
 use Rattle.std.specs.Char.{is_ascii_digit}
 use Rattle.std.specs.List.{prefix_len, fold}
 use Rattle.mpy_lexer.specs.declared.forms.Form.{Form}
@@ -14,24 +16,33 @@ use Rattle.mpy_lexer.specs.Words.{is_reserved, mark_len}
 abbrev pub piece : Sort → ℕ → Piece
 piece sort n = record { sort = sort; len = n }
 
--- How far the closing quote reaches. A byte that a backslash takes with it, as `taken` says of the first one, closes and takes nothing. The end of the line closes nothing, so there it doesn't matter what a backslash takes.
+-- How far the closing quote reaches. A byte that a backslash takes with it, as `taken` says of the
+-- first one, closes and takes nothing. The end of the line closes nothing, so there it doesn't
+-- matter what a backslash takes.
 unfoldable pub closing : ℕ → Bool → List ℕ → Option ℕ
 closing quote taken [] = None
-closing quote taken (c ∷ rest) = if not taken && c == quote then Some 1 else option_map (λ n. n + 1) (closing quote (not taken && c == 92) rest)
+closing quote taken (c ∷ rest) =
+    if not taken && c == quote then Some 1
+    else option_map (λ n. n + 1) (closing quote (not taken && c == 92) rest)
 
 -- whether a backslash takes a byte that is no backslash and no quote
 unfoldable pub has_wrong_escape : Bool → List ℕ → Bool
 has_wrong_escape taken [] = false
-has_wrong_escape taken (c ∷ rest) = (taken && not (c == 92 || is_quote c)) || has_wrong_escape (not taken && c == 92) rest
+has_wrong_escape taken (c ∷ rest) =
+    (taken && not (c == 92 || is_quote c)) || has_wrong_escape (not taken && c == 92) rest
 
--- a text literal after its opening quote: up to the closing one, or to the end of the line where there is none
+-- a text literal after its opening quote: up to the closing one, or to the end of the line where
+-- there is none
 abbrev pub text_to : List ℕ → Option ℕ → Piece
 text_to body None = piece Wrong (1 + length body)
-text_to body (Some n) = piece (if has_wrong_escape false (take n body) then Wrong else Token kind.Text) (1 + n)
+text_to body (Some n) =
+    piece (if has_wrong_escape false (take n body) then Wrong else Token kind.Text) (1 + n)
 
 -- a name, which may be reserved
 unfoldable pub name_at : List ℕ → Piece
-name_at text = let n = prefix_len is_name_byte text in piece (Token (if is_reserved (take n text) then kind.Reserved else kind.Name)) n
+name_at text =
+    let n = prefix_len is_name_byte text in
+    piece (Token (if is_reserved (take n text) then kind.Reserved else kind.Name)) n
 
 -- the number that the digits write
 abbrev pub number_value : List ℕ → ℕ
@@ -39,7 +50,8 @@ number_value digits = fold (λ n c. n * 10 + (c - 48)) 0 digits
 
 -- the number that the digits write, if it is at most 2147483647
 abbrev pub number_of : List ℕ → Option ℕ
-number_of digits = if nat_le (number_value digits) 2147483647 then Some (number_value digits) else None
+number_of digits =
+    if nat_le (number_value digits) 2147483647 then Some (number_value digits) else None
 
 -- 0, or digits that don't begin with it
 abbrev pub digits_len : List ℕ → ℕ
@@ -53,18 +65,25 @@ is_glued (c ∷ rest) = is_name_byte c || c == 46
 
 -- a number of at most 2147483647 that nothing is glued to
 unfoldable pub number_at : List ℕ → Piece
-number_at text = let n = digits_len text in piece (if nat_le (number_value (take n text)) 2147483647 && not (is_glued (drop n text)) then Token kind.Number else Wrong) n
+number_at text =
+    let n = digits_len text in
+    let small = nat_le (number_value (take n text)) 2147483647 in
+    piece (if small && not (is_glued (drop n text)) then Token kind.Number else Wrong) n
 
 -- 1 where the first byte passes, else 0
 abbrev pub one_if : (ℕ → Bool) → List ℕ → ℕ
 one_if test [] = 0
 one_if test (c ∷ rest) = if test c then 1 else 0
 
--- a metavariable of rules: `$`, a letter, perhaps a digit, perhaps a prime; 0 where none begins here
+-- a metavariable of rules: `$`, a letter, perhaps a digit, perhaps a prime; 0 where none begins
+-- here
 abbrev pub meta_len : List ℕ → ℕ
 meta_len [] = 0
 meta_len (c ∷ []) = 0
-meta_len (c ∷ letter ∷ rest) = if c == 36 && is_meta_letter letter then (let digit = one_if is_ascii_digit rest in 2 + digit + one_if (λ p. p == 39) (drop digit rest)) else 0
+meta_len (c ∷ letter ∷ rest) =
+    let digit = one_if is_ascii_digit rest in
+    let prime = one_if (λ p. p == 39) (drop digit rest) in
+    if c == 36 && is_meta_letter letter then 2 + digit + prime else 0
 
 abbrev pub meta_len_in : Form → List ℕ → ℕ
 meta_len_in Program text = 0
@@ -99,8 +118,11 @@ pub record Part : Type 0 where
 abbrev pub part : Piece → ℕ → List ℕ → Part
 part p from text = record { sort = p.sort; from = from; bytes = take p.len text }
 
--- The parts of a line whose first byte stands at `from`, where the part before them takes the first `taken` bytes: each byte that isn't taken begins one.
+-- The parts of a line whose first byte stands at `from`, where the part before them takes the first
+-- `taken` bytes: each byte that isn't taken begins one.
 unfoldable pub parts : Form → ℕ → ℕ → List ℕ → List Part
 parts form from taken [] = []
 parts form from (suc n) (c ∷ rest) = parts form (from + 1) n rest
-parts form from zero (c ∷ rest) = let p = piece_at form (c ∷ rest) in part p from (c ∷ rest) ∷ parts form (from + 1) (p.len - 1) rest
+parts form from zero (c ∷ rest) =
+    let p = piece_at form (c ∷ rest) in
+    part p from (c ∷ rest) ∷ parts form (from + 1) (p.len - 1) rest

@@ -21,4 +21,6 @@ pub record IsLineOf (form : Form) (source : List ℕ) (l : Line) : Type 0 where
 
 -- the logical lines of a source are of it, whatever is at fault in them
 abbrev pub LinesAreOfTheirSource : Type 0
-LinesAreOfTheirSource = (form : Form) (source : List ℕ) → All (IsLineOf form source) (logical_lines [] (rows form source))
+LinesAreOfTheirSource =
+    (form : Form) (source : List ℕ)
+    → All (IsLineOf form source) (logical_lines [] (rows form source))

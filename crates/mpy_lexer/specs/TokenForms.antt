@@ -1,12 +1,14 @@
 -- What the bytes of a token are, by its kind.
-use Rattle.std.specs.Prelude.{ℕ, Bool, true, false, not, ◌&&◌, ◌||◌, ◌==◌, nat_eq, nat_le, List, [], ◌∷◌, length, Option, Some, None}
+use Rattle.std.specs.Prelude.{ℕ, Bool, true, false, not, ◌&&◌, ◌||◌, ◌==◌, nat_eq, nat_le, List, []}
+use Rattle.std.specs.Prelude.{◌∷◌, length, Option, Some, None}
 use Rattle.std.specs.Char.{is_ascii_digit}
 use Rattle.std.specs.Cmp.Lexicographic.{pointwise}
 use Rattle.std.specs.List.{list_all, list_any}
 use Rattle.mpy_lexer.specs.declared.forms.Form.{Form}
 use Rattle.mpy_lexer.specs.declared.forms.Form.TheVariants.{Program, Rules}
 use Rattle.mpy_lexer.specs.declared.forms.Kind.{Kind}
-use Rattle.mpy_lexer.specs.declared.forms.Kind.TheVariants.{Name, Reserved, Number, Text, Mark, Meta}
+use Rattle.mpy_lexer.specs.declared.forms.Kind.TheVariants.{Name, Reserved, Number, Text, Mark}
+use Rattle.mpy_lexer.specs.declared.forms.Kind.TheVariants.{Meta}
 use Rattle.mpy_lexer.specs.Bytes.{is_quote, is_name_start, is_name_byte, is_meta_letter}
 use Rattle.mpy_lexer.specs.Words.{is_reserved, marks}
 use Rattle.mpy_lexer.specs.Pieces.{closing, has_wrong_escape, number_value}
@@ -23,7 +25,9 @@ is_none_behind c (d ∷ rest) = not (c == 48)
 -- 0, or digits that don't begin with it, at most 2147483647
 abbrev pub is_number : List ℕ → Bool
 is_number [] = false
-is_number (c ∷ rest) = list_all is_ascii_digit (c ∷ rest) && is_none_behind c rest && nat_le (number_value (c ∷ rest)) 2147483647
+is_number (c ∷ rest) =
+    list_all is_ascii_digit (c ∷ rest) && is_none_behind c rest
+    && nat_le (number_value (c ∷ rest)) 2147483647
 
 abbrev pub is_length : ℕ → Option ℕ → Bool
 is_length n None = false
@@ -32,7 +36,9 @@ is_length n (Some m) = m == n
 -- a quote, and bytes of which the last is the first one that closes it
 abbrev pub is_text : List ℕ → Bool
 is_text [] = false
-is_text (quote ∷ body) = is_quote quote && is_length (length body) (closing quote false body) && not (has_wrong_escape false body)
+is_text (quote ∷ body) =
+    is_quote quote && is_length (length body) (closing quote false body)
+    && not (has_wrong_escape false body)
 
 -- perhaps a digit, and perhaps a prime
 abbrev pub is_meta_end : List ℕ → Bool

@@ -29,9 +29,10 @@ IsLongest form text n =
 abbrev pub first_line : List ℕ → List ℕ
 first_line text = take (line_len text) text
 
--- A text from the place `from` on is what is passed over, then the token, and then more. On its line
--- the token is the longest form at its place.
-pub record IsNext (form : Form) (from : ℕ) (text between : List ℕ) (t : Token) (more : List ℕ) : Type 0 where
+-- A text from the place `from` on is what is passed over, then the token, and then more. On its
+-- line the token is the longest form at its place.
+pub record IsNext (form : Form) (from : ℕ) (text between : List ℕ) (t : Token) (more : List ℕ)
+    : Type 0 where
   pub bytes : text ≡ between ++ (t.text ++ more)
   pub passed : is_passed_over false between ≡ true
   pub begins : t.from ≡ from + length between
@@ -42,7 +43,8 @@ pub record IsNext (form : Form) (from : ℕ) (text between : List ℕ) (t : Toke
 abbrev pub IsCovered : Form → ℕ → List ℕ → List Token → Type 0
 IsCovered form from text [] = is_passed_over false text ≡ true
 IsCovered form from text (t ∷ ts) =
-    (between : List ℕ) × (more : List ℕ) × IsNext form from text between t more × IsCovered form t.to more ts
+    (between : List ℕ) × (more : List ℕ) × IsNext form from text between t more
+    × IsCovered form t.to more ts
 
 -- the tokens of all lines
 abbrev pub tokens_of_lines : List Line → List Token

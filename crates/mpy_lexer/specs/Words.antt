@@ -6,18 +6,32 @@ use Rattle.mpy_lexer.specs.declared.forms.Form.{Form}
 use Rattle.mpy_lexer.specs.declared.forms.Form.TheVariants.{Program, Rules}
 
 abbrev pub reserved_words : List (List ℕ)
-reserved_words = codes "and" ∷ codes "as" ∷ codes "assert" ∷ codes "async" ∷ codes "await" ∷ codes "break" ∷ codes "class" ∷ codes "continue" ∷ codes "def" ∷ codes "del" ∷ codes "elif" ∷ codes "else" ∷ codes "except" ∷ codes "finally" ∷ codes "for" ∷ codes "from" ∷ codes "global" ∷ codes "if" ∷ codes "import" ∷ codes "in" ∷ codes "is" ∷ codes "lambda" ∷ codes "None" ∷ codes "nonlocal" ∷ codes "not" ∷ codes "or" ∷ codes "pass" ∷ codes "raise" ∷ codes "return" ∷ codes "True" ∷ codes "False" ∷ codes "try" ∷ codes "while" ∷ codes "with" ∷ codes "yield" ∷ []
+reserved_words =
+    codes "and" ∷ codes "as" ∷ codes "assert" ∷ codes "async" ∷ codes "await" ∷ codes "break"
+    ∷ codes "class" ∷ codes "continue" ∷ codes "def" ∷ codes "del" ∷ codes "elif" ∷ codes "else"
+    ∷ codes "except" ∷ codes "finally" ∷ codes "for" ∷ codes "from" ∷ codes "global" ∷ codes "if"
+    ∷ codes "import" ∷ codes "in" ∷ codes "is" ∷ codes "lambda" ∷ codes "None" ∷ codes "nonlocal"
+    ∷ codes "not" ∷ codes "or" ∷ codes "pass" ∷ codes "raise" ∷ codes "return" ∷ codes "True"
+    ∷ codes "False" ∷ codes "try" ∷ codes "while" ∷ codes "with" ∷ codes "yield" ∷ []
 
 unfoldable pub is_reserved : List ℕ → Bool
 is_reserved word = list_any (pointwise nat_eq word) reserved_words
 
 -- the marks of programs, the longer ones first
 abbrev pub program_marks : List (List ℕ)
-program_marks = codes "//=" ∷ codes "==" ∷ codes "!=" ∷ codes "<=" ∷ codes ">=" ∷ codes "//" ∷ codes "**" ∷ codes "+=" ∷ codes "-=" ∷ codes "*=" ∷ codes "%=" ∷ codes "(" ∷ codes ")" ∷ codes "[" ∷ codes "]" ∷ codes ":" ∷ codes "," ∷ codes "." ∷ codes "=" ∷ codes "<" ∷ codes ">" ∷ codes "+" ∷ codes "-" ∷ codes "*" ∷ codes "%" ∷ []
+program_marks =
+    codes "//=" ∷ codes "==" ∷ codes "!=" ∷ codes "<=" ∷ codes ">=" ∷ codes "//" ∷ codes "**"
+    ∷ codes "+=" ∷ codes "-=" ∷ codes "*=" ∷ codes "%=" ∷ codes "(" ∷ codes ")" ∷ codes "["
+    ∷ codes "]" ∷ codes ":" ∷ codes "," ∷ codes "." ∷ codes "=" ∷ codes "<" ∷ codes ">" ∷ codes "+"
+    ∷ codes "-" ∷ codes "*" ∷ codes "%" ∷ []
 
 -- those of rules: four more
 abbrev pub rule_marks : List (List ℕ)
-rule_marks = codes "//=" ∷ codes "=>" ∷ codes "==" ∷ codes "!=" ∷ codes "<=" ∷ codes ">=" ∷ codes "//" ∷ codes "**" ∷ codes "+=" ∷ codes "-=" ∷ codes "*=" ∷ codes "%=" ∷ codes "(" ∷ codes ")" ∷ codes "[" ∷ codes "]" ∷ codes ":" ∷ codes "," ∷ codes "." ∷ codes "=" ∷ codes "<" ∷ codes ">" ∷ codes "+" ∷ codes "-" ∷ codes "*" ∷ codes "%" ∷ codes "?" ∷ codes "{" ∷ codes "}" ∷ []
+rule_marks =
+    codes "//=" ∷ codes "=>" ∷ codes "==" ∷ codes "!=" ∷ codes "<=" ∷ codes ">=" ∷ codes "//"
+    ∷ codes "**" ∷ codes "+=" ∷ codes "-=" ∷ codes "*=" ∷ codes "%=" ∷ codes "(" ∷ codes ")"
+    ∷ codes "[" ∷ codes "]" ∷ codes ":" ∷ codes "," ∷ codes "." ∷ codes "=" ∷ codes "<" ∷ codes ">"
+    ∷ codes "+" ∷ codes "-" ∷ codes "*" ∷ codes "%" ∷ codes "?" ∷ codes "{" ∷ codes "}" ∷ []
 
 abbrev pub marks : Form → List (List ℕ)
 marks Program = program_marks

@@ -1,6 +1,8 @@
 //! The brackets that are open at a place.
 ghost use Rattle.std.specs.Prelude.{◌≡◌, ◌||◌, [], map, OnOk, IfOk, length};
-ghost use Rattle.mpy_lexer.specs.Brackets.{first_of_mark, mark_of, is_opening, is_closing, are_partners, is_empty, closes, open_behind, open_after, has_unmatched};
+ghost use Rattle.mpy_lexer.specs.Brackets.{first_of_mark, mark_of, is_opening, is_closing};
+ghost use Rattle.mpy_lexer.specs.Brackets.{are_partners, is_empty, closes, open_behind, open_after};
+ghost use Rattle.mpy_lexer.specs.Brackets.{has_unmatched};
 ghost use Rattle.mpy_tree.specs.Leasts.{lesser, least};
 
 use crate::NoMemory;

@@ -1,6 +1,7 @@
 //! The classes of bytes.
 ghost use Rattle.std.specs.Prelude.{◌≡◌};
-ghost use Rattle.mpy_lexer.specs.Bytes.{is_blank, is_white, is_quote, is_name_start, is_name_byte, is_meta_letter};
+ghost use Rattle.mpy_lexer.specs.Bytes.{is_blank, is_white, is_quote, is_name_start, is_name_byte};
+ghost use Rattle.mpy_lexer.specs.Bytes.{is_meta_letter};
 
 /// Whether the byte is a tab or a space.
 pub(crate) fn is_blank(byte: u8) -> bool

@@ -1,6 +1,7 @@
 //! The bytes that may stand outside comments.
 ghost use Rattle.std.specs.Prelude.{◌≡◌};
-ghost use Rattle.mpy_lexer.specs.PhysicalLines.{is_line_feed_next, is_allowed, has_foreign_byte, is_foreign};
+ghost use Rattle.mpy_lexer.specs.PhysicalLines.{is_line_feed_next, is_allowed, has_foreign_byte};
+ghost use Rattle.mpy_lexer.specs.PhysicalLines.{is_foreign};
 
 use crate::pieces::Sort;
 

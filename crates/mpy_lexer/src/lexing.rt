@@ -1,7 +1,9 @@
 //! The logical lines of a text.
-ghost use Rattle.std.specs.Prelude.{◌≡◌, ◌≤◌, ◌||◌, if◌then◌else◌, [], length, All, OnOk, IfOk, IfErr};
+ghost use Rattle.std.specs.Prelude.{◌≡◌, ◌≤◌, ◌||◌, if◌then◌else◌, [], length, All, OnOk, IfOk};
+ghost use Rattle.std.specs.Prelude.{IfErr};
 ghost use Rattle.mpy_tree.specs.Leasts.{lesser, least};
-ghost use Rattle.mpy_lexer.specs.Lexing.{byte_fault, faulty_lines, logical_lines, length_fault, lex, IsAnswered};
+ghost use Rattle.mpy_lexer.specs.Lexing.{byte_fault, faulty_lines, logical_lines, length_fault};
+ghost use Rattle.mpy_lexer.specs.Lexing.{lex, IsAnswered};
 ghost use Rattle.mpy_lexer.specs.Seen.{with_more};
 ghost use Rattle.mpy_lexer.specs.TokenLaws.{TokensCoverTheirSource};
 ghost use Rattle.mpy_lexer.specs.Spans.{IsLineOf, LinesAreOfTheirSource};
@@ -30,7 +32,8 @@ fn byte_fault(rows: &[Row]) -> Option<LexError>
 
 // The lesser of the line and the row's, where something in the row is at fault.
 fn with_row(line: Option<u32>, row: &Row, unmatched: bool) -> Option<u32>
-    ensures { result ≡ (if row.now.is_wrong || unmatched then lesser line (Some row.now.number) else line) }
+    ensures { result
+        ≡ (if row.now.is_wrong || unmatched then lesser line (Some row.now.number) else line) }
 {
     if row.is_wrong || unmatched {
         lesser(line, row.number)
@@ -108,7 +111,8 @@ fn length_fault(lines: &[Line]) -> Option<LexError>
 }
 
 /// The logical lines of a program or of rules, or the first cause for which there are none, in this
-/// order: `Byte` and `Tab` at the earliest byte, `Token` on the least line, `LongLine` on the least line.
+/// order: `Byte` and `Tab` at the earliest byte, `Token` on the least line, `LongLine` on the least
+/// line.
 pub fn lines(alloc: Global, bytes: &[u8], form: Form) -> Result<Vec<Line>, LexError>
     requires { length bytes.now ≤ 1073741824 }
     ensures lines { IfOk result (λ v. lex form bytes.now ≡ Ok v.items) }

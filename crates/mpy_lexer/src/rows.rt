@@ -1,7 +1,10 @@
 //! What is in the physical lines of a source.
-ghost use Rattle.std.specs.Prelude.{◌≡◌, ◌<◌, ◌≤◌, ◌+◌, ◌^◌, ◌++◌, ◌||◌, ◌&&◌, if◌then◌else◌, [], false, length, OnOk, IfOk};
+ghost use Rattle.std.specs.Prelude.{◌≡◌, ◌<◌, ◌≤◌, ◌+◌, ◌^◌, ◌++◌, ◌||◌, ◌&&◌, if◌then◌else◌, []};
+ghost use Rattle.std.specs.Prelude.{false, length, OnOk, IfOk};
 ghost use Rattle.mpy_lexer.specs.Pieces.{parts};
-ghost use Rattle.mpy_lexer.specs.PhysicalLines.{byte_order_mark_len, is_foreign, is_solid, is_wrong, token_in, begins_with_tab, column_of, is_program, row_of, rows_of, rows};
+ghost use Rattle.mpy_lexer.specs.PhysicalLines.{byte_order_mark_len, is_foreign, is_solid};
+ghost use Rattle.mpy_lexer.specs.PhysicalLines.{is_wrong, token_in, begins_with_tab, column_of};
+ghost use Rattle.mpy_lexer.specs.PhysicalLines.{is_program, row_of, rows_of, rows};
 ghost use Rattle.mpy_lexer.specs.Seen.{seen_behind, line_len};
 
 use crate::NoMemory;
@@ -117,7 +120,9 @@ fn column_of(line: &[u8]) -> u32
 }
 
 fn byte_cause(form: Form, line: &[u8], seen: &Seen) -> Option<LexCause>
-    ensures { result ≡ (if is_program form && begins_with_tab line.now && seen.now.is_solid then Some LexCause.Tab else if seen.now.is_foreign then Some LexCause.Byte else None) }
+    ensures { result
+        ≡ (if is_program form && begins_with_tab line.now && seen.now.is_solid
+        then Some LexCause.Tab else if seen.now.is_foreign then Some LexCause.Byte else None) }
 {
     let has_tab = match form {
         Form::Program => begins_with_tab(line),

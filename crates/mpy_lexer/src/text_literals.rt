@@ -59,7 +59,7 @@ fn is_last(quote: u8, bytes: &[u8]) -> bool
 }
 
 // The characters of a literal behind its opening quote, if it is one.
-#[tactic(auto, using(crate::proofs::Characters::characters_step, crate::proofs::Characters::all_found, crate::proofs::Characters::not_closed))]
+#[tactic(auto, using(crate::proofs::Characters::walk))]
 fn characters(alloc: Global, quote: u8, bytes: &[u8]) -> Result<Option<Vec<u8>>, NoMemory>
     ensures same { IfOk result (λ o. option_map (λ v. v.items) o ≡ characters quote bytes.now) }
     ensures printable { IfOk result (λ o. IfSome o (λ v. ArePrintable v.items)) }
@@ -78,7 +78,8 @@ fn characters(alloc: Global, quote: u8, bytes: &[u8]) -> Result<Option<Vec<u8>>,
 }
 
 /// The characters that a text literal spells, each of them printable: a backslash stands for the
-/// character behind it. `bytes` are the whole literal, with its quotes; None where they are no literal.
+/// character behind it. `bytes` are the whole literal, with its quotes; None where they are no
+/// literal.
 pub fn literal_characters(alloc: Global, bytes: &[u8]) -> Result<Option<Vec<u8>>, NoMemory>
     ensures same { IfOk result (λ o. option_map (λ v. v.items) o ≡ literal_characters bytes.now) }
     ensures printable { IfOk result (λ o. IfSome o (λ v. ArePrintable v.items)) }

@@ -1,5 +1,6 @@
 //! Tokens, and lists of them.
-ghost use Rattle.std.specs.Prelude.{◌≡◌, ◌<◌, ◌++◌, ◌∷◌, [], length, slice_get, Some, OnOk, OnErr, IfOk};
+ghost use Rattle.std.specs.Prelude.{◌≡◌, ◌<◌, ◌++◌, ◌∷◌, [], length, slice_get, Some, OnOk, OnErr};
+ghost use Rattle.std.specs.Prelude.{IfOk};
 
 use crate::NoMemory;
 use crate::forms::Kind;
@@ -152,7 +153,8 @@ impl Tokens {
         Ok(())
     }
 
-    /// Adds the tokens of another list at the end. Where memory is wanting the list stays as it was.
+    /// Adds the tokens of another list at the end. Where memory is wanting the list stays as it
+    /// was.
     pub fn append(&mut self, other: Tokens) -> Result<(), NoMemory>
         ensures ok { OnOk result (self.new ≡ self.old ++ other) }
         ensures err { OnErr result (self.new ≡ self.old) }

@@ -1,68 +1,29 @@
 -- How large a program may be, and where one is larger.
-use Rattle.std.specs.Prelude.{ℕ, zero, suc, ◌+◌, max, Bool, false, ◌||◌, nat_lt, List, [], ◌∷◌}
+use Rattle.std.specs.Prelude.{ℕ, zero, suc, Bool, false, ◌||◌, nat_lt, List, [], ◌∷◌}
 use Rattle.std.specs.Prelude.{◌++◌, length, map, take, drop, Result, Ok, Err, if◌then◌else◌}
 use Rattle.std.specs.List.{flat_map, list_any}
-use Rattle.mpy_tree.specs.Syntax.{Term, Terms, MaybeTerm, no_terms, term_and, no_term, a_term, at}
+use Rattle.mpy_tree.specs.Syntax.{Term, MaybeTerm, no_term, a_term, at}
 use Rattle.mpy_tree.specs.Syntax.{Action, Block, end, step, MaybeBlock, no_block, a_block, arm}
 use Rattle.mpy_tree.specs.Syntax.{Branches, no_arms, arm_and, Routine}
 use Rattle.mpy_tree.specs.Syntax as ast
+use Rattle.mpy_tree.specs.NameLengths.{is_long}
+use Rattle.mpy_tree.specs.Trees.{tree_depth}
+use Rattle.mpy_tree.specs.Shapes.{shape}
+use Rattle.mpy_tree.specs.Sites.{nodes}
 
--- a leaf has depth 1, and every other node one more than its deepest part
-abbrev mutual
-  pub depth : Term → ℕ
-  depth (ast.Int n) = 1
-  depth (ast.Bool b) = 1
-  depth (ast.Text cs) = 1
-  depth (ast.Name x) = 1
-  depth (ast.List es) = 1 + most_depth es
-  depth (ast.Neg e) = 1 + depth e
-  depth (ast.Not e) = 1 + depth e
-  depth (ast.Arith op a b) = 1 + max (depth a) (depth b)
-  depth (ast.Cmp op a b) = 1 + max (depth a) (depth b)
-  depth (ast.And a b) = 1 + max (depth a) (depth b)
-  depth (ast.Or a b) = 1 + max (depth a) (depth b)
-  depth (ast.Cond t a b) = 1 + max (depth t) (max (depth a) (depth b))
-  depth (ast.Index v i) = 1 + max (depth v) (depth i)
-  depth (ast.Slice v from to) = 1 + max (depth v) (max (end_depth from) (end_depth to))
-  depth (ast.Call f es) = 1 + most_depth es
+-- how deep the tree of an expression is
+abbrev pub depth : Term → ℕ
+depth e = tree_depth (shape e)
 
-  pub most_depth : Terms → ℕ
-  most_depth no_terms = 0
-  most_depth (term_and e es) = max (depth e) (most_depth es)
+-- a node with a name that is too long
+abbrev pub is_long_node : Term → Bool
+is_long_node (ast.Name x) = is_long x
+is_long_node (ast.Call f es) = is_long f
+is_long_node _ = false
 
-  pub end_depth : MaybeTerm → ℕ
-  end_depth no_term = 0
-  end_depth (a_term e) = depth e
-
--- a name of more than 40 bytes
-abbrev pub is_long : List ℕ → Bool
-is_long x = nat_lt 40 (length x)
-
-abbrev mutual
-  pub has_long : Term → Bool
-  has_long (ast.Int n) = false
-  has_long (ast.Bool b) = false
-  has_long (ast.Text cs) = false
-  has_long (ast.Name x) = is_long x
-  has_long (ast.List es) = some_has_long es
-  has_long (ast.Neg e) = has_long e
-  has_long (ast.Not e) = has_long e
-  has_long (ast.Arith op a b) = has_long a || has_long b
-  has_long (ast.Cmp op a b) = has_long a || has_long b
-  has_long (ast.And a b) = has_long a || has_long b
-  has_long (ast.Or a b) = has_long a || has_long b
-  has_long (ast.Cond t a b) = has_long t || has_long a || has_long b
-  has_long (ast.Index v i) = has_long v || has_long i
-  has_long (ast.Slice v from to) = has_long v || end_has_long from || end_has_long to
-  has_long (ast.Call f es) = is_long f || some_has_long es
-
-  pub some_has_long : Terms → Bool
-  some_has_long no_terms = false
-  some_has_long (term_and e es) = has_long e || some_has_long es
-
-  pub end_has_long : MaybeTerm → Bool
-  end_has_long no_term = false
-  end_has_long (a_term e) = has_long e
+-- some node has one
+abbrev pub has_long : Term → Bool
+has_long e = list_any is_long_node (nodes e)
 
 -- deeper than 32, or with a name that is too long
 abbrev pub is_large : Term → Bool

@@ -2,19 +2,20 @@
 ghost use Rattle.std.specs.Prelude.{◌≡◌, ◌++◌, ◌∷◌, Some, drop, length, map, nat_lt, take};
 ghost use Rattle.std.specs.List.{flat_map, list_any};
 ghost use Rattle.mpy_tree.specs.Leasts.{lesser, least};
+ghost use Rattle.mpy_tree.specs.NameLengths.{is_long};
 ghost use Rattle.mpy_tree.specs.View.{action_of, block_of, block_or_none, branch_of, branches_of};
 ghost use Rattle.mpy_tree.specs.View.{end_by, maybe_term, routine_of, routines_of, statement_of};
 ghost use Rattle.mpy_tree.specs.View.{term_of, terms_of};
+ghost use Rattle.mpy_tree.specs.Trees.{most_depth, no_trees};
+ghost use Rattle.mpy_tree.specs.Shapes.{shape_and, shapes};
+ghost use Rattle.mpy_tree.specs.Sites.{all_nodes, end_nodes};
 ghost use Rattle.mpy_limits.specs.Limits.{action_lines, arms_lines, block_lines, deeper, depth};
-ghost use Rattle.mpy_limits.specs.Limits.{end_depth, end_has_long, end_is_large, has_long};
-ghost use Rattle.mpy_limits.specs.Limits.{is_large, is_large_header, is_long, last_lines};
-ghost use Rattle.mpy_limits.specs.Limits.{limit_lines, line_if, most_depth, nth_or_left};
-ghost use Rattle.mpy_limits.specs.Limits.{routine_lines, some_has_long, statements, statements_in};
+ghost use Rattle.mpy_limits.specs.Limits.{end_is_large, has_long, is_large, is_large_header};
+ghost use Rattle.mpy_limits.specs.Limits.{is_long_node, last_lines, limit_lines, line_if};
+ghost use Rattle.mpy_limits.specs.Limits.{nth_or_left, routine_lines, statements, statements_in};
 ghost use Rattle.mpy_limits.specs.Limits.{statements_last, statements_of, too_deep};
 
 use mpy_tree::{Act, Arms, Expr, Exprs, Func, Name, Prog, Stmts};
-
-const MAX_NAME: usize = 40;
 
 const MAX_DEPTH: u32 = 32;
 
@@ -28,7 +29,7 @@ const MAX_FUNCTIONS: usize = 8;
 
 // Whether an expression is deeper than a limit.
 #[cycle(depth)]
-#[tactic(auto, using(crate::proofs::Depths::leaf_depth, crate::proofs::Depths::node_depth, crate::proofs::Depths::node_depth_of_two, crate::proofs::Depths::node_depth_of_three))]
+#[tactic(auto, using(crate::proofs::Depths::depths))]
 fn is_deeper(e: &Expr, limit: u32) -> bool
     ensures { result ≡ nat_lt limit (depth (term_of e.now)) }
 {
@@ -44,7 +45,7 @@ fn is_deeper(e: &Expr, limit: u32) -> bool
         Expr::And(a, b) | Expr::Or(a, b) | Expr::Index(a, b) => is_deeper(a, rest)
             || is_deeper(b, rest),
         Expr::Cond { test, yes, no } => {
-            is_deeper(test, rest) || is_deeper(yes, rest) || is_deeper(no, rest)
+            is_deeper(yes, rest) || is_deeper(test, rest) || is_deeper(no, rest)
         }
         Expr::Slice(a, from, to) => {
             is_deeper(a, rest) || end_is_deeper(from, rest) || end_is_deeper(to, rest)
@@ -57,7 +58,7 @@ fn is_deeper(e: &Expr, limit: u32) -> bool
 #[cycle(depth)]
 #[tactic(auto, using(crate::proofs::Depths::max_depth))]
 fn some_is_deeper(es: &Exprs, limit: u32) -> bool
-    ensures { result ≡ nat_lt limit (most_depth (terms_of es.now)) }
+    ensures { result ≡ nat_lt limit (most_depth (shapes (terms_of es.now))) }
 {
     for e in &es.items {
         if is_deeper(e, limit) {
@@ -70,7 +71,8 @@ fn some_is_deeper(es: &Exprs, limit: u32) -> bool
 // Whether there is an end of a slice that is deeper than a limit.
 #[cycle(depth)]
 fn end_is_deeper(e: &Option<Box<Expr>>, limit: u32) -> bool
-    ensures { result ≡ nat_lt limit (end_depth (end_by (λ b. term_of b.value) e.now)) }
+    ensures { result
+        ≡ nat_lt limit (most_depth (shape_and (end_by (λ b. term_of b.value) e.now) no_trees)) }
 {
     match e {
         None => false,
@@ -78,42 +80,37 @@ fn end_is_deeper(e: &Option<Box<Expr>>, limit: u32) -> bool
     }
 }
 
-// Whether a name is too long.
-fn is_long(x: &Name) -> bool
-    ensures { result ≡ is_long x.now }
-{
-    x.bytes().len() > MAX_NAME
-}
-
 // Whether some name is too long.
 fn some_is_long(names: &[Name]) -> bool
     ensures { result ≡ list_any is_long names.now }
 {
-    names.iter().any(|x| is_long(x))
+    names.iter().any(|x| x.is_long())
 }
 
 // Whether some name of an expression is too long.
 #[cycle(names)]
+#[tactic(auto, using(crate::proofs::LongNames::long_names))]
 fn has_long(e: &Expr) -> bool
     ensures { result ≡ has_long (term_of e.now) }
 {
     match e {
         Expr::Int(_) | Expr::Bool(_) | Expr::Text(_) => false,
-        Expr::Name(x) => is_long(x),
+        Expr::Name(x) => x.is_long(),
         Expr::List(es) => some_has_long(es),
         Expr::Neg(a) | Expr::Not(a) => has_long(a),
         Expr::Arith(_, a, b) | Expr::Cmp(_, a, b) => has_long(a) || has_long(b),
         Expr::And(a, b) | Expr::Or(a, b) | Expr::Index(a, b) => has_long(a) || has_long(b),
-        Expr::Cond { test, yes, no } => has_long(test) || has_long(yes) || has_long(no),
+        Expr::Cond { test, yes, no } => has_long(yes) || has_long(test) || has_long(no),
         Expr::Slice(a, from, to) => has_long(a) || end_has_long(from) || end_has_long(to),
-        Expr::Call(f, es) => is_long(f) || some_has_long(es),
+        Expr::Call(f, es) => f.is_long() || some_has_long(es),
     }
 }
 
 // Whether some name of some expression is too long.
 #[cycle(names)]
+#[tactic(auto, using(crate::proofs::LongNames::long_of_two))]
 fn some_has_long(es: &Exprs) -> bool
-    ensures { result ≡ some_has_long (terms_of es.now) }
+    ensures { result ≡ list_any is_long_node (all_nodes (terms_of es.now)) }
 {
     for e in &es.items {
         if has_long(e) {
@@ -126,7 +123,7 @@ fn some_has_long(es: &Exprs) -> bool
 // Whether some name of an end of a slice is too long.
 #[cycle(names)]
 fn end_has_long(e: &Option<Box<Expr>>) -> bool
-    ensures { result ≡ end_has_long (end_by (λ b. term_of b.value) e.now) }
+    ensures { result ≡ list_any is_long_node (end_nodes (end_by (λ b. term_of b.value) e.now)) }
 {
     match e {
         None => false,
@@ -195,16 +192,22 @@ fn action_limit(found: Option<u32>, nesting: u32, line: u32, act: &Act) -> Optio
 {
     match act {
         Act::Assign(x, e) | Act::Augment(x, _, e) | Act::Append(x, e) => {
-            with_line(found, is_long(x) || is_large(e), line)
+            with_line(found, x.is_long() || is_large(e), line)
         }
         Act::Put(x, i, e) | Act::AugmentAt(x, i, _, e) => {
-            with_line(found, is_long(x) || is_large(i) || is_large(e), line)
+            with_line(found, x.is_long() || is_large(i) || is_large(e), line)
         }
         Act::Return(e) => with_line(found, end_is_large(e), line),
         Act::Pass | Act::Break | Act::Continue => found,
         Act::If(arms, last) => else_limit(arms_limit(found, nesting, arms), nesting, last),
         Act::While(e, body) => headed_limit(found, nesting, is_large(e), line, body),
-        Act::For(x, e, body) => headed_limit(found, nesting, is_long(x) || is_large(e), line, body),
+        Act::For(x, e, body) => headed_limit(
+            found,
+            nesting,
+            x.is_long() || is_large(e),
+            line,
+            body,
+        ),
     }
 }
 
@@ -240,7 +243,10 @@ fn headed_limit(
     line: u32,
     body: &Stmts,
 ) -> Option<u32>
-    ensures { result ≡ lesser found (least (line_if is_large line ++ too_deep (deeper nesting) (block_of body.now) ++ block_lines (deeper nesting) (block_of body.now))) }
+    ensures { result
+        ≡ lesser found
+        (least (line_if is_large line ++ too_deep (deeper nesting) (block_of body.now)
+        ++ block_lines (deeper nesting) (block_of body.now))) }
 {
     let found = with_line(found, is_large, line);
     inner_limit(found, deeper(nesting), body)
@@ -249,7 +255,9 @@ fn headed_limit(
 // The same of an inner block, which may be nested too deep.
 #[cycle(block)]
 fn inner_limit(found: Option<u32>, nesting: u32, body: &Stmts) -> Option<u32>
-    ensures { result ≡ lesser found (least (too_deep nesting (block_of body.now) ++ block_lines nesting (block_of body.now))) }
+    ensures { result
+        ≡ lesser found
+        (least (too_deep nesting (block_of body.now) ++ block_lines nesting (block_of body.now))) }
 {
     let found = match body.items.first() {
         None => found,
@@ -321,7 +329,8 @@ fn statement_in_else(last: &Option<Stmts>, n: usize) -> Result<u32, usize>
 
 // The line of the n-th statement of functions.
 fn statement_of_functions(funcs: &[Func], n: usize) -> Result<u32, usize>
-    ensures { result ≡ nth_or_left (flat_map (λ r. statements r.body) (map routine_of funcs.now)) n }
+    ensures { result
+        ≡ nth_or_left (flat_map (λ r. statements r.body) (map routine_of funcs.now)) n }
 {
     let mut left = n;
     for f in funcs {
@@ -337,7 +346,7 @@ fn statement_of_functions(funcs: &[Func], n: usize) -> Result<u32, usize>
 fn is_large_header(f: &Func) -> bool
     ensures { result ≡ is_large_header (routine_of f.now) }
 {
-    f.params.items().len() > MAX_PARAMS || is_long(&f.name) || some_is_long(f.params.items())
+    f.params.items().len() > MAX_PARAMS || f.name.is_long() || some_is_long(f.params.items())
 }
 
 // The lesser of the line found so far and the first line on which a function passes a limit.
@@ -360,7 +369,9 @@ fn function_too_many(funcs: &[Func]) -> Option<u32>
 
 // The lesser of the line found so far and that of the first statement too many.
 fn statement_too_many(found: Option<u32>, funcs: &[Func]) -> Option<u32>
-    ensures { result ≡ lesser found (least (take 1 (drop 200 (flat_map (λ r. statements r.body) (map routine_of funcs.now))))) }
+    ensures { result
+        ≡ lesser found
+        (least (take 1 (drop 200 (flat_map (λ r. statements r.body) (map routine_of funcs.now))))) }
 {
     match statement_of_functions(funcs, MAX_STATEMENTS) {
         Ok(line) => with_line(found, true, line),

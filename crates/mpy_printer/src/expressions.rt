@@ -80,7 +80,9 @@ pub(crate) fn write_expr(e: &Expr, out: &mut Vec<u8>) -> Result<(), NoMemory>
 /// Adds a part, in parentheses where its own level is below the one asked for.
 #[cycle(expressions)]
 fn write_part(e: &Expr, asked: Level, out: &mut Vec<u8>) -> Result<(), NoMemory>
-    ensures { OnOk result (out.new.items ≡ out.old.items ++ at_level asked (term_of e.now) (text_of (term_of e.now))) }
+    ensures { OnOk result
+        (out.new.items ≡ out.old.items
+        ++ at_level asked (term_of e.now) (text_of (term_of e.now))) }
 {
     if level_of_expr(e).rank() < asked.rank() {
         out.extend_from_slice(b"(")?;
@@ -109,7 +111,9 @@ fn write_exprs(es: &Exprs, out: &mut Vec<u8>) -> Result<(), NoMemory>
 /// Adds the arguments of a call.
 #[cycle(expressions)]
 fn write_arguments(es: &Exprs, out: &mut Vec<u8>) -> Result<(), NoMemory>
-    ensures { OnOk result (out.new.items ≡ out.old.items ++ (codes "(" ++ commas (texts_of (terms_of es.now)) ++ codes ")")) }
+    ensures { OnOk result
+        (out.new.items ≡ out.old.items
+        ++ (codes "(" ++ commas (texts_of (terms_of es.now)) ++ codes ")")) }
 {
     out.extend_from_slice(b"(")?;
     write_exprs(es, out)?;
@@ -120,7 +124,9 @@ fn write_arguments(es: &Exprs, out: &mut Vec<u8>) -> Result<(), NoMemory>
 /// Adds the first end of a slice, with what stands round it.
 #[cycle(expressions)]
 fn write_from(from: &Option<Box<Expr>>, out: &mut Vec<u8>) -> Result<(), NoMemory>
-    ensures { OnOk result (out.new.items ≡ out.old.items ++ (codes "[" ++ end_text (end_by (λ b. term_of b.value) from.now) ++ codes ":")) }
+    ensures { OnOk result
+        (out.new.items ≡ out.old.items
+        ++ (codes "[" ++ end_text (end_by (λ b. term_of b.value) from.now) ++ codes ":")) }
 {
     out.extend_from_slice(b"[")?;
     write_end(from, out)?;
@@ -131,7 +137,9 @@ fn write_from(from: &Option<Box<Expr>>, out: &mut Vec<u8>) -> Result<(), NoMemor
 /// Adds the last end of a slice, with what stands after it.
 #[cycle(expressions)]
 fn write_to(to: &Option<Box<Expr>>, out: &mut Vec<u8>) -> Result<(), NoMemory>
-    ensures { OnOk result (out.new.items ≡ out.old.items ++ (end_text (end_by (λ b. term_of b.value) to.now) ++ codes "]")) }
+    ensures { OnOk result
+        (out.new.items ≡ out.old.items
+        ++ (end_text (end_by (λ b. term_of b.value) to.now) ++ codes "]")) }
 {
     write_end(to, out)?;
     out.extend_from_slice(b"]")?;
@@ -141,7 +149,8 @@ fn write_to(to: &Option<Box<Expr>>, out: &mut Vec<u8>) -> Result<(), NoMemory>
 /// Adds an end of a slice, which may be missing.
 #[cycle(expressions)]
 fn write_end(e: &Option<Box<Expr>>, out: &mut Vec<u8>) -> Result<(), NoMemory>
-    ensures { OnOk result (out.new.items ≡ out.old.items ++ end_text (end_by (λ b. term_of b.value) e.now)) }
+    ensures { OnOk result
+        (out.new.items ≡ out.old.items ++ end_text (end_by (λ b. term_of b.value) e.now)) }
 {
     match e {
         None => Ok(()),

@@ -35,7 +35,8 @@ fn write_func(f: &Func, out: &mut Vec<u8>) -> Result<(), NoMemory>
 /// Adds functions with an empty line between each two.
 #[tactic(auto, using(crate::proofs::Joining::joined_steps))]
 pub(crate) fn write_funcs(funcs: &Funcs, out: &mut Vec<u8>) -> Result<(), NoMemory>
-    ensures { OnOk result (out.new.items ≡ out.old.items ++ program_text (map routine_of funcs.now.items.items)) }
+    ensures { OnOk result
+        (out.new.items ≡ out.old.items ++ program_text (map routine_of funcs.now.items.items)) }
 {
     let mut separator: &[u8] = b"";
     for f in &funcs.items {

@@ -47,7 +47,9 @@ pub(crate) fn write_test(
     depth: usize,
     out: &mut Vec<u8>,
 ) -> Result<(), NoMemory>
-    ensures { OnOk result (out.new.items ≡ out.old.items ++ indented depth (word.now ++ text_of (term_of test.now) ++ codes ":")) }
+    ensures { OnOk result
+        (out.new.items ≡ out.old.items
+        ++ indented depth (word.now ++ text_of (term_of test.now) ++ codes ":")) }
 {
     write_indent(depth, out)?;
     out.extend_from_slice(word)?;
@@ -59,7 +61,10 @@ pub(crate) fn write_test(
 /// Adds the line of a `for`.
 #[tactic(auto, using(crate::proofs::Indentation::line_steps))]
 pub(crate) fn write_for(x: &Name, e: &Expr, depth: usize, out: &mut Vec<u8>) -> Result<(), NoMemory>
-    ensures { OnOk result (out.new.items ≡ out.old.items ++ indented depth (codes "for " ++ x.now ++ codes " in " ++ text_of (term_of e.now) ++ codes ":")) }
+    ensures { OnOk result
+        (out.new.items ≡ out.old.items
+        ++ indented depth
+        (codes "for " ++ x.now ++ codes " in " ++ text_of (term_of e.now) ++ codes ":")) }
 {
     write_indent(depth, out)?;
     out.extend_from_slice(b"for ")?;
@@ -78,7 +83,8 @@ pub(crate) fn write_assign(
     depth: usize,
     out: &mut Vec<u8>,
 ) -> Result<(), NoMemory>
-    ensures { OnOk result (out.new.items ≡ out.old.items ++ action_text depth (ast.Assign x.now (term_of e.now))) }
+    ensures { OnOk result
+        (out.new.items ≡ out.old.items ++ action_text depth (ast.Assign x.now (term_of e.now))) }
 {
     write_indent(depth, out)?;
     out.extend_from_slice(x.bytes())?;
@@ -97,7 +103,9 @@ pub(crate) fn write_augment(
     depth: usize,
     out: &mut Vec<u8>,
 ) -> Result<(), NoMemory>
-    ensures { OnOk result (out.new.items ≡ out.old.items ++ action_text depth (ast.Augment x.now op (term_of e.now))) }
+    ensures { OnOk result
+        (out.new.items ≡ out.old.items
+        ++ action_text depth (ast.Augment x.now op (term_of e.now))) }
 {
     write_indent(depth, out)?;
     out.extend_from_slice(x.bytes())?;
@@ -118,7 +126,9 @@ pub(crate) fn write_put(
     depth: usize,
     out: &mut Vec<u8>,
 ) -> Result<(), NoMemory>
-    ensures { OnOk result (out.new.items ≡ out.old.items ++ action_text depth (ast.Put x.now (term_of i.now) (term_of e.now))) }
+    ensures { OnOk result
+        (out.new.items ≡ out.old.items
+        ++ action_text depth (ast.Put x.now (term_of i.now) (term_of e.now))) }
 {
     write_indent(depth, out)?;
     out.extend_from_slice(x.bytes())?;
@@ -140,7 +150,9 @@ pub(crate) fn write_augment_at(
     depth: usize,
     out: &mut Vec<u8>,
 ) -> Result<(), NoMemory>
-    ensures { OnOk result (out.new.items ≡ out.old.items ++ action_text depth (ast.AugmentAt x.now (term_of i.now) op (term_of e.now))) }
+    ensures { OnOk result
+        (out.new.items ≡ out.old.items
+        ++ action_text depth (ast.AugmentAt x.now (term_of i.now) op (term_of e.now))) }
 {
     write_indent(depth, out)?;
     out.extend_from_slice(x.bytes())?;
@@ -162,7 +174,8 @@ pub(crate) fn write_append(
     depth: usize,
     out: &mut Vec<u8>,
 ) -> Result<(), NoMemory>
-    ensures { OnOk result (out.new.items ≡ out.old.items ++ action_text depth (ast.Append x.now (term_of e.now))) }
+    ensures { OnOk result
+        (out.new.items ≡ out.old.items ++ action_text depth (ast.Append x.now (term_of e.now))) }
 {
     write_indent(depth, out)?;
     out.extend_from_slice(x.bytes())?;
@@ -179,7 +192,8 @@ pub(crate) fn write_return(
     depth: usize,
     out: &mut Vec<u8>,
 ) -> Result<(), NoMemory>
-    ensures { OnOk result (out.new.items ≡ out.old.items ++ action_text depth (ast.Return (maybe_term e.now))) }
+    ensures { OnOk result
+        (out.new.items ≡ out.old.items ++ action_text depth (ast.Return (maybe_term e.now))) }
 {
     match e {
         None => write_word(b"return", depth, out),

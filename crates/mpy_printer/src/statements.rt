@@ -53,7 +53,8 @@ fn write_act(act: &Act, depth: usize, out: &mut Vec<u8>) -> Result<(), NoMemory>
 /// Adds the arms of an `if`.
 #[cycle(statements)]
 fn write_arms(arms: &Arms, depth: usize, out: &mut Vec<u8>) -> Result<(), NoMemory>
-    ensures { OnOk result (out.new.items ≡ out.old.items ++ arms_text depth (codes "if ") (branches_of arms.now)) }
+    ensures { OnOk result
+        (out.new.items ≡ out.old.items ++ arms_text depth (codes "if ") (branches_of arms.now)) }
 {
     let mut word: &[u8] = b"if ";
     for arm in &arms.items {
@@ -67,7 +68,8 @@ fn write_arms(arms: &Arms, depth: usize, out: &mut Vec<u8>) -> Result<(), NoMemo
 /// Adds an `else`, where there is one.
 #[cycle(statements)]
 fn write_else(last: &Option<Stmts>, depth: usize, out: &mut Vec<u8>) -> Result<(), NoMemory>
-    ensures { OnOk result (out.new.items ≡ out.old.items ++ else_text depth (block_or_none last.now)) }
+    ensures { OnOk result
+        (out.new.items ≡ out.old.items ++ else_text depth (block_or_none last.now)) }
 {
     match last {
         None => Ok(()),

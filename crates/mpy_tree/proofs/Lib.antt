@@ -7,5 +7,6 @@ pub mod Progressions
 pub mod Repetition
 pub mod Sameness
 pub mod Texts
+pub mod ValueTests
 mod TypingExamples
 mod WorkedExamples

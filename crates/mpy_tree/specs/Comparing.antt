@@ -4,10 +4,13 @@ use Rattle.std.specs.Cmp.Lexicographic.{pointwise}
 use Rattle.mpy_tree.specs.declared.operators.ArithOp.{ArithOp}
 use Rattle.mpy_tree.specs.declared.operators.ArithOp.TheVariants.{Add, Sub, Mul, Floor, Rem, Power}
 use Rattle.mpy_tree.specs.declared.operators.CmpOp.{CmpOp}
-use Rattle.mpy_tree.specs.declared.operators.CmpOp.TheVariants.{Eq, Ne, Lt, Le, Gt, Ge, Member, NotMember}
+use Rattle.mpy_tree.specs.declared.operators.CmpOp.TheVariants.{Eq, Ne, Lt, Le, Gt, Ge, Member}
+use Rattle.mpy_tree.specs.declared.operators.CmpOp.TheVariants.{NotMember}
 use Rattle.mpy_tree.specs.Operations.{same_truth}
 use Rattle.mpy_tree.specs.Values.{same_bytes}
-use Rattle.mpy_tree.specs.Syntax.{Term, Terms, MaybeTerm, no_terms, term_and, no_term, a_term, Statement, at, Action, Block, end, step, MaybeBlock, no_block, a_block, Branch, arm, Branches, no_arms, arm_and, Routine}
+use Rattle.mpy_tree.specs.Syntax.{Term, Terms, MaybeTerm, no_terms, term_and, no_term, a_term}
+use Rattle.mpy_tree.specs.Syntax.{Statement, at, Action, Block, end, step, MaybeBlock, no_block}
+use Rattle.mpy_tree.specs.Syntax.{a_block, Branch, arm, Branches, no_arms, arm_and, Routine}
 use Rattle.mpy_tree.specs.Syntax as ast
 
 abbrev pub same_arith : ArithOp → ArithOp → Bool
@@ -70,9 +73,11 @@ abbrev mutual
 
   pub same_action : Action → Action → Bool
   same_action (ast.Assign x e) (ast.Assign y f) = same_bytes x y && same_term e f
-  same_action (ast.Augment x o e) (ast.Augment y r f) = same_bytes x y && same_arith o r && same_term e f
+  same_action (ast.Augment x o e) (ast.Augment y r f) =
+      same_bytes x y && same_arith o r && same_term e f
   same_action (ast.Put x i e) (ast.Put y j f) = same_bytes x y && same_term i j && same_term e f
-  same_action (ast.AugmentAt x i o e) (ast.AugmentAt y j r f) = same_bytes x y && same_term i j && same_arith o r && same_term e f
+  same_action (ast.AugmentAt x i o e) (ast.AugmentAt y j r f) =
+      same_bytes x y && same_term i j && same_arith o r && same_term e f
   same_action (ast.Append x e) (ast.Append y f) = same_bytes x y && same_term e f
   same_action (ast.Return e) (ast.Return f) = same_maybe e f
   same_action ast.Pass ast.Pass = true
@@ -97,4 +102,6 @@ abbrev mutual
   same_last _ _ = false
 
 abbrev pub same_routine : Routine → Routine → Bool
-same_routine r s = same_bytes r.name s.name && pointwise same_bytes r.params s.params && same_block r.body s.body
+same_routine r s =
+    same_bytes r.name s.name && pointwise same_bytes r.params s.params
+    && same_block r.body s.body

@@ -1,5 +1,6 @@
 -- What an expression gives in a state.
-use Rattle.std.specs.Prelude.{ℕ, true, false, not, List, [], ◌∷◌, Option, Some, None, if◌then◌else◌, ℤ, pos}
+use Rattle.std.specs.Prelude.{ℕ, true, false, not, List, [], ◌∷◌, Option, Some, None, if◌then◌else◌}
+use Rattle.std.specs.Prelude.{ℤ, pos}
 use Rattle.std.specs.declared.result.Result.{Result}
 use Rattle.std.specs.declared.result.Result.TheVariants.{Ok, Err}
 use Rattle.mpy_tree.specs.declared.limits.Limits.{Limits}
@@ -14,7 +15,9 @@ use Rattle.mpy_tree.specs.declared.outcome.Halt.TheVariants.{Stuck}
 use Rattle.mpy_tree.specs.declared.outcome.Halted.{Halted}
 use Rattle.mpy_tree.specs.Builtins.{builtin_of}
 use Rattle.mpy_tree.specs.Values.{◌>>=◌, stuck, on_line, State, set_or_fault}
-use Rattle.mpy_tree.specs.Operations.{number, list_within, text_within, arith, negative, absolute, holds, compare, truth, index, slice, whole, length_of, range, least, greatest}
+use Rattle.mpy_tree.specs.Operations.{number, list_within, text_within, arith, negative, absolute}
+use Rattle.mpy_tree.specs.Operations.{holds, compare, truth, index, slice, whole, length_of, range}
+use Rattle.mpy_tree.specs.Operations.{least, greatest}
 
 -- what a call gives: the function's name, the arguments and the line of the call
 abbrev pub Calls : Type 0
@@ -64,7 +67,8 @@ called l calls None f vs line = calls f vs line
 abbrev pub apply : Limits → Calls → List ℕ → List Value → ℕ → Result Value Halted
 apply l calls f vs line = called l calls (builtin_of f) f vs line
 
--- `and` and `or` by the value of their left side, a Bool; their right side is not looked at, whatever its value is
+-- `and` and `or` by the value of their left side, a Bool; their right side is not looked at,
+-- whatever its value is
 abbrev pub both : Value → Result Value Halted → ℕ → Result Value Halted
 both (BoolV true) r line = r
 both (BoolV false) r line = Ok (BoolV false)

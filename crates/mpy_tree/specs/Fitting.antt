@@ -1,5 +1,7 @@
--- The type of a value, and the values that fit the limits of a run.
-use Rattle.std.specs.Prelude.{ℕ, Bool, true, false, ◌&&◌, List, [], ◌∷◌, length, nat_le}
+-- The type of a value, and the values that fit the limits of a run: numbers of the width, and lists
+-- and texts no longer than the cap. They are what code stands for that keeps values in words and
+-- lists of such sizes.
+use Rattle.std.specs.Prelude.{Bool, true, false, ◌&&◌, List, [], ◌∷◌, length, nat_le}
 use Rattle.std.specs.List.{list_all}
 use Rattle.mpy_tree.specs.declared.limits.Limits.{Limits}
 use Rattle.mpy_tree.specs.declared.typing.Ty.{Ty}

@@ -1,5 +1,5 @@
 -- From where types come into the slots of a program, and the least set of facts.
-use Rattle.std.specs.Prelude.{ℕ, ◌+◌, List, [], ◌∷◌, ◌++◌, Option, Some, None, if◌then◌else◌}
+use Rattle.std.specs.Prelude.{ℕ, ◌+◌, List, [], ◌∷◌, ◌++◌, Option, Some, None}
 use Rattle.std.specs.List.{All, flat_map}
 use Rattle.mpy_tree.specs.declared.operators.ArithOp.TheVariants.{Mul}
 use Rattle.mpy_tree.specs.declared.typing.Ty.{Ty}

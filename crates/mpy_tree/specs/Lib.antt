@@ -11,6 +11,7 @@ pub mod Locals
 pub mod NameLengths
 pub mod Names
 pub mod Operations
+pub mod Options
 pub mod Outcomes
 pub mod Printable
 pub mod Printing

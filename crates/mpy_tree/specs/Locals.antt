@@ -1,4 +1,5 @@
--- The locals of a function: its parameters, and each name that it assigns by `=`, by `op=` on a name, or by `for`.
+-- The locals of a function: its parameters, and each name that it assigns by `=`, by `op=` on a
+-- name, or by `for`.
 use Rattle.std.specs.Prelude.{ℕ, Bool, List, [], ◌∷◌, ◌++◌, if◌then◌else◌}
 use Rattle.std.specs.List.{list_any, filter, flat_map}
 use Rattle.mpy_tree.specs.Syntax.{Term, Action, Routine}
@@ -40,11 +41,13 @@ abbrev pub node_names : Term → List (List ℕ)
 node_names (ast.Name x) = x ∷ []
 node_names _ = []
 
--- the names of a statement itself, in the order in which they are written: what is assigned or changed stands first
+-- the names of a statement itself, in the order in which they are written: what is assigned or
+-- changed stands first
 abbrev pub site_names : Site → List (List ℕ)
 site_names s = site_assigned s ++ site_changed s ++ flat_map node_names (site_nodes s)
 
--- the parameters, and then the other locals in the order in which they first appear, be it that they are read there
+-- the parameters, and then the other locals in the order in which they first appear, be it that
+-- they are read there
 abbrev pub locals : Routine → List (List ℕ)
 locals r =
     let ss = sites r.body in

@@ -5,7 +5,9 @@ use Rattle.std.specs.declared.result.Result.TheVariants.{Ok, Err}
 use Rattle.mpy_tree.specs.declared.limits.Limits.{Limits}
 use Rattle.mpy_tree.specs.declared.value.Value.{Value}
 use Rattle.mpy_tree.specs.declared.outcome.FaultKind.{FaultKind}
-use Rattle.mpy_tree.specs.declared.outcome.FaultKind.TheVariants.{Overflow, Divisor, Index, Unset, Turns, Depth, Length, Power, Step, NoValue}
+use Rattle.mpy_tree.specs.declared.outcome.FaultKind.TheVariants.{Overflow, Divisor, Index, Unset}
+use Rattle.mpy_tree.specs.declared.outcome.FaultKind.TheVariants.{Turns, Depth, Length, Power, Step}
+use Rattle.mpy_tree.specs.declared.outcome.FaultKind.TheVariants.{NoValue}
 use Rattle.mpy_tree.specs.declared.outcome.Halt.{Halt}
 use Rattle.mpy_tree.specs.declared.outcome.Halt.TheVariants.{Fault, Stuck}
 use Rattle.mpy_tree.specs.declared.outcome.Halted.{Halted}

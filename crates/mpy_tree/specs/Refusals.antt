@@ -32,4 +32,6 @@ cause_text cause.NotYet = codes "NotYet"
 
 -- the line for a refusal of a file, by the word that names it
 abbrev pub refusal_text : List ℕ → Refusal → List ℕ
-refusal_text file r = codes "refused " ++ file ++ codes " line " ++ decimal r.line ++ codes ": " ++ cause_text r.cause ++ codes "\n"
+refusal_text file r =
+    codes "refused " ++ file ++ codes " line " ++ decimal r.line ++ codes ": " ++ cause_text r.cause
+    ++ codes "\n"

@@ -1,5 +1,5 @@
--- The typing rules: the type of an expression each of whose nodes obeys its rule, and the statements
--- that obey theirs.
+-- The typing rules: the type of an expression each of whose nodes obeys its rule, and the
+-- statements that obey theirs.
 use Rattle.std.specs.Prelude.{ℕ, Bool, true, false, ◌&&◌, List, [], ◌∷◌, Option, Some, None}
 use Rattle.std.specs.Prelude.{is_some, length, if◌then◌else◌}
 use Rattle.mpy_tree.specs.declared.operators.ArithOp.{ArithOp}
@@ -16,6 +16,7 @@ use Rattle.mpy_tree.specs.Syntax as ast
 use Rattle.mpy_tree.specs.declared.builtins.Builtin.{Builtin}
 use Rattle.mpy_tree.specs.declared.builtins.Builtin.TheVariants.{Len, Abs, Min, Max, Range}
 use Rattle.mpy_tree.specs.Builtins.{builtin_of, takes}
+use Rattle.mpy_tree.specs.Options.{◌>>=◌}
 use Rattle.mpy_tree.specs.TypeSets.{only}
 use Rattle.mpy_tree.specs.SetTypes.{FactSet, Callee, called, builtin_gives}
 use Rattle.mpy_tree.specs.Sites.{Site, does, asks}
@@ -26,11 +27,6 @@ Slots = ℕ → Slot → Option Ty
 
 abbrev pub single : FactSet → Slots
 single F i x = only (F i x)
-
-infixl 10 ◌>>=◌
-abbrev pub ◌>>=◌ : {A B : Type 0} → Option A → (A → Option B) → Option B
-None >>= f = None
-Some a >>= f = f a
 
 abbrev pub same_type : Ty → Ty → Bool
 same_type ty.Int ty.Int = true

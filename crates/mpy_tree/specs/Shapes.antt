@@ -1,6 +1,8 @@
 -- The tree of nodes of a term, of a body and of a program.
 use Rattle.std.specs.Prelude.{ℕ, Bool, true, false, List, [], ◌∷◌}
-use Rattle.mpy_tree.specs.Syntax.{Term, Terms, MaybeTerm, no_terms, term_and, no_term, a_term, Statement, at, Action, Block, end, step, MaybeBlock, no_block, a_block, Branch, arm, Branches, no_arms, arm_and, Routine}
+use Rattle.mpy_tree.specs.Syntax.{Term, Terms, MaybeTerm, no_terms, term_and, no_term, a_term}
+use Rattle.mpy_tree.specs.Syntax.{Statement, at, Action, Block, end, step, MaybeBlock, no_block}
+use Rattle.mpy_tree.specs.Syntax.{a_block, Branch, arm, Branches, no_arms, arm_and, Routine}
 use Rattle.mpy_tree.specs.Syntax as ast
 use Rattle.mpy_tree.specs.Trees as kind
 use Rattle.mpy_tree.specs.Trees.{Tree, Trees, node, no_trees, tree_and, leaf, one, two, three}

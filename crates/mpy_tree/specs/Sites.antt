@@ -1,7 +1,10 @@
--- The statements of a body and the nodes of an expression as flat lists, in the order in which they are written.
+-- The statements of a body and the nodes of an expression as flat lists, in the order in which they
+-- are written.
 use Rattle.std.specs.Prelude.{ℕ, List, [], ◌∷◌, ◌++◌}
 use Rattle.std.specs.List.{flat_map}
-use Rattle.mpy_tree.specs.Syntax.{Term, Terms, MaybeTerm, no_terms, term_and, no_term, a_term, at, Action, Block, end, step, MaybeBlock, no_block, a_block, arm, Branches, no_arms, arm_and}
+use Rattle.mpy_tree.specs.Syntax.{Term, Terms, MaybeTerm, no_terms, term_and, no_term, a_term, at}
+use Rattle.mpy_tree.specs.Syntax.{Action, Block, end, step, MaybeBlock, no_block, a_block, arm}
+use Rattle.mpy_tree.specs.Syntax.{Branches, no_arms, arm_and}
 use Rattle.mpy_tree.specs.Syntax as ast
 
 -- an expression, and then its parts: of a conditional `yes` before the test

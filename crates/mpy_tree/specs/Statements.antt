@@ -4,7 +4,8 @@ use Rattle.std.specs.declared.result.Result.{Result}
 use Rattle.std.specs.declared.result.Result.TheVariants.{Ok, Err}
 use Rattle.mpy_tree.specs.declared.limits.Limits.{Limits}
 use Rattle.mpy_tree.specs.declared.value.Value.{Value}
-use Rattle.mpy_tree.specs.Syntax.{Term, MaybeTerm, no_term, a_term, at, Action, Block, end, step, MaybeBlock, no_block, a_block, arm, Branches, no_arms, arm_and}
+use Rattle.mpy_tree.specs.Syntax.{Term, MaybeTerm, no_term, a_term, at, Action, Block, end, step}
+use Rattle.mpy_tree.specs.Syntax.{MaybeBlock, no_block, a_block, arm, Branches, no_arms, arm_and}
 use Rattle.mpy_tree.specs.Syntax as ast
 use Rattle.mpy_tree.specs.declared.outcome.FaultKind.TheVariants.{Turns, NoValue}
 use Rattle.mpy_tree.specs.declared.outcome.Halt.{Halt}
@@ -61,7 +62,8 @@ while_turns (suc n) test body line s =
 abbrev pub for_turns : List Value → ℕ → List ℕ → (State → Ran) → ℕ → State → Ran
 for_turns [] n x body line s = Next s
 for_turns (v ∷ vs) zero x body line s = Failed (fault Turns line)
-for_turns (v ∷ vs) (suc n) x body line s = then_turn (body (assign s x v)) (for_turns vs n x body line)
+for_turns (v ∷ vs) (suc n) x body line s =
+    then_turn (body (assign s x v)) (for_turns vs n x body line)
 
 module _ (l : Limits) (calls : Calls) where
   -- an expression, and a local, in a statement on a line
@@ -72,7 +74,8 @@ module _ (l : Limits) (calls : Calls) where
   local_at s line x = on_line line (set_or_fault (s x))
 
   -- x op= e
-  abbrev pub set_by : State → ℕ → List ℕ → (Value → Value → Result Value Halt) → Term → Result Value Halted
+  abbrev pub set_by : State → ℕ → List ℕ → (Value → Value → Result Value Halt) → Term
+      → Result Value Halted
   set_by s line x op e = do
     v ← local_at s line x
     w ← value_at s line e
@@ -87,7 +90,8 @@ module _ (l : Limits) (calls : Calls) where
     on_line line (put v k w)
 
   -- x[i] op= e
-  abbrev pub set_at_by : State → ℕ → List ℕ → Term → (Value → Value → Result Value Halt) → Term → Result Value Halted
+  abbrev pub set_at_by : State → ℕ → List ℕ → Term → (Value → Value → Result Value Halt) → Term
+      → Result Value Halted
   set_at_by s line x i op e = do
     v ← local_at s line x
     k ← value_at s line i
@@ -116,9 +120,11 @@ module _ (l : Limits) (calls : Calls) where
     run_action ast.Break line s = Broke s
     run_action ast.Continue line s = Continued s
     run_action (ast.If arms last) line s = run_arms arms (run_else last s) s
-    run_action (ast.While e body) line s = while_turns l.turns (λ s. value_at s line e) (run_block body) line s
+    run_action (ast.While e body) line s =
+        while_turns l.turns (λ s. value_at s line e) (run_block body) line s
     run_action (ast.For x e body) line s =
-        given (value_at s line e >>= λ v. on_line line (members v)) (λ vs. for_turns vs l.turns x (run_block body) line s)
+        given (value_at s line e >>= λ v. on_line line (members v))
+        (λ vs. for_turns vs l.turns x (run_block body) line s)
 
     -- the first arm whose test holds, or else what the last body gives
     pub run_arms : Branches → Ran → State → Ran

@@ -1,5 +1,6 @@
--- The abstract syntax of programs as mathematics: what a program's tree is, without memory. A constructor has the name of
--- the code's variant, and other modules write it behind the name `ast`, as `ast.List`. A name and a text are lists of bytes.
+-- The abstract syntax of programs as mathematics: what a program's tree is, without memory. A
+-- constructor has the name of the code's variant, and other modules write it behind the name `ast`,
+-- as `ast.List`. A name and a text are lists of bytes.
 use Rattle.std.specs.Prelude.{ℕ}
 use Rattle.std.specs.Prelude as logic
 use Rattle.mpy_tree.specs.declared.operators.ArithOp.{ArithOp}

@@ -1,6 +1,7 @@
--- A program as a tree of nodes. A node has a kind, which is all that stands there besides its parts, and its parts in the
--- order in which they are written. A kind has the name of the code's variant, and is written behind the name `kind`.
-use Rattle.std.specs.Prelude.{ℕ}
+-- A program as a tree of nodes. A node has a kind, which is all that stands there besides its
+-- parts, and its parts in the order in which they are written. A kind has the name of the code's
+-- variant, and is written behind the name `kind`.
+use Rattle.std.specs.Prelude.{ℕ, ◌+◌, max}
 use Rattle.std.specs.Prelude as logic
 use Rattle.mpy_tree.specs.declared.operators.ArithOp.{ArithOp}
 use Rattle.mpy_tree.specs.declared.operators.CmpOp.{CmpOp}
@@ -64,3 +65,12 @@ two t u = tree_and t (one u)
 
 abbrev pub three : Tree → Tree → Tree → Trees
 three t u v = tree_and t (two u v)
+
+-- a leaf has depth 1, and every other node one more than its deepest part
+abbrev mutual
+  pub tree_depth : Tree → ℕ
+  tree_depth (node k ts) = 1 + most_depth ts
+
+  pub most_depth : Trees → ℕ
+  most_depth no_trees = 0
+  most_depth (tree_and t ts) = max (tree_depth t) (most_depth ts)

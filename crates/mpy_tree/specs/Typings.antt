@@ -27,21 +27,24 @@ IsOfSlot p f = IsTrue (list_any (λ s. same_place f.func f.slot s.func s.slot) (
 
 -- The facts type the program: they are about its slots, each assignment, `for`, call and `return`
 -- has its result among them, each slot has exactly one type, and no name, call or node is at fault.
-pub record AreTypes (T : List Fact) (p : List Routine) (entry : List ℕ) (ts : List Ty) : Type 0 where
+pub record AreTypes (T : List Fact) (p : List Routine) (entry : List ℕ) (ts : List Ty)
+    : Type 0 where
   pub of_slots : All (IsOfSlot p) T
   pub closed : IsClosed (set_of T) p (flows p entry ts)
   pub faultless : first_fault p entry ts (set_of T) ≡ None
 
 -- The facts are the typing of the program: those of the least set, one for each slot in order,
 -- where by that set the program has no fault.
-pub record IsTyping (T : List Fact) (p : List Routine) (entry : List ℕ) (ts : List Ty) : Type 0 where
+pub record IsTyping (T : List Fact) (p : List Routine) (entry : List ℕ) (ts : List Ty)
+    : Type 0 where
   pub set : FactSet
   pub least : IsLeast set p entry ts
   pub faultless : first_fault p entry ts set ≡ None
   pub facts : T ≡ facts_at set (slots p)
 
 -- the first fault by the least set of facts
-pub record IsFirstFault (e : TypeError) (p : List Routine) (entry : List ℕ) (ts : List Ty) : Type 0 where
+pub record IsFirstFault (e : TypeError) (p : List Routine) (entry : List ℕ) (ts : List Ty)
+    : Type 0 where
   pub set : FactSet
   pub least : IsLeast set p entry ts
   pub first : first_fault p entry ts set ≡ Some e

@@ -23,7 +23,8 @@ halted why line = record { halt = why; line = line }
 abbrev pub fault : FaultKind → ℕ → Halted
 fault kind line = halted (Fault kind) line
 
--- Where operands have no type that the operator takes, or no function takes the call. Typed programs never come here.
+-- Where operands have no type that the operator takes, or no function takes the call. Typed
+-- programs never come here.
 abbrev pub stuck : ℕ → Halted
 stuck line = halted Stuck line
 

@@ -1,7 +1,9 @@
 //! Copies of trees.
 
 ghost use Rattle.std.specs.Prelude.{◌≡◌, IfOk, map};
-ghost use Rattle.mpy_tree.specs.View.{block_or_none, term_of, end_by, terms_of, maybe_term, block_of, action_of, branches_of, branch_of, statement_of, routine_of, routines_of};
+ghost use Rattle.mpy_tree.specs.View.{block_or_none, term_of, end_by, terms_of, maybe_term};
+ghost use Rattle.mpy_tree.specs.View.{block_of, action_of, branches_of, branch_of, statement_of};
+ghost use Rattle.mpy_tree.specs.View.{routine_of, routines_of};
 
 use crate::NoMemory;
 use crate::tree::{Act, Arm, Arms, Expr, Exprs, Func, Funcs, Prog, Stmt, Stmts};
@@ -51,7 +53,8 @@ fn copy_boxed(alloc: Global, e: &Expr) -> Result<Box<Expr>, NoMemory>
 // An equal end of a slice.
 #[cycle(copy_expr)]
 fn copy_end(alloc: Global, e: &Option<Box<Expr>>) -> Result<Option<Box<Expr>>, NoMemory>
-    ensures { IfOk result (λ r. end_by (λ b. term_of b.value) r ≡ end_by (λ b. term_of b.value) e.now) }
+    ensures { IfOk result
+        (λ r. end_by (λ b. term_of b.value) r ≡ end_by (λ b. term_of b.value) e.now) }
 {
     match e {
         None => Ok(None),

@@ -1,10 +1,14 @@
 //! Equality of programs, lines aside.
 ghost use Rattle.std.specs.Prelude.{◌≡◌, ◌↔◌, Bool, IsTrue, map};
 ghost use Rattle.std.specs.Cmp.Lexicographic.{pointwise};
-ghost use Rattle.mpy_tree.specs.Comparing.{same_action, same_block, same_branch, same_branches, same_last, same_maybe, same_routine, same_statement, same_term, same_terms};
+ghost use Rattle.mpy_tree.specs.Comparing.{same_action, same_block, same_branch, same_branches};
+ghost use Rattle.mpy_tree.specs.Comparing.{same_last, same_maybe, same_routine, same_statement};
+ghost use Rattle.mpy_tree.specs.Comparing.{same_term, same_terms};
 ghost use Rattle.mpy_tree.specs.Equality.{without_lines};
 ghost use Rattle.mpy_tree.specs.Values.{same_bytes};
-ghost use Rattle.mpy_tree.specs.View.{action_of, block_of, block_or_none, branch_of, branches_of, end_by, maybe_term, routine_of, routines_of, statement_of, term_of, terms_of};
+ghost use Rattle.mpy_tree.specs.View.{action_of, block_of, block_or_none, branch_of, branches_of};
+ghost use Rattle.mpy_tree.specs.View.{end_by, maybe_term, routine_of, routines_of, statement_of};
+ghost use Rattle.mpy_tree.specs.View.{term_of, terms_of};
 
 use crate::names::{Name, Names};
 use crate::operators::{ArithOp, CmpOp};
@@ -58,7 +62,8 @@ fn equal(a: &Expr, b: &Expr) -> bool
 // Whether two ends of a slice are equal.
 #[cycle(equal)]
 fn equal_ends(a: &Option<Box<Expr>>, b: &Option<Box<Expr>>) -> bool
-    ensures { result ≡ same_maybe (end_by (λ b. term_of b.value) a.now) (end_by (λ b. term_of b.value) b.now) }
+    ensures { result
+        ≡ same_maybe (end_by (λ b. term_of b.value) a.now) (end_by (λ b. term_of b.value) b.now) }
 {
     match (a, b) {
         (None, None) => true,
@@ -204,7 +209,9 @@ fn same_func(a: &Func, b: &Func) -> bool
 
 // Whether two lists of functions are equal.
 fn same_funcs(a: &Funcs, b: &Funcs) -> bool
-    ensures { result ≡ pointwise same_routine (map routine_of a.now.items.items) (map routine_of b.now.items.items) }
+    ensures { result
+        ≡ pointwise same_routine (map routine_of a.now.items.items)
+        (map routine_of b.now.items.items) }
 {
     if a.items.len() != b.items.len() {
         return false;
@@ -219,7 +226,8 @@ fn same_funcs(a: &Funcs, b: &Funcs) -> bool
 
 /// Whether two programs are equal, whatever the lines of their statements.
 pub fn same(a: &Prog, b: &Prog) -> bool
-    ensures { IsTrue result ↔ (map without_lines (routines_of a.now) ≡ map without_lines (routines_of b.now)) }
+    ensures { IsTrue result
+        ↔ (map without_lines (routines_of a.now) ≡ map without_lines (routines_of b.now)) }
 {
     same_funcs(&a.funcs, &b.funcs)
 }

@@ -1,9 +1,11 @@
-//! The syntax of mPy programs, their values, types and refusals, and, in `specs/`, what programs mean.
+//! The syntax of mPy programs, their values, types and refusals, and, in `specs/`, what programs
+//! mean.
 #![tactic(auto)]
 
 mod builtins;
 mod copying;
 mod equality;
+mod fitting;
 mod levels;
 mod limits;
 mod lists;

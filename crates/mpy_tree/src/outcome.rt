@@ -34,12 +34,14 @@ pub enum FaultKind {
 pub enum Halt {
     /// One of the ten faults.
     Fault(FaultKind),
-    /// Operands that the operator doesn't take, or a call that no function takes. No typed program comes there.
+    /// Operands that the operator doesn't take, or a call that no function takes. No typed program
+    /// comes there.
     Stuck,
 }
 
 impl Halt {
-    /// The kind of fault that is told: a run that is stuck is told as one that reads what isn't set.
+    /// The kind of fault that is told: a run that is stuck is told as one that reads what isn't
+    /// set.
     pub fn told(self) -> FaultKind
         ensures { result ≡ told self }
     {

@@ -1,5 +1,6 @@
 //! Lists and texts that are made of others.
-ghost use Rattle.std.specs.Prelude.{◌≡◌, ◌≤◌, ◌-◌, ◌++◌, ◌∷◌, [], ℕ, length, take, drop, map, slice_get, option_map, IfOk};
+ghost use Rattle.std.specs.Prelude.{◌≡◌, ◌≤◌, ◌-◌, ◌++◌, ◌∷◌, [], ℕ, length, take, drop, map};
+ghost use Rattle.std.specs.Prelude.{slice_get, option_map, IfOk};
 ghost use Rattle.mpy_tree.specs.Operations.{copies};
 
 use crate::NoMemory;

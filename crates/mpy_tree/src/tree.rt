@@ -1,7 +1,8 @@
 //! The syntax of programs.
 
 ghost use Rattle.std.specs.Prelude.{◌≡◌, map};
-ghost use Rattle.mpy_tree.specs.View.{term_of, terms, terms_of, branch_of, branches, branches_of, statement_of, block, block_of};
+ghost use Rattle.mpy_tree.specs.View.{term_of, terms, terms_of, branch_of, branches, branches_of};
+ghost use Rattle.mpy_tree.specs.View.{statement_of, block, block_of};
 
 use crate::lists::Chars;
 use crate::names::{Name, Names};

@@ -209,8 +209,8 @@ pub struct Signature {
 /// The first fault of a program's names and types.
 #[derive(Clone, Copy, Drop)]
 pub enum TypeError {
-    /// A fault of names (`Name`), of numbers of arguments (`Arity`) or of the entry (`Entry`), a slot without a type
-    /// (`Undetermined`), or a node that breaks its rule (`TypeFault`).
+    /// A fault of names (`Name`), of numbers of arguments (`Arity`) or of the entry (`Entry`), a
+    /// slot without a type (`Undetermined`), or a node that breaks its rule (`TypeFault`).
     Fault { cause: Cause, line: u32 },
     /// A slot has several types: the first two in the order Int, Bool, List, Text.
     Conflict { line: u32, one: Ty, other: Ty },

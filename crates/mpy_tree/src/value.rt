@@ -1,9 +1,11 @@
 //! Values, and lists of them.
-ghost use Rattle.std.specs.Prelude.{◌≡◌, IfOk, List};
+ghost use Rattle.std.specs.Prelude.{◌≡◌, ◌↔◌, IfOk, IsTrue, List};
+ghost use Rattle.mpy_tree.specs.Fitting.{type_of};
 ghost use Rattle.mpy_tree.specs.declared.value.Value.{Value as AnyValue};
 
 use crate::NoMemory;
 use crate::lists::{Chars, Ints};
+use crate::typing::Ty;
 use std::alloc::Global;
 use std::marker::Model;
 
@@ -17,6 +19,31 @@ pub enum Value {
 }
 
 impl Value {
+    /// The type of the value.
+    pub fn ty(&self) -> Ty
+        ensures { result ≡ type_of self.now }
+    {
+        match self {
+            Value::Int(_) => Ty::Int,
+            Value::Bool(_) => Ty::Bool,
+            Value::List(_) => Ty::List,
+            Value::Text(_) => Ty::Text,
+        }
+    }
+
+    /// Whether two values are one: of one type, with equal contents.
+    pub fn is(&self, other: &Value) -> bool
+        ensures { IsTrue result ↔ (self.now ≡ other.now) }
+    {
+        match (self, other) {
+            (Value::Int(m), Value::Int(n)) => *m == *n,
+            (Value::Bool(b), Value::Bool(c)) => *b == *c,
+            (Value::List(l), Value::List(m)) => l.items() == m.items(),
+            (Value::Text(t), Value::Text(u)) => t.bytes() == u.bytes(),
+            _ => false,
+        }
+    }
+
     /// An equal value.
     pub fn copy(&self) -> Result<Value, NoMemory>
         ensures { IfOk result (λ v. v ≡ self.now) }
