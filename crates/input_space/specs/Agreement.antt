@@ -1,0 +1,52 @@
+-- Agreement with the reference on all inputs, and the best rewriting.
+use Rattle.std.specs.Prelude.{◌≡◌, ◌≢◌, ℕ, ◌≤◌, List}
+use Rattle.std.specs.List.{Contains}
+use Rattle.mpy_tree.specs.declared.value.Value.{Value}
+use Rattle.mpy_tree.specs.declared.outcome.Outcome.{Outcome}
+use Rattle.mpy_tree.specs.declared.outcome.Outcome.TheVariants as outcome
+use Rattle.mpy_tree.specs.Outcomes.{run_outcome}
+use Rattle.mpy_tree.specs.Syntax.{Routine}
+use Rattle.bounds_reader.specs.declared.bounds.Bounds.{Bounds}
+use Rattle.input_space.specs.Inputs.{inputs}
+
+-- a list of values is one of the inputs within the bounds
+abbrev pub IsInput : Bounds → List Value → Type 0
+IsInput b vs = Contains (inputs b.params) vs
+
+-- how a program ends on an input
+abbrev pub ends_on : Bounds → List Routine → List Value → Outcome
+ends_on b p vs = run_outcome b.limits p b.entry vs
+
+-- the candidate gives the value of the reference on every input on which the reference gives one
+abbrev pub Agrees : Bounds → List Routine → List Routine → Type 0
+Agrees b reference candidate =
+    (vs : List Value) (v : Value) → IsInput b vs →
+    ends_on b reference vs ≡ outcome.Value v → ends_on b candidate vs ≡ outcome.Value v
+
+-- r gives a value on some input
+pub record EndsSomewhere (b : Bounds) (r : List Routine) : Type 0 where
+  pub input : List Value
+  pub wanted : Value
+  pub is_input : IsInput b input
+  pub ends : ends_on b r input ≡ outcome.Value wanted
+
+-- an input on which a program doesn't give the value that is wanted
+pub record Failure : Type 0 where
+  pub input : List Value
+  pub gives : Outcome
+  pub wanted : Value
+
+-- the submission s doesn't give there what the reference r gives
+pub record IsFailure (b : Bounds) (r s : List Routine) (f : Failure) : Type 0 where
+  pub is_input : IsInput b f.input
+  pub reference : ends_on b r f.input ≡ outcome.Value f.wanted
+  pub submission : ends_on b s f.input ≡ f.gives
+  pub differ : f.gives ≢ outcome.Value f.wanted
+
+-- a rewriting that agrees with r, of the least cost of those that do
+pub record IsBest {E : Type 0} (rewrites : List Routine → ℕ → E → Type 0) (b : Bounds)
+    (r p : List Routine) (cost : ℕ) (edits : E) : Type 0 where
+  pub rewriting : rewrites p cost edits
+  pub agrees : Agrees b r p
+  pub least : (q : List Routine) (other : ℕ) (others : E) → rewrites q other others →
+      Agrees b r q → cost ≤ other

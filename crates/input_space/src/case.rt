@@ -1,0 +1,88 @@
+//! Cases: the values of one input.
+ghost use Rattle.std.specs.Prelude.{◌≡◌, IfOk, List};
+ghost use Rattle.input_space.specs.declared.case.Case.{Case};
+ghost use Rattle.input_space.specs.declared.case.CaseError.TheVariants as case_error;
+
+use crate::NoMemory;
+use mpy_tree::Values;
+use std::marker::Model;
+
+/// A list of values for the parameters of the graded function.
+#[derive(Drop)]
+pub struct Case {
+    pub values: Values,
+}
+
+impl Case {
+    /// An equal case.
+    pub fn copy(&self) -> Result<Case, NoMemory>
+        ensures { IfOk result (λ c. c ≡ self.now) }
+    {
+        Ok(Case {
+            values: self.values.copy()?,
+        })
+    }
+}
+
+/// A list of cases.
+#[derive(Drop)]
+pub struct Cases {
+    items: Vec<Case>,
+}
+
+impl Model for Cases {
+    ghost Value = { List Case };
+
+    ghost view = { λ a. a.items.items };
+}
+
+impl Cases {
+    /// The list that has these cases.
+    pub fn from_vec(items: Vec<Case>) -> Cases
+        ensures { result ≡ items.items }
+    {
+        Cases { items }
+    }
+
+    /// The cases.
+    pub fn items(&self) -> &[Case]
+        ensures { result.now ≡ self.now }
+    {
+        self.items.as_slice()
+    }
+
+    /// The cases, given back.
+    pub fn into_vec(self) -> Vec<Case>
+        ensures { result.items ≡ self }
+    {
+        self.items
+    }
+
+    /// An equal list.
+    pub fn copy(&self) -> Result<Cases, NoMemory>
+        ensures { IfOk result (λ n. n ≡ self.now) }
+    {
+        let mut copies = Vec::new(*self.items.allocator());
+        for c in &self.items {
+            copies.push(c.copy()?)?;
+        }
+        Ok(Cases { items: copies })
+    }
+}
+
+/// Why a text isn't read as a case.
+#[derive(Clone, Copy, PartialEq, Eq, Debug, Drop)]
+pub enum CaseError {
+    /// The text isn't values joined by `, `.
+    NoCase,
+    /// There was no memory.
+    NoMemory,
+}
+
+impl From<NoMemory> for CaseError {
+    ghost from_gives = { λ _ e. e ≡ case_error.NoMemory };
+
+    fn from(_error: NoMemory) -> CaseError {
+        CaseError::NoMemory
+    }
+}
