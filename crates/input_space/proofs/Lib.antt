@@ -1,0 +1,5 @@
+pub mod Blocks
+pub mod Membership
+pub mod Members
+pub mod Fitting
+pub mod Totals

@@ -2,6 +2,7 @@
 use Rattle.std.specs.Prelude.{ℕ, suc, ◌+◌, ◌-◌, ◌==◌, Bool, true, false, ◌&&◌, nat_le, length, map}
 use Rattle.std.specs.Prelude.{List, [], ◌∷◌, replicate, if◌then◌else◌, ℤ, pos, ◌+ℤ◌, ◌-ℤ◌, nat_abs}
 use Rattle.std.specs.Prelude.{int_le}
+use Rattle.std.specs.Cmp.Lexicographic.{pointwise}
 use Rattle.std.specs.List.{flat_map, list_all, list_any}
 use Rattle.mpy_tree.specs.declared.typing.Ty.{Ty}
 use Rattle.mpy_tree.specs.declared.typing.Ty.TheVariants as ty
@@ -66,6 +67,4 @@ is_within _ _ = false
 
 -- whether there is a value for each parameter, within its ranges
 abbrev pub are_within : List Param → List Value → Bool
-are_within [] [] = true
-are_within (p ∷ ps) (v ∷ vs) = is_within p v && are_within ps vs
-are_within _ _ = false
+are_within = pointwise is_within

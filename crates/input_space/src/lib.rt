@@ -2,9 +2,23 @@
 #![tactic(auto)]
 
 mod case;
+mod counting;
+mod laws;
+mod numbers;
+mod pieces;
+mod places;
+mod printing;
+mod reading;
+mod within;
 
 pub use case::{Case, CaseError, Cases};
+pub use counting::{MOST_COUNTED, inputs_count};
+pub use laws::{inputs_fit, one_case, printed_is_read, within_is_membership};
+pub use places::case_at;
+pub use printing::{print_case, print_value};
+pub use reading::read_case;
 use std::alloc::AllocError;
+pub use within::{in_bounds, is_within, param_type, signature};
 
 /// Want of memory, where a call has no other refusal.
 pub type NoMemory = AllocError;

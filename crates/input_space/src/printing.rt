@@ -1,0 +1,95 @@
+//! The texts of values and of cases.
+ghost use Rattle.std.specs.Prelude.{◌≡◌, ◌++◌, IfOk, OnOk, codes, map};
+ghost use Rattle.std.specs.Fmt.{signed_decimal};
+ghost use Rattle.mpy_tree.specs.Printing.{commas, escaped, quoted_text, truth_text, value_text};
+ghost use Rattle.mpy_tree.specs.Printing.{values_text};
+
+use crate::NoMemory;
+use crate::case::Case;
+use itoa::Buffer;
+use mpy_tree::Value;
+use std::alloc::Global;
+
+fn print_number(out: &mut Vec<u8>, z: i32) -> Result<(), NoMemory>
+    ensures { OnOk result (out.new.items ≡ out.old.items ++ signed_decimal z) }
+{
+    let mut buffer = Buffer::new();
+    out.extend_from_slice(buffer.format(z).as_bytes())?;
+    Ok(())
+}
+
+fn print_truth(out: &mut Vec<u8>, b: bool) -> Result<(), NoMemory>
+    ensures { OnOk result (out.new.items ≡ out.old.items ++ truth_text b) }
+{
+    if b {
+        out.extend_from_slice(b"True")?;
+    } else {
+        out.extend_from_slice(b"False")?;
+    }
+    Ok(())
+}
+
+fn print_numbers(out: &mut Vec<u8>, zs: &[i32]) -> Result<(), NoMemory>
+    ensures { OnOk result
+        (out.new.items
+        ≡ out.old.items ++ (codes "[" ++ commas (map signed_decimal zs.now) ++ codes "]")) }
+{
+    let mut separator: &[u8] = b"";
+    out.extend_from_slice(b"[")?;
+    for z in zs {
+        out.extend_from_slice(separator)?;
+        print_number(out, *z)?;
+        separator = b", ";
+    }
+    out.extend_from_slice(b"]")?;
+    Ok(())
+}
+
+fn print_character(out: &mut Vec<u8>, c: u8) -> Result<(), NoMemory>
+    ensures { OnOk result (out.new.items ≡ out.old.items ++ escaped c) }
+{
+    match c {
+        b'\\' => out.extend_from_slice(b"\\\\")?,
+        b'\'' => out.extend_from_slice(b"\\'")?,
+        _ => out.push(c)?,
+    }
+    Ok(())
+}
+
+fn print_text(out: &mut Vec<u8>, text: &[u8]) -> Result<(), NoMemory>
+    ensures { OnOk result (out.new.items ≡ out.old.items ++ quoted_text text.now) }
+{
+    out.extend_from_slice(b"'")?;
+    for c in text {
+        print_character(out, *c)?;
+    }
+    out.extend_from_slice(b"'")?;
+    Ok(())
+}
+
+/// Adds the text of a value: a number in decimal, `True` or `False`, a list as `[1, -2]`, a text in
+/// single quotes.
+pub fn print_value(out: &mut Vec<u8>, v: &Value) -> Result<(), NoMemory>
+    ensures { OnOk result (out.new.items ≡ out.old.items ++ value_text v.now) }
+{
+    match v {
+        Value::Int(z) => print_number(out, *z),
+        Value::Bool(b) => print_truth(out, *b),
+        Value::List(zs) => print_numbers(out, zs.items()),
+        Value::Text(cs) => print_text(out, cs.bytes()),
+    }
+}
+
+/// The values of the case, with a comma and a space between each two.
+pub fn print_case(alloc: Global, c: &Case) -> Result<Vec<u8>, NoMemory>
+    ensures { IfOk result (λ t. t.items ≡ values_text c.now.values) }
+{
+    let mut out = Vec::new(alloc);
+    let mut separator: &[u8] = b"";
+    for v in c.values.items() {
+        out.extend_from_slice(separator)?;
+        print_value(&mut out, v)?;
+        separator = b", ";
+    }
+    Ok(out)
+}

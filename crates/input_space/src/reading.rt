@@ -1,0 +1,108 @@
+//! Cases as texts.
+ghost use Rattle.std.specs.Prelude.{◌≡◌, ◌≤◌, List, Err, IfOk, length, option_map};
+ghost use Rattle.mpy_lexer.specs.TextLiterals.{literal_characters};
+ghost use Rattle.mpy_tree.specs.declared.value.Value.{Value as AnyValue};
+ghost use Rattle.input_space.specs.Cases.{SpellsCase, SpellsEach, SpellsNumber, SpellsNumbers};
+ghost use Rattle.input_space.specs.Cases.{SpellsValue};
+ghost use Rattle.input_space.specs.Readings.{IsReading};
+ghost use Rattle.input_space.specs.declared.case.CaseError.TheVariants as case_error;
+
+use crate::NoMemory;
+use crate::case::{Case, CaseError};
+use crate::numbers::number;
+use crate::pieces::{number_len, value_len};
+use mpy_lexer::literal_characters;
+use mpy_tree::{Chars, Ints, Value, Values};
+use std::alloc::Global;
+
+// The numbers that the text spells, with a comma and a space between each two.
+fn read_numbers(alloc: Global, text: &[u8]) -> Result<Option<Ints>, NoMemory>
+    ensures { IfOk result (λ o. IsReading (SpellsEach SpellsNumber text.now) o) }
+{
+    let mut numbers = Vec::new(alloc);
+    if text.is_empty() {
+        return Ok(Some(Ints::from_vec(numbers)));
+    }
+    let mut rest = text;
+    loop {
+        let (piece, behind) = rest.split_at(number_len(rest));
+        let Some(z) = number(piece) else {
+            return Ok(None);
+        };
+        numbers.push(z)?;
+        match behind {
+            [] => return Ok(Some(Ints::from_vec(numbers))),
+            [b',', b' ', next @ ..] => rest = next,
+            _ => return Ok(None),
+        }
+    }
+}
+
+// The list that the text spells.
+fn read_list(alloc: Global, text: &[u8]) -> Result<Option<Ints>, NoMemory>
+    ensures { IfOk result (λ o. IsReading (SpellsNumbers text.now) o) }
+{
+    match text {
+        [b'[', inner @ .., b']'] => read_numbers(alloc, inner),
+        _ => Ok(None),
+    }
+}
+
+// The characters of the text literal that the text is.
+fn read_text(alloc: Global, text: &[u8]) -> Result<Option<Chars>, NoMemory>
+    ensures { IfOk result (λ o. o ≡ literal_characters text.now) }
+{
+    let characters = literal_characters(alloc, text)?;
+    Ok(characters.map(Chars::from_vec))
+}
+
+// The value that the text spells.
+fn read_value(alloc: Global, text: &[u8]) -> Result<Option<Value>, NoMemory>
+    ensures { IfOk result (λ o. IsReading (SpellsValue text.now) o) }
+{
+    match text {
+        [b'\'' | b'"', ..] => Ok(read_text(alloc, text)?.map(Value::Text)),
+        [b'[', ..] => Ok(read_list(alloc, text)?.map(Value::List)),
+        b"True" => Ok(Some(Value::Bool(true))),
+        b"False" => Ok(Some(Value::Bool(false))),
+        _ => Ok(number(text).map(Value::Int)),
+    }
+}
+
+// The values that the text spells, with a comma and a space between each two.
+fn read_values(alloc: Global, text: &[u8]) -> Result<Option<Values>, NoMemory>
+    ensures { IfOk result (λ o. IsReading (SpellsCase text.now) o) }
+{
+    let mut values = Vec::new(alloc);
+    if text.is_empty() {
+        return Ok(Some(Values::from_vec(values)));
+    }
+    let mut rest = text;
+    loop {
+        let (piece, behind) = rest.split_at(value_len(rest));
+        let Some(v) = read_value(alloc, piece)? else {
+            return Ok(None);
+        };
+        values.push(v)?;
+        match behind {
+            [] => return Ok(Some(Values::from_vec(values))),
+            [b',', b' ', next @ ..] => rest = next,
+            _ => return Ok(None),
+        }
+    }
+}
+
+/// The case that the text spells: values with a comma and a space between each two. A number is
+/// decimal and has 32 bits, a text stands in quotes of either kind, and the empty text is the case
+/// of no values. `NoCase` comes exactly where the text spells no case.
+pub fn read_case(alloc: Global, text: &[u8]) -> Result<Case, CaseError>
+    requires { length text.now ≤ 1073741824 }
+    ensures read { IfOk result (λ c. SpellsCase text.now c.values) }
+    ensures no_case { result ≡ Err case_error.NoCase →
+        (vs : List AnyValue) → SpellsCase text.now vs → ⊥ }
+{
+    let values = read_values(alloc, text)?;
+    values
+        .map(|values| Case { values })
+        .ok_or(CaseError::NoCase)
+}
