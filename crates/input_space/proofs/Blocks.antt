@@ -54,13 +54,11 @@ length_powers (suc n) xs =
     let e : length xs ^ suc n ≡ length xs * length xs ^ n = pow-suc (length xs) n ∙ mul_comm (length xs ^ n) (length xs) in
     length_tuples xs (replicate n xs) ∙ ap (λ m. length xs * m) (length_powers n xs) ∙ sym e
 
--- a place of the tuples: that of the first element by the quotient, that of the others by the rest
-pub get_tuple : {A : Type 0} (xs : List A) (rest : List (List A)) (i : ℕ) (x : A) → 0 < length (tuples rest) → slice_get xs (i / length (tuples rest)) ≡ Some x → slice_get (tuples (xs ∷ rest)) i ≡ option_map (λ ys. x ∷ ys) (slice_get (tuples rest) (i % length (tuples rest)))
-get_tuple xs rest i x h e =
-    let n = length (tuples rest) in
-    ap (slice_get (tuples (xs ∷ rest))) (sym (div-add-mod' i n))
-    ∙ get_block (beginning (tuples rest)) n (λ y. length-map (tuples rest) (λ ys. y ∷ ys)) xs (i / n) (i % n) x e (omega arith)
-    ∙ slice_get-map (λ ys. x ∷ ys) (tuples rest) (i % n)
+-- a place of the tuples: that of the first element, and that of the others
+pub get_tuple : {A : Type 0} (xs : List A) (rest : List (List A)) (k j : ℕ) (x : A) → slice_get xs k ≡ Some x → j < length (tuples rest) → slice_get (tuples (xs ∷ rest)) (k * length (tuples rest) + j) ≡ option_map (λ ys. x ∷ ys) (slice_get (tuples rest) j)
+get_tuple xs rest k j x e h =
+    get_block (beginning (tuples rest)) (length (tuples rest)) (λ y. length-map (tuples rest) (λ ys. y ∷ ys)) xs k j x e h
+    ∙ slice_get-map (λ ys. x ∷ ys) (tuples rest) j
 
 -- the tuple at the place i of all is the elements that are found and then that at the place j of
 -- the others, of which there are fewer than m
@@ -80,42 +78,44 @@ one_more : {A : Type 0} (found : List A) (x : A) (o : Option (List A)) → optio
 one_more found x None = refl
 one_more found x (Some ys) = ap Some (sym (append_assoc found (x ∷ []) ys))
 
--- the place of the first element is one of its list, and there are no more tuples of the others
-parts : (a n j : ℕ) → j < a * n → (0 < n) × (j / n < a) × (n ≤ a * n)
-parts a zero j h = absurd (omega arith)
-parts zero (suc m) j h = absurd (omega arith)
-parts (suc b) (suc m) j h =
-    let more : suc b * suc m ≡ suc m + b * suc m = grind arith in
-    (omega arith, (div-lt_iff_lt-mul {k = suc m} {x = j} {y = suc b} (omega arith)).1 h, omega (arith, more))
+factor_within : (a n j : ℕ) → j < a * n → n ≤ a * n
+factor_within zero n j h = absurd (omega arith)
+factor_within (suc b) n j h = let more : suc b * n ≡ n + b * n = grind arith in omega (arith, more)
 
--- the count of the other tuples, which the limit m doesn't cut
-pub record Block (others size j n : ℕ) : Type 0 where
-  pub size_is : size ≡ others
-  pub some : 0 < size
-  pub below : j / size < n
-
-pub leads_block : {A : Type 0} (m : ℕ) (all : List (List A)) (i : ℕ) (found xs : List A) (rest : List (List A)) (j size : ℕ) → Leads m all i found (tuples (xs ∷ rest)) j → size ≡ min (length (tuples rest)) m → Block (length (tuples rest)) size j (length xs)
-leads_block m all i found xs rest j size h e =
-    let n = length (tuples rest) in
-    let product : length (tuples (xs ∷ rest)) ≡ length xs * n = length_tuples xs rest in
-    let p = parts (length xs) n j (subst (λ k. j < k) product h.within) in
-    let is : size ≡ n = omega (arith, p.2, product, h.few) in
-    record { size_is = is; some = omega (arith, p.0); below = subst (λ k. j / k < length xs) (sym is) p.1 }
-
-pub leads_next : {A : Type 0} (m : ℕ) (all : List (List A)) (i : ℕ) (found xs : List A) (rest : List (List A)) (j size : ℕ) (x : A) → Leads m all i found (tuples (xs ∷ rest)) j → size ≡ min (length (tuples rest)) m → slice_get xs (j / size) ≡ Some x → Leads m all i (found ++ x ∷ []) (tuples rest) (j % size)
-leads_next m all i found xs rest j size x h e at =
-    let n = length (tuples rest) in
-    let b = leads_block m all i found xs rest j size h e in
-    let some : 0 < n = omega (arith, b.some, b.size_is) in
-    let product : length (tuples (xs ∷ rest)) ≡ length xs * n = length_tuples xs rest in
-    let p = parts (length xs) n j (subst (λ k. j < k) product h.within) in
-    subst (λ k. Leads m all i (found ++ x ∷ []) (tuples rest) (j % k)) (sym b.size_is)
-    (record {
-      at = h.at ∙ ap (option_map (λ ys. found ++ ys)) (get_tuple xs rest j x some (subst (λ k. slice_get xs (j / k) ≡ Some x) b.size_is at)) ∙ one_more found x (slice_get (tuples rest) (j % n));
-      within = omega arith;
-      few = omega (arith, p.2, product, h.few);
-    })
+pub leads_next : {A : Type 0} (m : ℕ) (all : List (List A)) (i : ℕ) (found xs : List A) (rest : List (List A)) (j k next : ℕ) (x : A) → Leads m all i found (tuples (xs ∷ rest)) j → slice_get xs k ≡ Some x → next < length (tuples rest) → j ≡ k * length (tuples rest) + next → Leads m all i (found ++ x ∷ []) (tuples rest) next
+leads_next m all i found xs rest j k next x h e l place =
+    let product : length (tuples (xs ∷ rest)) ≡ length xs * length (tuples rest) = length_tuples xs rest in
+    let fewer = factor_within (length xs) (length (tuples rest)) j (subst (λ n. j < n) product h.within) in
+    record {
+      at = h.at ∙ ap (λ o. option_map (λ ys. found ++ ys) o) (ap (slice_get (tuples (xs ∷ rest))) place ∙ get_tuple xs rest k next x e l) ∙ one_more found x (slice_get (tuples rest) next);
+      within = l;
+      few = omega (arith, fewer, product, h.few);
+    }
 
 pub leads_last : {A : Type 0} (m : ℕ) (all : List (List A)) (i : ℕ) (found : List A) (j : ℕ) → Leads m all i found ([] ∷ []) j → slice_get all i ≡ Some found
 leads_last m all i found zero h = h.at ∙ ap Some (append-nil found)
 leads_last m all i found (suc j) h = absurd (omega (arith, h.within))
+
+-- A place j among a blocks of n: its block, and its place there. The size is n, which the limit m
+-- doesn't cut.
+pub record Splits (m a n j size : ℕ) : Type 0 where
+  pub some : 0 < size
+  pub block : j / size < a
+  pub rest : j % size < n
+  pub place : j ≡ (j / size) * n + j % size
+  pub few : a < m
+
+pub splits : (m a n j size : ℕ) → j < a * n → a * n < m → size ≡ min n m → Splits m a n j size
+splits m a zero j size h few e = absurd (omega arith)
+splits m a (suc n) j size h few e =
+    let fewer : suc n ≤ a * suc n = factor_within a (suc n) j h in
+    let blocks : a ≤ a * suc n = (let more : a * suc n ≡ a + a * n = grind arith in omega (arith, more)) in
+    let is : suc n ≡ size = omega arith in
+    subst (λ k. Splits m a (suc n) j k) is
+    (record {
+      some = omega arith;
+      block = (div-lt_iff_lt-mul {k = suc n} {x = j} {y = a} (omega arith)).1 h;
+      rest = omega arith;
+      place = sym (div-add-mod' j (suc n));
+      few = omega arith;
+    })

@@ -3,3 +3,4 @@ pub mod Membership
 pub mod Members
 pub mod Fitting
 pub mod Totals
+pub mod Orders

@@ -84,23 +84,26 @@ values_more m count p ps =
     ∙ ap (λ k. min k m) two
     ∙ ap (λ k. min (count * k) m) (sym all)
 
--- the values of a parameter
-pub count_int : (p : Param) (low high : ℤ) (m size : ℕ) → p ≡ param.Int low high → size ≡ span low high → size ≤ m → size ≡ min (length (values_of p)) m
-count_int p low high m size e h l =
-    let n : length (values_of (param.Int low high)) ≡ span low high = length-map (numbers low high) value.Int ∙ length_numbers low high in
-    rw e (omega (arith, n))
+-- how many values a parameter may have
+module _ (p : Param) where
+  pub length_int : (low high : ℤ) → p ≡ param.Int low high → length (values_of p) ≡ span low high
+  length_int low high e = rw e (length-map (numbers low high) value.Int ∙ length_numbers low high)
 
-pub count_list : (p : Param) (least most : ℕ) (low high : ℤ) (m size count : ℕ) → p ≡ param.List least most low high → size ≡ span low high → count ≡ min (lists_count size least (suc most - least)) m → count ≡ min (length (values_of p)) m
-count_list p least most low high m size count e h g =
-    let lists = lists_over least most (numbers low high) in
-    let n : length (values_of (param.List least most low high)) ≡ lists_count (length (numbers low high)) least (suc most - least) = length-map lists value.List ∙ length_lists least most (numbers low high) in
-    let s : length (numbers low high) ≡ size = length_numbers low high ∙ sym h in
-    rw e (rw (n, s) g)
+  pub length_list : (least most : ℕ) (low high : ℤ) (size : ℕ) → p ≡ param.List least most low high → size ≡ span low high → length (values_of p) ≡ lists_count size least (suc most - least)
+  length_list least most low high size e h =
+      let xs = numbers low high in
+      let s : length xs ≡ size = length_numbers low high ∙ sym h in
+      rw e
+      (length-map (lists_over least most xs) value.List
+      ∙ length_lists least most xs
+      ∙ ap (λ k. lists_count k least (suc most - least)) s)
 
-pub count_text : (p : Param) (least most : ℕ) (alphabet : List ℕ) (m size count : ℕ) → p ≡ param.Text least most alphabet → size ≡ length alphabet → count ≡ min (lists_count size least (suc most - least)) m → count ≡ min (length (values_of p)) m
-count_text p least most alphabet m size count e h g =
-    let n : length (values_of (param.Text least most alphabet)) ≡ lists_count (length alphabet) least (suc most - least) = length-map (lists_over least most alphabet) value.Text ∙ length_lists least most alphabet in
-    rw e (rw (n, ← h) g)
+  pub length_text : (least most : ℕ) (alphabet : List ℕ) (size : ℕ) → p ≡ param.Text least most alphabet → size ≡ length alphabet → length (values_of p) ≡ lists_count size least (suc most - least)
+  length_text least most alphabet size e h =
+      rw e
+      (length-map (lists_over least most alphabet) value.Text
+      ∙ length_lists least most alphabet
+      ∙ ap (λ k. lists_count k least (suc most - least)) (sym h))
 
 -- the parameter at the place i is counted
 pub counted_next : (m count i n next total : ℕ) (ps : List Param) (p : Param) → i < length ps → p ≡ get_or ps i p → n ≡ min (length (values_of p)) m → next ≡ min (count * n) m → min (count * length (inputs (drop i ps))) m ≡ total → min (next * length (inputs (drop (i + 1) ps))) m ≡ total

@@ -1,6 +1,6 @@
 //! The input at a place of the order.
-ghost use Rattle.std.specs.Prelude.{◌≡◌, ◌<◌, ◌≤◌, ◌+◌, ◌-◌, ◌^◌, suc, min, length, slice_get};
-ghost use Rattle.std.specs.Prelude.{IfOk, replicate, MatchResult};
+ghost use Rattle.std.specs.Prelude.{◌≡◌, ◌<◌, ◌≤◌, ◌+◌, ◌-◌, ◌*◌, ◌^◌, suc, length};
+ghost use Rattle.std.specs.Prelude.{IfOk, replicate, slice_get};
 ghost use Rattle.input_space.specs.Counts.{lists_count};
 ghost use Rattle.input_space.specs.Inputs.{inputs, numbers, span, tuples, values_of};
 
@@ -40,11 +40,35 @@ fn place_of(base: u64, least: u32, most: u32, i: u64) -> Place
 }
 
 // The number at the place `k` among those from `low` to `high`.
+#[tactic(auto, using(crate::proofs::Orders::get_number))]
 fn number_at(low: i32, high: i32, k: u64) -> i32
     requires { k < span low high }
     ensures { slice_get (numbers low high) k ≡ Some result }
 {
     (i64::from(low) + k as i64) as i32
+}
+
+// The place of a list's first element, and that of the others among the lists of their length.
+#[derive(Clone, Copy)]
+struct Parts {
+    first: u64,
+    others: u64,
+}
+
+// Where the list at the place `i` stands among those of so many of `base` elements.
+fn split(base: u64, len: u64, i: u64) -> Parts
+    requires some { 0 < len }
+    requires within { i < base ^ len }
+    requires counted { base ^ len < 1000000000000 }
+    ensures first { result.first < base }
+    ensures others { result.others < base ^ (len - 1) }
+    ensures place { i ≡ result.first * base ^ (len - 1) + result.others }
+{
+    let block = power(base, len - 1);
+    Parts {
+        first: i / block,
+        others: i % block,
+    }
 }
 
 // The list at the place `i` among those of so many numbers from `low` to `high`.
@@ -58,9 +82,9 @@ fn numbers_at(alloc: Global, low: i32, high: i32, len: u64, i: u64) -> Result<Ve
     let mut found = Vec::new(alloc);
     let mut rest = i;
     for k in 0..len {
-        let block = power(base, len - k - 1);
-        found.push(number_at(low, high, rest / block))?;
-        rest %= block;
+        let parts = split(base, len - k, rest);
+        found.push(number_at(low, high, parts.first))?;
+        rest = parts.others;
     }
     Ok(found)
 }
@@ -76,9 +100,9 @@ fn characters_at(alloc: Global, alphabet: &[u8], len: u64, i: u64) -> Result<Vec
     let mut found = Vec::new(alloc);
     let mut rest = i;
     for k in 0..len {
-        let block = power(base, len - k - 1);
-        found.push(alphabet[(rest / block) as usize])?;
-        rest %= block;
+        let parts = split(base, len - k, rest);
+        found.push(alphabet[parts.first as usize])?;
+        rest = parts.others;
     }
     Ok(found)
 }
@@ -124,14 +148,13 @@ pub fn case_at(alloc: Global, b: &Bounds, i: u64) -> Result<Case, NoMemory>
     requires counted { length (inputs b.now.params) < 1000000000000 }
     ensures { IfOk result (λ c. slice_get (inputs b.now.params) i ≡ Some c.values) }
 {
-    let mut params = b.params.items();
+    let params = b.params.items();
     let mut values = Vec::new(alloc);
     let mut rest = i;
-    while let [p, behind @ ..] = params {
-        let block = count_of(behind);
+    for (k, p) in params.iter().enumerate() {
+        let block = count_of(&params[k + 1..]);
         values.push(value_at(alloc, p, rest / block)?)?;
         rest %= block;
-        params = behind;
     }
     Ok(Case {
         values: Values::from_vec(values),
