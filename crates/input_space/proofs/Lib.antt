@@ -4,3 +4,4 @@ pub mod Members
 pub mod Fitting
 pub mod Totals
 pub mod Orders
+pub mod Joining

@@ -1,7 +1,8 @@
 -- The values within the ranges of a parameter are those that it may have.
-use Rattle.std.proofs.Common.{◌≡◌, ℕ, suc, ◌+◌, ◌-◌, ◌<◌, ◌≤◌, Bool, true, false, ◌&&◌, ◌||◌, ◌==◌, nat_le, ◌⊎◌, inl, inr, List, [], ◌∷◌, map, length, replicate, ℤ, pos, ◌+ℤ◌, ◌-ℤ◌, nat_abs, refl, sym, subst, arith}
+use Rattle.std.proofs.Common.{◌≡◌, ℕ, suc, ◌+◌, ◌-◌, ◌<◌, ◌≤◌, Bool, true, false, ◌&&◌, ◌||◌, ◌==◌, nat_le, ◌⊎◌, inl, inr, List, [], ◌∷◌, map, length, replicate, ℤ, pos, ◌+ℤ◌, ◌-ℤ◌, nat_abs, refl, sym, subst, arith, drop, get_or, ap, ◌∙◌}
 use Rattle.std.specs.List.{AllZip, Contains, list_all, list_any}
 use Rattle.std.proofs.lemmas.Int.{ints}
+use Rattle.std.proofs.lemmas.List.{drop_more}
 use Rattle.mpy_tree.specs.declared.value.Value.{Value}
 use Rattle.mpy_tree.specs.declared.value.Value.TheVariants as value
 use Rattle.mpy_tree.specs.Operations.{below}
@@ -137,3 +138,13 @@ input-are_within ps vs h = Contains-tuples (map values_of ps) vs (each_within ps
 
 pub are_within-input : (ps : List Param) (vs : List Value) → Contains (inputs ps) vs → are_within ps vs ≡ true
 are_within-input ps vs h = within_each ps vs (Contains-from_tuples (map values_of ps) vs h)
+
+-- one value that isn't within the ranges
+pub not_within : (ps : List Param) (vs : List Value) (i : ℕ) (p : Param) (v : Value) (all : Bool) → i < length ps → i < length vs → p ≡ get_or ps i p → v ≡ get_or vs i v → is_within p v ≡ false → are_within (drop i ps) (drop i vs) ≡ all → false ≡ all
+not_within ps vs i p v all h g e f n a =
+    let x : drop i ps ≡ p ∷ drop (i + 1) ps = drop_more ps i p h ∙ ap (λ q. q ∷ drop (i + 1) ps) (sym e) in
+    let y : drop i vs ≡ v ∷ drop (i + 1) vs = drop_more vs i v g ∙ ap (λ w. w ∷ drop (i + 1) vs) (sym f) in
+    sym (ap (λ b. b && are_within (drop (i + 1) ps) (drop (i + 1) vs)) n)
+    ∙ sym (ap (λ qs. are_within qs (v ∷ drop (i + 1) vs)) x)
+    ∙ sym (ap (are_within (drop i ps)) y)
+    ∙ a

@@ -29,6 +29,7 @@ fn print_truth(out: &mut Vec<u8>, b: bool) -> Result<(), NoMemory>
     Ok(())
 }
 
+#[tactic(auto, using(crate::proofs::Joining::joined_steps))]
 fn print_numbers(out: &mut Vec<u8>, zs: &[i32]) -> Result<(), NoMemory>
     ensures { OnOk result
         (out.new.items
@@ -81,6 +82,7 @@ pub fn print_value(out: &mut Vec<u8>, v: &Value) -> Result<(), NoMemory>
 }
 
 /// The values of the case, with a comma and a space between each two.
+#[tactic(auto, using(crate::proofs::Joining::joined_steps))]
 pub fn print_case(alloc: Global, c: &Case) -> Result<Vec<u8>, NoMemory>
     ensures { IfOk result (λ t. t.items ≡ values_text c.now.values) }
 {
