@@ -5,3 +5,7 @@ pub mod Fitting
 pub mod Totals
 pub mod Orders
 pub mod Joining
+pub mod Rows
+pub mod Numerals
+pub mod Extents
+pub mod ValueExtents

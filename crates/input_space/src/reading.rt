@@ -1,5 +1,6 @@
 //! Cases as texts.
-ghost use Rattle.std.specs.Prelude.{◌≡◌, ◌≤◌, List, Err, IfOk, length, option_map};
+ghost use Rattle.std.specs.Prelude.{◌≡◌, ◌<◌, ◌≤◌, ◌++◌, ℕ, List, Err, IfOk, IfSome, MatchOption, codes};
+ghost use Rattle.std.specs.Prelude.{length};
 ghost use Rattle.mpy_lexer.specs.TextLiterals.{literal_characters};
 ghost use Rattle.mpy_tree.specs.declared.value.Value.{Value as AnyValue};
 ghost use Rattle.input_space.specs.Cases.{SpellsCase, SpellsEach, SpellsNumber, SpellsNumbers};
@@ -15,6 +16,19 @@ use mpy_lexer::literal_characters;
 use mpy_tree::{Chars, Ints, Value, Values};
 use std::alloc::Global;
 
+// What stands behind the comma and the space at the front of the text.
+fn after_comma(text: &[u8]) -> Option<&[u8]>
+    ensures behind { MatchOption result
+        ((rest : List ℕ) → text.now ≡ codes ", " ++ rest → ⊥)
+        (λ rest. text.now ≡ codes ", " ++ rest.now) }
+    ensures shorter { IfSome result (λ rest. length rest.now < length text.now) }
+{
+    match text {
+        [b',', b' ', rest @ ..] => Some(rest),
+        _ => None,
+    }
+}
+
 // The numbers that the text spells, with a comma and a space between each two.
 fn read_numbers(alloc: Global, text: &[u8]) -> Result<Option<Ints>, NoMemory>
     ensures { IfOk result (λ o. IsReading (SpellsEach SpellsNumber text.now) o) }
@@ -24,17 +38,19 @@ fn read_numbers(alloc: Global, text: &[u8]) -> Result<Option<Ints>, NoMemory>
         return Ok(Some(Ints::from_vec(numbers)));
     }
     let mut rest = text;
-    loop {
+    'pieces: loop {
         let (piece, behind) = rest.split_at(number_len(rest));
         let Some(z) = number(piece) else {
             return Ok(None);
         };
         numbers.push(z)?;
-        match behind {
-            [] => return Ok(Some(Ints::from_vec(numbers))),
-            [b',', b' ', next @ ..] => rest = next,
-            _ => return Ok(None),
+        if behind.is_empty() {
+            return Ok(Some(Ints::from_vec(numbers)));
         }
+        let Some(next) = after_comma(behind) else {
+            return Ok(None);
+        };
+        rest = next;
     }
 }
 
@@ -78,17 +94,19 @@ fn read_values(alloc: Global, text: &[u8]) -> Result<Option<Values>, NoMemory>
         return Ok(Some(Values::from_vec(values)));
     }
     let mut rest = text;
-    loop {
+    'pieces: loop {
         let (piece, behind) = rest.split_at(value_len(rest));
         let Some(v) = read_value(alloc, piece)? else {
             return Ok(None);
         };
         values.push(v)?;
-        match behind {
-            [] => return Ok(Some(Values::from_vec(values))),
-            [b',', b' ', next @ ..] => rest = next,
-            _ => return Ok(None),
+        if behind.is_empty() {
+            return Ok(Some(Values::from_vec(values)));
         }
+        let Some(next) = after_comma(behind) else {
+            return Ok(None);
+        };
+        rest = next;
     }
 }
 
