@@ -9,3 +9,5 @@ pub mod Rows
 pub mod Numerals
 pub mod Extents
 pub mod ValueExtents
+pub mod Printed
+pub mod Closing

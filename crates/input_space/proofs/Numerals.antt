@@ -1,9 +1,11 @@
 -- The bytes of numbers in decimal.
-use Rattle.std.proofs.Common.{◌≡◌, ℕ, suc, ◌^◌, ◌<◌, ◌≤◌, Bool, true, ◌&&◌, ◌||◌, ◌==◌, nat_le, List, [], ◌∷◌, length, ℤ, pos, negsuc, FitsSigned, w32, refl, sym, ap, ◌∙◌, subst, arith}
+use Rattle.std.proofs.Common.{◌≡◌, ℕ, suc, ◌^◌, ◌<◌, ◌≤◌, Bool, true, ◌&&◌, ◌||◌, ◌==◌, nat_le, List, [], ◌∷◌, length, Result, Ok, ℤ, pos, negsuc, FitsSigned, w32, refl, sym, ap, ◌∙◌, subst, arith}
 use Rattle.std.specs.Fmt.{decimal, signed_decimal}
 use Rattle.std.specs.List.{list_all}
-use Rattle.std.specs.Str.Parse.{AllDigits}
-use Rattle.std.proofs.lemmas.Fmt.{decimal_is_IsNumeral, signed_decimal_injective}
+use Rattle.std.specs.Str.{IsAscii, IsUtf8}
+use Rattle.std.specs.Str.Parse.{AllDigits, ParsesSigned}
+use Rattle.std.proofs.lemmas.Fmt.{IsAscii-signed, decimal_is_IsNumeral, parse-signed_decimal, signed_decimal_injective}
+use Rattle.std.proofs.lemmas.Str.{IsUtf8-from_ascii}
 use Rattle.std.proofs.lemmas.Str.Parse.{digit_from_value}
 use lib.Signed.{mag}
 use Rattle.mpy_tree.specs.Operations.{fits_width}
@@ -54,3 +56,14 @@ number_one text y z h g =
     let a : mag y < 2 ^ 31 = small y h.fits in
     let b : mag z < 2 ^ 31 = small z g.fits in
     signed_decimal_injective y z (omega arith) (omega arith) (sym h.written ∙ g.written)
+
+-- what reading such a text as a number gives
+pub number_read : {E : Type 0} (text bs : List ℕ) (z : ℤ) (r : Result ℤ E) → SpellsNumber text z → bs ≡ text → ParsesSigned w32 10 bs r → r ≡ Ok z
+number_read text bs z r h e p =
+    let low : mag z < 2 ^ 31 = small z h.fits in
+    parse-signed_decimal w32 z bs r (fits_32 z h.fits) (omega arith) (e ∙ h.written) p
+
+pub number_utf8 : (text : List ℕ) (z : ℤ) → SpellsNumber text z → IsUtf8 text
+number_utf8 text z h =
+    let low : mag z < 2 ^ 31 = small z h.fits in
+    IsUtf8-from_ascii text (subst IsAscii (sym h.written) (IsAscii-signed z (omega arith)))

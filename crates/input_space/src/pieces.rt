@@ -11,13 +11,20 @@ pub(crate) fn number_len(text: &[u8]) -> usize
     text.iter().take_while(|c| **c != b',').count()
 }
 
+// How far the first closing bracket is away.
+fn bracket_at(text: &[u8]) -> usize
+    ensures same { result ≡ prefix_len (λ c. not (c == 93)) text.now }
+    ensures within { result ≤ length text.now }
+{
+    text.iter().take_while(|c| **c != b']').count()
+}
+
 // How long the list at the front of the text is: its bracket ends it.
 fn list_len(text: &[u8]) -> usize
     ensures same { result ≡ list_len text.now }
     ensures within { result ≤ length text.now }
 {
-    let inner = text.iter().take_while(|c| **c != b']').count();
-    if inner < text.len() { inner + 1 } else { inner }
+    (bracket_at(text) + 1).min(text.len())
 }
 
 // How long the rest of the text literal at the front is: the quote ends it that no backslash
