@@ -1,17 +1,13 @@
 -- How far numbers and values go in a text.
-use Rattle.std.proofs.Common.{◌≡◌, ℕ, suc, ◌+◌, ◌<◌, ◌≤◌, min, ◌⊎◌, inl, inr, Bool, true, false, not, ◌&&◌, ◌||◌, ◌==◌, cond, List, [], ◌∷◌, ◌++◌, codes, length, get_or, Option, Some, None, ℤ, refl, sym, ap, ◌∙◌, subst, arith, append_assoc, length-append}
+use Rattle.std.proofs.Common.{◌≡◌, ℕ, suc, ◌+◌, inl, inr, Bool, true, false, not, ◌==◌, cond, List, [], ◌∷◌, ◌++◌, codes, length, Option, Some, None, ℤ, refl, sym, ap, ◌∙◌, subst, arith, append_assoc, length-append}
 use Rattle.std.specs.List.{AllZip, list_all, prefix_len}
-use Rattle.std.proofs.lemmas.List.{append_cancel_left, append_cancel_right}
-use Rattle.mpy_tree.specs.declared.value.Value.{Value}
-use Rattle.mpy_tree.specs.declared.value.Value.TheVariants as value
-use Rattle.mpy_tree.specs.Printing.{commas, truth_text}
-use Rattle.mpy_lexer.specs.Bytes.{is_quote}
-use Rattle.mpy_lexer.specs.TextLiterals.{characters, is_escapable, is_printable, literal_characters, with_character}
-use Rattle.input_space.specs.Cases.{SpellsEach, SpellsNumber, SpellsNumbers, SpellsValue}
-use Rattle.input_space.specs.Pieces.{closed_len, list_len, number_len, value_len}
+use Rattle.mpy_tree.specs.Printing.{commas}
+use Rattle.mpy_lexer.specs.TextLiterals.{characters, is_escapable, is_printable, with_character}
+use Rattle.input_space.specs.Cases.{SpellsEach, SpellsNumber}
+use Rattle.input_space.specs.Pieces.{closed_len, list_len, number_len}
 use Rattle.input_space.proofs.Membership.{both, two}
 use Rattle.input_space.proofs.Numerals.{is_numeral, numeral, number_one}
-use Rattle.input_space.proofs.Rows.{Cuts, IsEnd, spells_one}
+use Rattle.input_space.proofs.Rows.{Cuts, IsEnd}
 
 -- tests of all bytes
 

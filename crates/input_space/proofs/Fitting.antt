@@ -1,12 +1,11 @@
 -- Values within the ranges of the bounds fit the limits.
-use Rattle.std.proofs.Common.{◌≡◌, ℕ, zero, suc, ◌-◌, ◌^◌, ◌<◌, ◌≤◌, Bool, true, ◌&&◌, ◌==◌, nat_le, nat_lt, List, [], ◌∷◌, map, length, ℤ, pos, negsuc, int_le, refl, subst, arith}
+use Rattle.std.proofs.Common.{◌≡◌, ℕ, true, ◌==◌, nat_le, List, [], ◌∷◌, map, length, ℤ, pos, negsuc, refl, arith}
 use Rattle.std.specs.List.{list_all, list_any}
-use Rattle.std.proofs.lemmas.Int.{ints}
 use Rattle.mpy_tree.specs.declared.limits.Limits.{Limits}
 use Rattle.mpy_tree.specs.declared.value.Value.{Value}
 use Rattle.mpy_tree.specs.declared.value.Value.TheVariants as value
-use Rattle.mpy_tree.specs.Fitting.{all_fit_as, fits_as, value_fits}
-use Rattle.mpy_tree.specs.Operations.{fits, fits_width}
+use Rattle.mpy_tree.specs.Fitting.{all_fit_as, fits_as}
+use Rattle.mpy_tree.specs.Operations.{fits_width}
 use Rattle.bounds_reader.specs.declared.params.Param.{Param}
 use Rattle.bounds_reader.specs.declared.params.Param.TheVariants as param
 use Rattle.bounds_reader.specs.Forms.{form_of}

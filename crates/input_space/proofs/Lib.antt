@@ -11,3 +11,4 @@ pub mod Extents
 pub mod ValueExtents
 pub mod Printed
 pub mod Closing
+pub mod ReadValues

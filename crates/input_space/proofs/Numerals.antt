@@ -1,5 +1,5 @@
 -- The bytes of numbers in decimal.
-use Rattle.std.proofs.Common.{◌≡◌, ℕ, suc, ◌^◌, ◌<◌, ◌≤◌, Bool, true, ◌&&◌, ◌||◌, ◌==◌, nat_le, List, [], ◌∷◌, length, Result, Ok, ℤ, pos, negsuc, FitsSigned, w32, refl, sym, ap, ◌∙◌, subst, arith}
+use Rattle.std.proofs.Common.{◌≡◌, ℕ, suc, ◌^◌, ◌<◌, ◌≤◌, Bool, true, ◌&&◌, ◌||◌, ◌==◌, nat_le, List, [], ◌∷◌, length, Result, Ok, ℤ, pos, negsuc, FitsSigned, w32, refl, sym, ◌∙◌, subst, arith}
 use Rattle.std.specs.Fmt.{decimal, signed_decimal}
 use Rattle.std.specs.List.{list_all}
 use Rattle.std.specs.Str.{IsAscii, IsUtf8}
@@ -10,7 +10,7 @@ use Rattle.std.proofs.lemmas.Str.Parse.{digit_from_value}
 use lib.Signed.{mag}
 use Rattle.mpy_tree.specs.Operations.{fits_width}
 use Rattle.input_space.specs.Cases.{SpellsNumber}
-use Rattle.input_space.proofs.Membership.{both, two}
+use Rattle.input_space.proofs.Membership.{two}
 
 -- a digit or a minus
 abbrev pub is_numeral : ℕ → Bool

@@ -1,5 +1,5 @@
 -- The value at a place of the order.
-use Rattle.std.proofs.Common.{◌≡◌, ℕ, zero, suc, ◌+◌, ◌-◌, ◌*◌, ◌^◌, ◌/◌, ◌%◌, ◌<◌, ◌≤◌, min, Bool, true, false, ◌⊎◌, inl, inr, List, [], ◌∷◌, ◌++◌, map, length, replicate, drop, get_or, Option, Some, ℤ, pos, ◌+ℤ◌, FitsSigned, w32, refl, sym, ap, ◌∙◌, subst, arith}
+use Rattle.std.proofs.Common.{◌≡◌, ℕ, zero, suc, ◌+◌, ◌-◌, ◌*◌, ◌^◌, ◌/◌, ◌%◌, ◌<◌, ◌≤◌, min, inl, inr, List, [], ◌∷◌, ◌++◌, map, length, replicate, drop, get_or, Some, ℤ, pos, ◌+ℤ◌, sym, ap, ◌∙◌, subst, arith}
 use Rattle.std.specs.List.{AllZip, Contains, flat_map, slice_get}
 use Rattle.std.specs.Option.{option_map}
 use Rattle.std.proofs.lemmas.Bool.{cases_lt}
@@ -16,7 +16,7 @@ use Rattle.input_space.specs.Counts.{lists_count}
 use Rattle.input_space.specs.Inputs.{inputs, lists_over, numbers, span, tuples, values_of}
 use Rattle.input_space.proofs.Blocks.{Leads, Splits, get_left, get_right, leads_first, leads_next, leads_last, length_powers, length_tuples, splits}
 use Rattle.input_space.proofs.Membership.{Contains-from_tuples}
-use Rattle.input_space.proofs.Totals.{count_within, length_below, length_lists, length_lists_below, length_numbers, of_length, one_length_more}
+use Rattle.input_space.proofs.Totals.{count_within, length_below, length_lists_below, length_numbers, of_length, one_length_more}
 
 get_below : (n k : ℕ) → k < n → slice_get (below n) k ≡ Some k
 get_below zero k h = absurd (omega arith)

@@ -1,10 +1,21 @@
 -- Texts with a comma and a space between each two: the first of them, and those that are read so
 -- far.
-use Rattle.std.proofs.Common.{◌≡◌, ℕ, ◌+◌, ◌<◌, ◌⊎◌, inl, inr, List, [], ◌∷◌, ◌++◌, codes, length, take, drop, refl, sym, ap, ◌∙◌, subst, arith, append_assoc, length-append}
+use Rattle.std.proofs.Common.{◌≡◌, ℕ, ◌+◌, ◌<◌, ◌⊎◌, inl, inr, true, false, ◌==◌, List, [], ◌∷◌, ◌++◌, codes, length, take, drop, refl, sym, ap, ◌∙◌, subst, arith, append_assoc, length-append}
 use Rattle.std.specs.List.{AllZip}
 use Rattle.std.proofs.lemmas.List.{append-nil, append_cancel_left, drop_at, take-append-drop, take_at}
 use Rattle.mpy_tree.specs.Printing.{commas}
 use Rattle.input_space.specs.Cases.{SpellsEach}
+
+-- what a test for the empty text says
+pub has_some : (text : List ℕ) → false ≡ (length text == 0) → 0 < length text
+has_some text h = grind arith
+
+pub is_nil : (text : List ℕ) → true ≡ (length text == 0) → text ≡ []
+is_nil [] h = refl
+is_nil (c ∷ cs) h = absurd (grind arith)
+
+pub is_not_nil : (text : List ℕ) → false ≡ (length text == 0) → text ≡ [] → ⊥
+is_not_nil text h e = let some = has_some text h in let n = ap length e in absurd (omega arith)
 
 -- what may stand behind a piece: nothing, or a comma
 abbrev pub IsEnd : List ℕ → Type 0
@@ -163,7 +174,7 @@ module _ {A : Type 0} (Spells : List ℕ → A → Type 0) where
           record {
             forth = λ y ys h. subst (SpellsEach Spells text) (sym (append_assoc found (x ∷ []) (y ∷ ys))) (further x s (y ∷ ys) (next, e, h));
             back = λ xs h.
-              (let b = g.back xs h in
-              let c = cut_here b.0 b.1 b.3 in
-              goes_back x next s e xs b.0 b.1 b.2 c.0 c.1);
+                (let b = g.back xs h in
+                let c = cut_here b.0 b.1 b.3 in
+                goes_back x next s e xs b.0 b.1 b.2 c.0 c.1);
           }

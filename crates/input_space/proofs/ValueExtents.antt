@@ -1,5 +1,5 @@
 -- How far values go in a text, and that a text spells one value at most.
-use Rattle.std.proofs.Common.{◌≡◌, ℕ, suc, ◌+◌, ◌<◌, Bool, true, false, not, ◌&&◌, ◌||◌, ◌==◌, if◌then◌else◌, List, [], ◌∷◌, ◌++◌, codes, length, get_or, Option, Some, None, ℤ, refl, sym, ap, ◌∙◌, subst, arith, length-append}
+use Rattle.std.proofs.Common.{◌≡◌, ℕ, suc, ◌<◌, Bool, true, false, not, ◌&&◌, ◌||◌, ◌==◌, if◌then◌else◌, List, [], ◌∷◌, ◌++◌, codes, length, get_or, Some, None, ℤ, refl, sym, ap, ◌∙◌, subst, arith}
 use Rattle.std.specs.List.{list_all}
 use Rattle.std.proofs.lemmas.List.{append_cancel_left, append_cancel_right}
 use Rattle.std.proofs.lemmas.Option.{same_Some}
@@ -9,9 +9,9 @@ use Rattle.mpy_tree.specs.Printing.{truth_text}
 use Rattle.mpy_lexer.specs.Bytes.{is_quote}
 use Rattle.mpy_lexer.specs.TextLiterals.{characters, literal_characters}
 use Rattle.input_space.specs.Cases.{SpellsEach, SpellsNumber, SpellsNumbers, SpellsValue}
-use Rattle.input_space.specs.Pieces.{closed_len, list_len, number_len, value_len}
+use Rattle.input_space.specs.Pieces.{number_len, value_len}
 use Rattle.input_space.proofs.Extents.{all_weaker, inner_no_bracket, list_cut, not_comma, number_cut, numbers_cut, text_cut}
-use Rattle.input_space.proofs.Membership.{both, two}
+use Rattle.input_space.proofs.Membership.{both}
 use Rattle.input_space.proofs.Numerals.{is_numeral, numeral, number_one}
 use Rattle.input_space.proofs.Rows.{Cuts, IsEnd, spells_one}
 

@@ -2,6 +2,7 @@
 ghost use Rattle.std.specs.Prelude.{◌≡◌, ◌<◌, ◌≤◌, ◌++◌, ℕ, List, Err, IfOk, IfSome, MatchOption, codes};
 ghost use Rattle.std.specs.Prelude.{length};
 ghost use Rattle.mpy_lexer.specs.TextLiterals.{literal_characters};
+ghost use Rattle.mpy_tree.specs.Printing.{truth_text};
 ghost use Rattle.mpy_tree.specs.declared.value.Value.{Value as AnyValue};
 ghost use Rattle.input_space.specs.Cases.{SpellsCase, SpellsEach, SpellsNumber, SpellsNumbers};
 ghost use Rattle.input_space.specs.Cases.{SpellsValue};
@@ -54,13 +55,25 @@ fn read_numbers(alloc: Global, text: &[u8]) -> Result<Option<Ints>, NoMemory>
     }
 }
 
+// What stands between the brackets that the text begins and ends with.
+fn between_brackets(text: &[u8]) -> Option<&[u8]>
+    ensures { MatchOption result
+        ((inner : List ℕ) → text.now ≡ codes "[" ++ inner ++ codes "]" → ⊥)
+        (λ inner. text.now ≡ codes "[" ++ inner.now ++ codes "]") }
+{
+    match text {
+        [b'[', inner @ .., b']'] => Some(inner),
+        _ => None,
+    }
+}
+
 // The list that the text spells.
 fn read_list(alloc: Global, text: &[u8]) -> Result<Option<Ints>, NoMemory>
     ensures { IfOk result (λ o. IsReading (SpellsNumbers text.now) o) }
 {
-    match text {
-        [b'[', inner @ .., b']'] => read_numbers(alloc, inner),
-        _ => Ok(None),
+    match between_brackets(text) {
+        Some(inner) => read_numbers(alloc, inner),
+        None => Ok(None),
     }
 }
 
@@ -72,16 +85,35 @@ fn read_text(alloc: Global, text: &[u8]) -> Result<Option<Chars>, NoMemory>
     Ok(characters.map(Chars::from_vec))
 }
 
+// The truth value that the text spells.
+fn truth(text: &[u8]) -> Option<bool>
+    ensures { IsReading (λ b. text.now ≡ truth_text b) result }
+{
+    if text == b"True".as_slice() {
+        Some(true)
+    } else if text == b"False".as_slice() {
+        Some(false)
+    } else {
+        None
+    }
+}
+
 // The value that the text spells.
 fn read_value(alloc: Global, text: &[u8]) -> Result<Option<Value>, NoMemory>
     ensures { IfOk result (λ o. IsReading (SpellsValue text.now) o) }
 {
-    match text {
-        [b'\'' | b'"', ..] => Ok(read_text(alloc, text)?.map(Value::Text)),
-        [b'[', ..] => Ok(read_list(alloc, text)?.map(Value::List)),
-        b"True" => Ok(Some(Value::Bool(true))),
-        b"False" => Ok(Some(Value::Bool(false))),
-        _ => Ok(number(text).map(Value::Int)),
+    if let Some(characters) = read_text(alloc, text)? {
+        return Ok(Some(Value::Text(characters)));
+    }
+    if let Some(numbers) = read_list(alloc, text)? {
+        return Ok(Some(Value::List(numbers)));
+    }
+    if let Some(b) = truth(text) {
+        return Ok(Some(Value::Bool(b)));
+    }
+    match number(text) {
+        Some(z) => Ok(Some(Value::Int(z))),
+        None => Ok(None),
     }
 }
 
@@ -119,8 +151,8 @@ pub fn read_case(alloc: Global, text: &[u8]) -> Result<Case, CaseError>
     ensures no_case { result ≡ Err case_error.NoCase →
         (vs : List AnyValue) → SpellsCase text.now vs → ⊥ }
 {
-    let values = read_values(alloc, text)?;
-    values
-        .map(|values| Case { values })
-        .ok_or(CaseError::NoCase)
+    match read_values(alloc, text)? {
+        Some(values) => Ok(Case { values }),
+        None => Err(CaseError::NoCase),
+    }
 }

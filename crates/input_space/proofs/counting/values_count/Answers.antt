@@ -1,6 +1,5 @@
-use Rattle.std.proofs.Common.{FitsSigned, rules, w32, arith, length, ◌∙◌, ◌≡◌, ap, min}
+use Rattle.std.proofs.Common.{FitsSigned, rules, w32, arith}
 use Rattle.std.proofs.lemmas.Int.{to_z-of_z}
-use Rattle.input_space.specs.Inputs.{span, values_of}
 use Rattle.input_space.proofs.Totals.{length_int, length_list, length_text}
 use Rattle.input_space.proofs.counting.values_count.Goals as goal
 

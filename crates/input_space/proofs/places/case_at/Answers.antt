@@ -1,6 +1,6 @@
-use Rattle.std.proofs.Common.{◌≡◌, ◌+◌, ◌<◌, ◌≤◌, length, subst}
+use Rattle.std.proofs.Common.{◌<◌, ◌≤◌, length, subst}
 use Rattle.std.proofs.lemmas.List.{drop_all, take_rest}
-use Rattle.input_space.specs.Inputs.{inputs, values_of}
+use Rattle.input_space.specs.Inputs.{inputs}
 use Rattle.input_space.proofs.Blocks.{Leads, leads_first, leads_last}
 use Rattle.input_space.proofs.Orders.{value_next, value_place}
 use Rattle.input_space.proofs.places.case_at.Goals as goal

@@ -1,4 +1,4 @@
-use Rattle.std.proofs.Common.{◌≡◌, ◌+◌, ◌-◌, ◌<◌, length, arith, refl}
+use Rattle.std.proofs.Common.{◌+◌, ◌-◌, length, arith, refl}
 use Rattle.std.proofs.lemmas.Option.{slice_get-get_or}
 use Rattle.input_space.proofs.Orders.{elements_first, elements_left, elements_next, elements_last}
 use Rattle.input_space.proofs.places.characters_at.Goals as goal

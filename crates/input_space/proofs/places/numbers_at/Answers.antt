@@ -1,6 +1,6 @@
-use Rattle.std.proofs.Common.{◌≡◌, ◌+◌, ◌-◌, suc, List, [], ◌∷◌, ◌++◌, FitsSigned, rules, w32, arith, sym, ◌∙◌}
+use Rattle.std.proofs.Common.{◌+◌, ◌-◌, FitsSigned, rules, w32, arith, sym, ◌∙◌}
 use Rattle.std.proofs.lemmas.Int.{to_z-of_z}
-use Rattle.input_space.specs.Inputs.{numbers, span, tuples}
+use Rattle.input_space.specs.Inputs.{numbers, span}
 use Rattle.input_space.proofs.Orders.{elements_first, elements_left, elements_next, elements_last}
 use Rattle.input_space.proofs.Totals.{length_numbers}
 use Rattle.input_space.proofs.places.numbers_at.Goals as goal

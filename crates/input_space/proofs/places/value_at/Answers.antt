@@ -1,6 +1,5 @@
-use Rattle.std.proofs.Common.{◌≡◌, ◌+◌, ◌-◌, ◌<◌, suc, FitsSigned, rules, w32, arith, ap, ◌∙◌, subst}
+use Rattle.std.proofs.Common.{◌+◌, ◌-◌, suc, FitsSigned, rules, w32, arith, ap}
 use Rattle.std.proofs.lemmas.Int.{to_z-of_z}
-use Rattle.input_space.specs.Inputs.{numbers, span, tuples, values_of}
 use Rattle.input_space.proofs.Orders.{length_few, text_printable, value_int, value_list, value_text}
 use Rattle.input_space.proofs.Totals.{length_int, length_list, length_text}
 use Rattle.input_space.proofs.places.value_at.Goals as goal

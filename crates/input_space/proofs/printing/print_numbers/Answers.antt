@@ -1,4 +1,4 @@
-use Rattle.std.proofs.Common.{◌≡◌, ◌++◌, get_or, pos, FitsSigned, rules, w32}
+use Rattle.std.proofs.Common.{get_or, pos, FitsSigned, rules, w32}
 use Rattle.std.specs.Fmt.{signed_decimal}
 use Rattle.std.proofs.lemmas.Int.{to_z-of_z}
 use Rattle.input_space.proofs.Joining.{joined_next}

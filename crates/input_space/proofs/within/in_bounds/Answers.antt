@@ -1,4 +1,4 @@
-use Rattle.std.proofs.Common.{◌≡◌, true, subst, sym, ◌∙◌}
+use Rattle.std.proofs.Common.{◌≡◌, sym, ◌∙◌}
 use Rattle.input_space.specs.Inputs.{are_within}
 use Rattle.input_space.proofs.Members.{are_within-input, input-are_within}
 use Rattle.input_space.proofs.within.in_bounds.Goals as goal
