@@ -1,8 +1,11 @@
 //! The texts of values and of cases.
-ghost use Rattle.std.specs.Prelude.{◌≡◌, ◌++◌, IfOk, OnOk, codes, map};
+ghost use Rattle.std.specs.Prelude.{◌≡◌, ◌++◌, true, All, IfOk, OnOk, codes, map};
 ghost use Rattle.std.specs.Fmt.{signed_decimal};
+ghost use Rattle.mpy_tree.specs.Operations.{fits_width};
 ghost use Rattle.mpy_tree.specs.Printing.{commas, escaped, quoted_text, truth_text, value_text};
 ghost use Rattle.mpy_tree.specs.Printing.{values_text};
+ghost use Rattle.input_space.specs.CaseLaws.{IsPrintable};
+ghost use Rattle.input_space.specs.Cases.{SpellsCase};
 
 use crate::NoMemory;
 use crate::case::Case;
@@ -31,9 +34,10 @@ fn print_truth(out: &mut Vec<u8>, b: bool) -> Result<(), NoMemory>
 
 #[tactic(auto, using(crate::proofs::Joining::joined_steps))]
 fn print_numbers(out: &mut Vec<u8>, zs: &[i32]) -> Result<(), NoMemory>
-    ensures { OnOk result
+    ensures text { OnOk result
         (out.new.items
         ≡ out.old.items ++ (codes "[" ++ commas (map signed_decimal zs.now) ++ codes "]")) }
+    ensures fits { OnOk result (All (λ z. fits_width 32 z ≡ true) zs.now) }
 {
     let mut separator: &[u8] = b"";
     out.extend_from_slice(b"[")?;
@@ -69,9 +73,10 @@ fn print_text(out: &mut Vec<u8>, text: &[u8]) -> Result<(), NoMemory>
 }
 
 /// Adds the text of a value: a number in decimal, `True` or `False`, a list as `[1, -2]`, a text in
-/// single quotes.
+/// single quotes. Each value is one that is read back from its text.
 pub fn print_value(out: &mut Vec<u8>, v: &Value) -> Result<(), NoMemory>
-    ensures { OnOk result (out.new.items ≡ out.old.items ++ value_text v.now) }
+    ensures text { OnOk result (out.new.items ≡ out.old.items ++ value_text v.now) }
+    ensures printable { OnOk result (IsPrintable v.now) }
 {
     match v {
         Value::Int(z) => print_number(out, *z),
@@ -81,10 +86,11 @@ pub fn print_value(out: &mut Vec<u8>, v: &Value) -> Result<(), NoMemory>
     }
 }
 
-/// The values of the case, with a comma and a space between each two.
+/// The values of the case, with a comma and a space between each two; the text spells the case.
 #[tactic(auto, using(crate::proofs::Joining::joined_steps))]
 pub fn print_case(alloc: Global, c: &Case) -> Result<Vec<u8>, NoMemory>
-    ensures { IfOk result (λ t. t.items ≡ values_text c.now.values) }
+    ensures text { IfOk result (λ t. t.items ≡ values_text c.now.values) }
+    ensures spelled { IfOk result (λ t. SpellsCase t.items c.now.values) }
 {
     let mut out = Vec::new(alloc);
     let mut separator: &[u8] = b"";

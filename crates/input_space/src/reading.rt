@@ -1,6 +1,6 @@
 //! Cases as texts.
-ghost use Rattle.std.specs.Prelude.{◌≡◌, ◌<◌, ◌≤◌, ◌++◌, ℕ, List, Err, IfOk, IfSome, MatchOption, codes};
-ghost use Rattle.std.specs.Prelude.{length};
+ghost use Rattle.std.specs.Prelude.{◌≡◌, ◌<◌, ◌≤◌, ◌++◌, ℕ, List, Err, IfOk, IfSome, MatchOption};
+ghost use Rattle.std.specs.Prelude.{codes, length};
 ghost use Rattle.mpy_lexer.specs.TextLiterals.{literal_characters};
 ghost use Rattle.mpy_tree.specs.Printing.{truth_text};
 ghost use Rattle.mpy_tree.specs.declared.value.Value.{Value as AnyValue};
