@@ -1,5 +1,5 @@
 -- From an outcome that is due and written to how the call ends.
-use Rattle.std.proofs.Common.{◌≡◌, ◌≤◌, sym, ap, subst, ◌∙◌, arith, refl, inl, inr, Result, Ok, Err, IfOk, IfErr, IsErrAnd, MatchResult, List, [], ◌∷◌, ℕ, length}
+use Rattle.std.proofs.Common.{◌≡◌, ◌≤◌, ◌+◌, sym, ap, subst, ◌∙◌, arith, refl, inl, inr, Result, Ok, Err, IfOk, IfErr, IsErrAnd, MatchResult, List, [], ◌∷◌, ℕ, length}
 use Rattle.std.specs.Fmt.{decimal}
 use Rattle.std.proofs.lemmas.Fmt.{decimal_injective}
 use Rattle.grade_io.specs.Devices.{Devices, ShelfState, SinkState, Rose}

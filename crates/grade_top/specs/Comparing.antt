@@ -16,6 +16,10 @@ abbrev pub MeetsOn : Bounds → List Routine → List Routine → List Value →
 MeetsOn b r p vs =
     (v : Value) → ends_on b r vs ≡ outcome.Value v → ends_on b p vs ≡ outcome.Value v
 
+-- the program gives a value there
+abbrev pub GivesOn : Bounds → List Routine → List Value → Type 0
+GivesOn b r vs = (v : Value) × (ends_on b r vs ≡ outcome.Value v)
+
 -- the program fails there, and this is how
 pub record IsFailing (b : Bounds) (r p : List Routine) (vs : List Value) (f : code.Failure) : Type 0 where
   pub input_is : f.case.values ≡ vs

@@ -41,8 +41,12 @@ status_of Unasked = status.Usage
 
 -- the line of a refusal: of a file by its word, of a value by its number
 abbrev pub line_of : Command → Source → Refusal → List ℕ
-line_of c (source.Word n) r = value_refusal_text n r
-line_of c s r = refusal_text (word_of c s) r
+line_of c (source.Word n) r = value_refusal_text n r.cause
+line_of c source.Bounds r = refusal_text (word_of c source.Bounds) r
+line_of c source.Reference r = refusal_text (word_of c source.Reference) r
+line_of c source.Submission r = refusal_text (word_of c source.Submission) r
+line_of c source.Rules r = refusal_text (word_of c source.Rules) r
+line_of c source.Cert r = refusal_text (word_of c source.Cert) r
 
 -- what is written of an outcome
 abbrev pub text_of_outcome : Command → Outcome → List ℕ

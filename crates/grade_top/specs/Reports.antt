@@ -4,7 +4,7 @@ use Rattle.std.specs.List.{flat_map}
 use Rattle.std.specs.Fmt.{decimal}
 use Rattle.mpy_tree.specs.declared.outcome.Outcome.{Outcome}
 use Rattle.mpy_tree.specs.declared.outcome.Outcome.TheVariants as outcome
-use Rattle.mpy_tree.specs.declared.refusal.Refusal.{Refusal}
+use Rattle.mpy_tree.specs.declared.refusal.Cause.{Cause}
 use Rattle.mpy_tree.specs.Outcomes.{fault_text}
 use Rattle.mpy_tree.specs.Printing.{text_of, program_text, value_text, values_text}
 use Rattle.mpy_tree.specs.Refusals.{cause_text}
@@ -60,6 +60,6 @@ run_text (outcome.Fault kind line) =
     codes "fault " ++ fault_text kind ++ codes " line " ++ decimal line ++ codes "\n"
 
 -- a value of `run` is refused, by its number
-abbrev pub value_refusal_text : ℕ → Refusal → List ℕ
-value_refusal_text n r =
-    codes "refused value " ++ decimal n ++ codes ": " ++ cause_text r.cause ++ codes "\n"
+abbrev pub value_refusal_text : ℕ → Cause → List ℕ
+value_refusal_text n c =
+    codes "refused value " ++ decimal n ++ codes ": " ++ cause_text c ++ codes "\n"

@@ -6,7 +6,8 @@ ghost use Rattle.grade_io.specs.Says.{Says};
 ghost use Rattle.source_files.specs.Fetches.{CallsInOrder, FilesKept, IsLongSource, OnRefused};
 ghost use Rattle.source_files.specs.Fetches.{ReadFaults, StopsAs};
 ghost use Rattle.source_files.specs.Texts.{AllFit, AreHeld};
-ghost use Rattle.source_files.specs.Views.{texts_of};
+ghost use Rattle.source_files.specs.Files.{file as source_file};
+ghost use Rattle.source_files.specs.Views.{file_of, texts_of};
 ghost use Rattle.grade_top.specs.Ends.{ComesOfFiles, Ends, IsDecided, Refused, line_of};
 ghost use Rattle.grade_top.specs.Files.{files_of, word_of};
 ghost use Rattle.grade_top.specs.Outcomes.{IsReport, ReportsFiles};
@@ -18,7 +19,7 @@ use crate::outcome::Report;
 use crate::run::run_report;
 use crate::words::Command;
 use grade_io::{Shelf, Sink, Status, say};
-use mpy_tree::{NoMemory, Refusal, Source};
+use mpy_tree::{Cause, NoMemory, Refusal, Source};
 use source_files::{File, Stop, fetch_all};
 use std::alloc::Global;
 use task_read::refusal_text;
@@ -30,7 +31,9 @@ const USAGE: &str = concat!(
     "       mpygrade sample NUMBER\n",
 );
 
-fn file(source: Source, word: &str) -> File<'_> {
+fn file(source: Source, word: &str) -> File<'_>
+    ensures { file_of result ≡ source_file source word.now }
+{
     File { source, word }
 }
 
@@ -127,6 +130,14 @@ fn word<'a>(command: &Command<'a>, source: Source) -> &'a str
     }
 }
 
+/// The line of a refusal of a value, by its number.
+fn value_line(alloc: Global, number: u32, cause: Cause) -> Result<Vec<u8>, NoMemory>
+    ensures { IfOk result (λ v. v.items ≡ value_refusal_text number cause) }
+{
+    let text = format!(in alloc; "refused value {number}: {}\n", cause.name())?;
+    Ok(text.into_bytes())
+}
+
 /// The line of a refusal: of a file by its word, of a value by its number.
 fn refusal_line(
     alloc: Global,
@@ -136,11 +147,10 @@ fn refusal_line(
     ensures { IfOk result (λ v. v.items ≡ line_of (command_of command.now)
         refusal.now.source refusal.now) }
 {
-    if let Source::Word(number) = refusal.source {
-        let text = format!(in alloc; "refused value {number}: {}\n", refusal.cause.name())?;
-        return Ok(text.into_bytes());
+    match refusal.source {
+        Source::Word(number) => value_line(alloc, number, refusal.cause),
+        source => refusal_text(alloc, word(command, source), refusal),
     }
-    refusal_text(alloc, word(command, refusal.source), refusal)
 }
 
 /// Writes the line of a refusal.

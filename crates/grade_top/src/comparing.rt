@@ -5,7 +5,7 @@ ghost use Rattle.mpy_tree.specs.declared.outcome.Outcome.TheVariants as ended;
 ghost use Rattle.mpy_tree.specs.View.{routines_of};
 ghost use Rattle.input_space.specs.Agreement.{Agrees, EndsSomewhere, IsFailure, ends_on};
 ghost use Rattle.input_space.specs.Inputs.{inputs};
-ghost use Rattle.grade_top.specs.Comparing.{IsFailing, MeetsOn, failure_of};
+ghost use Rattle.grade_top.specs.Comparing.{GivesOn, IsFailing, MeetsOn, failure_of};
 
 use crate::task::Typed;
 use bounds_reader::Bounds;
@@ -51,6 +51,17 @@ impl Comparison<'_> {
         match self.outcome(&self.reference.program, &self.reference.types, case)? {
             Outcome::Value(v) => Ok(Some(v)),
             Outcome::Fault { .. } => Ok(None),
+        }
+    }
+
+    // Whether the reference gives a value on a case.
+    fn has_value(&self, case: &Case) -> Result<bool, NoMemory>
+        ensures { IfOk result (λ b. IsTrue b ↔ GivesOn self.now.bounds.now
+            (routines_of self.now.reference.now.program) case.now.values) }
+    {
+        match self.outcome(&self.reference.program, &self.reference.types, case)? {
+            Outcome::Value(_) => Ok(true),
+            Outcome::Fault { .. } => Ok(false),
         }
     }
 
@@ -111,7 +122,7 @@ impl Comparison<'_> {
     {
         for place in 0..inputs_count(self.bounds) {
             let case = case_at(self.alloc, self.bounds, place)?;
-            if self.wanted(&case)?.is_some() {
+            if self.has_value(&case)? {
                 return Ok(true);
             }
         }

@@ -1,7 +1,8 @@
 //! The texts of `grade`, read in their order to the task that they spell.
-ghost use Rattle.std.specs.Prelude.{◌≡◌, length, MatchResult};
+ghost use Rattle.std.specs.Prelude.{◌≡◌, ◌↔◌, IsTrue, length, MatchResult};
 ghost use Rattle.mpy_tree.specs.declared.refusal.Source.{Source as AnySource};
 ghost use Rattle.mpy_tree.specs.View.{routines_of};
+ghost use Rattle.literal_rules.specs.Corrections.{AreTakenFor};
 ghost use Rattle.literal_rules.specs.Views.{rules_of};
 ghost use Rattle.source_files.specs.Fetches.{StopsAs};
 ghost use Rattle.source_files.specs.Texts.{AllFit, Fits};
@@ -35,6 +36,19 @@ pub(crate) fn read_typed(
     Ok(Typed { program, types })
 }
 
+/// Whether rules are taken for a program: there are none, or it is that of a formula.
+fn are_taken_for(rules: &[Rule], program: &Prog) -> bool
+    ensures { IsTrue result ↔ AreTakenFor (rules_of rules.now) (routines_of program.now) }
+{
+    if has_formula(program) {
+        return true;
+    }
+    match rules {
+        [] => true,
+        _ => false,
+    }
+}
+
 /// The rules that a text spells, if they are taken for the program.
 fn rules_for(alloc: Global, text: &[u8], program: &Prog) -> Result<Vec<Rule>, Stop>
     ensures { MatchResult result
@@ -45,7 +59,7 @@ fn rules_for(alloc: Global, text: &[u8], program: &Prog) -> Result<Vec<Rule>, St
     let Some(rules) = read_rules(alloc, text)? else {
         return Err(not_yet);
     };
-    if rules.is_empty() || has_formula(program) {
+    if are_taken_for(&rules, program) {
         Ok(rules)
     } else {
         Err(not_yet)

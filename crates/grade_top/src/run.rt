@@ -36,7 +36,10 @@ fn spelled(alloc: Global, number: u32, word: &str) -> Result<Value, Stop>
     }
     let no_value = refused(Source::Word(number), Cause::Syntax, 0);
     match read_case(alloc, word.as_bytes()) {
-        Ok(case) => only(case.values.into_vec()).ok_or(no_value),
+        Ok(case) => match only(case.values.into_vec()) {
+            Some(value) => Ok(value),
+            None => Err(no_value),
+        },
         Err(CaseError::NoCase) => Err(no_value),
         Err(CaseError::NoMemory) => Err(Stop::NoMemory),
     }

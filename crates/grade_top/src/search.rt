@@ -55,7 +55,10 @@ impl Search<'_> {
         ensures { IfOk result (IsLeast self.now (selection + 1)) }
     {
         let cost = self.corrections.cost(selection);
-        if is_cheaper(cost, best) && self.agrees(selection)? {
+        if !is_cheaper(cost, best) {
+            return Ok(best);
+        }
+        if self.agrees(selection)? {
             Ok(Some(Found { selection, cost }))
         } else {
             Ok(best)

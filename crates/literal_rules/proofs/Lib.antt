@@ -2,9 +2,9 @@ pub mod Bodies
 pub mod CorrectionLaws
 pub mod Counting
 mod Digits
-mod Fronts
+pub mod Fronts
 pub mod Keeping
 mod RuleNames
-mod RulesLaws
+pub mod RulesLaws
 mod RulesLoops
 pub mod SelectionLaws
