@@ -1,27 +1,8 @@
-pub mod AgreementLaws
-pub mod Appending
-pub mod Bodies
-pub mod BoundsLaws
-pub mod BoundsRanges
-pub mod Claims
-pub mod Counting
-pub mod Decimals
-pub mod Digits
-pub mod Endings
-pub mod FormulaMeaning
-pub mod Fronts
-pub mod Keeping
-pub mod Leasts
-pub mod OneReading
-pub mod OneRefusal
-pub mod ProgramLaws
-pub mod Ranges
-pub mod RuleNames
-pub mod RulesLaws
-pub mod RulesLoops
-pub mod SelectionLaws
-pub mod SevenItems
-pub mod Sizes
-pub mod Soundness
-pub mod SourcesFetched
-pub mod VerdictLaws
+mod Claims
+mod ComparingLaws
+mod Decimals
+mod Endings
+mod Leasts
+pub mod OneOutcome
+mod SevenItems
+mod VerdictLaws

@@ -1,29 +1,28 @@
 -- What follows from how a call ends, in the words of a reader.
-use Rattle.std.specs.Prelude.{◌≡◌}
+use Rattle.std.specs.Prelude.{◌≡◌, List, ℕ}
 use Rattle.grade_io.specs.Devices.{Devices, SinkState, Rose}
 use Rattle.grade_io.specs.Written.{Wrote}
 use Rattle.grade_io.specs.declared.status.Status.{Status}
 use Rattle.grade_io.specs.declared.status.Status.TheVariants as status
-use Rattle.grade_top.specs.Texts.{Texts, AllFit}
-use Rattle.grade_top.specs.Words.{GradeWords}
-use Rattle.grade_top.specs.Agreement.{Task, Agrees, EndsSomewhere, IsTooLarge, NoneAgrees}
-use Rattle.grade_top.specs.Decisions.{IsTask}
-use Rattle.grade_top.specs.Ends.{Tells, file_word}
-use Rattle.mpy_tree.specs.declared.refusal.Refusal.{Refusal}
-use Rattle.mpy_tree.specs.Refusals.{refusal_text}
+use Rattle.mpy_tree.specs.declared.outcome.Outcome.{Outcome}
+use Rattle.input_space.specs.Agreement.{Agrees}
+use Rattle.grade_top.specs.Words.{Command, Grade, Run, GradeWords, RunWords}
+use Rattle.grade_top.specs.Files.{files_of}
+use Rattle.source_files.specs.Texts.{AllFit, Tells}
+use Rattle.grade_top.specs.Tasks.{Task, NoneAgrees}
+use Rattle.grade_top.specs.Decisions.{graded_step, run_step}
+use Rattle.grade_top.specs.Ends.{text_of_outcome}
+use Rattle.grade_top.specs.Ends as ends
 
 -- no count of faults rose
 pub record NoFault (before after : Devices) : Type 0 where
   pub shelf : Rose before.shelf.faults after.shelf.faults → ⊥
   pub sink : Rose before.sink.faults after.sink.faults → ⊥
 
--- the words name texts that are told and spell a task that nothing refuses
-pub record IsUnrefused (before : Devices) (g : GradeWords) (t : Texts) (k : Task) : Type 0 where
-  pub tells : Tells before.shelf g t
-  pub fit : AllFit t
-  pub read : IsTask t k
-  pub small : IsTooLarge k → ⊥
-  pub ends : EndsSomewhere k.bounds k.reference
+-- the words name texts that are told and fit
+pub record AreTold (before : Devices) (c : Command) (ts : List (List ℕ)) : Type 0 where
+  pub tells : Tells before.shelf (files_of c) ts
+  pub fit : AllFit ts
 
 -- the answer to a task that nothing refuses; want of memory stays possible
 abbrev pub IsGraded : Task → Status → Type 0
@@ -40,8 +39,7 @@ IsUsage status.WriteFailed = Unit {0}
 IsUsage status.NoMemory = Unit {0}
 IsUsage _ = ⊥
 
--- the answer to a refusal: its status, and its line and nothing else; want of memory stays possible
-abbrev pub IsRefusedSo : GradeWords → Refusal → SinkState → SinkState → Status → Type 0
-IsRefusedSo g r before after status.NoMemory = Unit {0}
-IsRefusedSo g r before after s =
-    (s ≡ status.Refused) × Wrote before after (refusal_text (file_word g r.source) r)
+-- this outcome is written whole, and nothing else; want of memory stays possible
+abbrev pub IsSaid : Command → ends.Outcome → SinkState → SinkState → Status → Type 0
+IsSaid c o before after status.NoMemory = Unit {0}
+IsSaid c o before after s = (s ≡ ends.status_of o) × Wrote before after (text_of_outcome c o)

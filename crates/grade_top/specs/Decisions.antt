@@ -1,95 +1,123 @@
--- What is decided for the texts of a request: the first refusal, or the answer.
-use Rattle.std.specs.Prelude.{◌≡◌, ◌⊎◌, ℕ, List}
-use Rattle.mpy_tree.specs.declared.refusal.Cause.{Cause}
+-- What is decided for the texts of a command: the first refusal, or what is graded or run.
+use Rattle.std.specs.Prelude.{◌≡◌, ◌≢◌, ◌⊎◌, ℕ, suc, List, [], ◌∷◌, length, Option, false}
+use Rattle.mpy_tree.specs.declared.outcome.Outcome as run
 use Rattle.mpy_tree.specs.declared.refusal.Cause.TheVariants as cause
-use Rattle.mpy_tree.specs.declared.refusal.Source.{Source}
 use Rattle.mpy_tree.specs.declared.refusal.Source.TheVariants as source
 use Rattle.mpy_tree.specs.declared.refusal.Refusal.{Refusal}
-use Rattle.grade_top.specs.Texts.{Texts, AllFit, IsFirstLong}
-use Rattle.grade_top.specs.BoundsForm.{Bounds, IsBounds, HaveNoBounds, IsOutOfRange}
-use Rattle.grade_top.specs.ProgramForm.{Function, IsProgram, IsProgramRefused}
-use Rattle.grade_top.specs.RulesForm.{IsRules, HaveNoRules}
-use Rattle.grade_top.specs.Agreement.{Task, EndsSomewhere, IsTooLarge}
+use Rattle.mpy_tree.specs.declared.typing.Fact.{Fact}
+use Rattle.mpy_tree.specs.declared.typing.Ty.{Ty}
+use Rattle.mpy_tree.specs.declared.value.Value.{Value}
+use Rattle.mpy_tree.specs.Fitting.{type_of}
+use Rattle.mpy_tree.specs.Outcomes.{run_outcome}
+use Rattle.mpy_tree.specs.SetTypes.{called, results}
+use Rattle.mpy_tree.specs.Syntax.{Routine}
+use Rattle.mpy_tree.specs.TypeSets.{only}
+use Rattle.mpy_tree.specs.Typings.{set_of}
+use Rattle.bounds_reader.specs.declared.bounds.Bounds.{Bounds}
+use Rattle.bounds_reader.specs.declared.params.Param.{Param}
+use Rattle.input_space.specs.Agreement.{EndsSomewhere}
+use Rattle.input_space.specs.Cases.{SpellsCase}
+use Rattle.input_space.specs.Inputs.{param_type, is_within}
+use Rattle.task_read.specs.Sources.{Typed, bounds_step, program_step, entry_at, refusal}
+use Rattle.task_read.specs.Steps.{Step, ◌>>=◌, done, refuse_if}
 use Rattle.grade_top.specs.Answers.{Answer, IsAnswer}
+use Rattle.literal_rules.specs.Corrections.{AreTakenFor}
+use Rattle.literal_rules.specs.RulesForm.{Rule, IsRules}
+use Rattle.grade_top.specs.Tasks.{Task, IsTooLarge, entry_line}
+use Rattle.grade_top.specs.Words.{RunWords}
 
--- the texts spell this task
-pub record IsTask (t : Texts) (k : Task) : Type 0 where
-  pub bounds : IsBounds t.bounds k.bounds
-  pub reference : IsProgram t.reference k.bounds.entry k.reference
-  pub submission : IsProgram t.submission k.bounds.entry k.submission
-  pub rules : IsRules t.rules k.rules
+-- texts that aren't those of the command's files
+abbrev pub never : {A : Type 0} → Step A
+never = record { gives = λ a. ⊥; refuses = λ r. ⊥ }
 
--- the bounds are read, and the reference is refused
-pub record StopsAtReference (t : Texts) (c : Cause) (line : ℕ) : Type 0 where
-  pub bounds : Bounds
-  pub read : IsBounds t.bounds bounds
-  pub refused : IsProgramRefused t.reference bounds.entry c line
+-- RULES
 
--- the bounds and the reference are read, and the submission is refused
-pub record StopsAtSubmission (t : Texts) (c : Cause) (line : ℕ) : Type 0 where
-  pub bounds : Bounds
-  pub reference : Function
-  pub read : IsBounds t.bounds bounds
-  pub read_reference : IsProgram t.reference bounds.entry reference
-  pub refused : IsProgramRefused t.submission bounds.entry c line
+-- rules of the form that is read so far, and a program that they are taken for
+pub record AreTaken (text : List ℕ) (p : List Routine) (rules : List Rule) : Type 0 where
+  pub read : IsRules text rules
+  pub taken : AreTakenFor rules p
 
--- all but the rules are read
-pub record StopsAtRules (t : Texts) : Type 0 where
-  pub bounds : Bounds
-  pub reference : Function
-  pub submission : Function
-  pub read : IsBounds t.bounds bounds
-  pub read_reference : IsProgram t.reference bounds.entry reference
-  pub read_submission : IsProgram t.submission bounds.entry submission
-  pub unread : HaveNoRules t.rules
+abbrev pub rules_step : List ℕ → List Routine → Step (List Rule)
+rules_step text p = record {
+  gives = AreTaken text p;
+  refuses = λ r.
+      ((rules : List Rule) → AreTaken text p rules → ⊥)
+      × (r ≡ refusal source.Rules cause.NotYet 1);
+}
 
--- the task is read, and is too large; the line is that of the submission's `def`
-pub record StopsAsTooLarge (t : Texts) (line : ℕ) : Type 0 where
-  pub task : Task
-  pub read : IsTask t task
-  pub large : IsTooLarge task
-  pub line_is : line ≡ task.submission.line
+-- GRADE
 
--- The task is read and not too large, and its reference gives a value on no input; the line is that
--- of the reference's `def`.
-pub record StopsAsEmpty (t : Texts) (line : ℕ) : Type 0 where
-  pub task : Task
-  pub read : IsTask t task
-  pub small : IsTooLarge task → ⊥
-  pub empty : EndsSomewhere task.bounds task.reference → ⊥
-  pub line_is : line ≡ task.reference.line
+-- the type of what the entry gives
+abbrev pub result_type : List ℕ → Typed → Option Ty
+result_type entry p = only (results (set_of p.types) (called p.program entry))
 
--- the first cause of refusal, with its line
-abbrev pub IsFirstCause : Texts → Source → Cause → ℕ → Type 0
-IsFirstCause t source.Bounds cause.NotYet line = (line ≡ 1) × HaveNoBounds t.bounds
-IsFirstCause t source.Bounds cause.BoundRange line = IsOutOfRange t.bounds line
-IsFirstCause t source.Reference cause.EmptyReference line = StopsAsEmpty t line
-IsFirstCause t source.Reference c line = StopsAtReference t c line
-IsFirstCause t source.Submission cause.TooLarge line = StopsAsTooLarge t line
-IsFirstCause t source.Submission c line = StopsAtSubmission t c line
-IsFirstCause t source.Rules cause.NotYet line = (line ≡ 1) × StopsAtRules t
-IsFirstCause t _ _ line = ⊥
+abbrev pub task : Bounds → Typed → Typed → List Rule → Task
+task b r s rules = record {
+  bounds = b;
+  reference = r.program;
+  reference_types = r.types;
+  submission = s.program;
+  submission_types = s.types;
+  rules = rules;
+}
 
-abbrev pub IsRefusal : Texts → Refusal → Type 0
-IsRefusal t r = IsFirstCause t r.source r.cause r.line
+-- the task that the texts spell
+abbrev pub task_step : List (List ℕ) → Step Task
+task_step (bounds ∷ reference ∷ submission ∷ rules ∷ []) = do
+  b ← bounds_step bounds
+  r ← program_step source.Reference reference (entry_at b)
+  s ← program_step source.Submission submission (entry_at b)
+  e ← rules_step rules s.program
+  t ← refuse_if (result_type b.entry r ≢ result_type b.entry s)
+      (refusal source.Submission cause.ResultType (entry_line (task b r s e) s.program))
+  done (task b r s e)
+task_step _ = never
 
--- a source is the first that is too long
-pub record IsTooLong (t : Texts) (r : Refusal) : Type 0 where
-  pub long : IsFirstLong t r.source
-  pub cause_is : r.cause ≡ cause.Long
-  pub line_is : r.line ≡ 0
+-- a task that nothing refuses: it has no more rewritings and inputs than are tried, and its
+-- reference ends on some input
+abbrev pub graded_step : List (List ℕ) → Step Task
+graded_step texts = do
+  k ← task_step texts
+  small ← refuse_if (IsTooLarge k)
+      (refusal source.Submission cause.TooLarge (entry_line k k.submission))
+  some ← refuse_if (EndsSomewhere k.bounds k.reference → ⊥)
+      (refusal source.Reference cause.EmptyReference (entry_line k k.reference))
+  done k
 
--- the first refusal of the texts: lengths are looked at first, and then what the texts say
-abbrev pub IsFirstRefusal : Texts → Refusal → Type 0
-IsFirstRefusal t r = IsTooLong t r ⊎ (AllFit t × IsRefusal t r)
+-- RUN
 
--- the texts spell this task, nothing refuses it, and this is its answer
-pub record IsAnswered (t : Texts) (k : Task) (a : Answer) : Type 0 where
-  pub read : IsTask t k
-  pub small : IsTooLarge k → ⊥
-  pub ends : EndsSomewhere k.bounds k.reference
-  pub answer : IsAnswer k a
+-- the value that a word spells
+abbrev pub spelled_step : ℕ → List ℕ → Step Value
+spelled_step n word = record {
+  gives = λ v. SpellsCase word (v ∷ []);
+  refuses = λ r.
+      ((v : Value) → SpellsCase word (v ∷ []) → ⊥)
+      × (r ≡ refusal (source.Word n) cause.Syntax 0);
+}
 
--- this is the answer to texts that nothing refuses
-abbrev pub IsGradedAs : Texts → Task → Answer → Type 0
-IsGradedAs t k a = AllFit t × IsAnswered t k a
+-- the n-th value, for a parameter
+abbrev pub value_step : ℕ → Param → List ℕ → Step Value
+value_step n p word = do
+  v ← spelled_step n word
+  t ← refuse_if (type_of v ≢ param_type p) (refusal (source.Word n) cause.TypeFault 0)
+  r ← refuse_if (is_within p v ≡ false) (refusal (source.Word n) cause.BoundRange 0)
+  done v
+
+-- the values from the n-th on, one after the other
+abbrev pub values_step : ℕ → List Param → List (List ℕ) → Step (List Value)
+values_step n (p ∷ ps) (w ∷ ws) = do
+  v ← value_step n p w
+  vs ← values_step (suc n) ps ws
+  done (v ∷ vs)
+values_step n _ _ = done []
+
+-- how the program of the texts ends on the values
+abbrev pub run_step : RunWords → List (List ℕ) → Step run.Outcome
+run_step w (bounds ∷ program ∷ []) = do
+  b ← bounds_step bounds
+  p ← program_step source.Reference program (entry_at b)
+  n ← refuse_if (length w.values ≢ length b.params)
+      (refusal source.Bounds cause.Entry b.entry_line)
+  vs ← values_step 1 b.params w.values
+  done (run_outcome b.limits p.program b.entry vs)
+run_step w _ = never

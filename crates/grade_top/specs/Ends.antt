@@ -1,42 +1,31 @@
 -- How a call of the grader ends: what each status means, and what it leaves.
-use Rattle.std.specs.Prelude.{◌≡◌, ◌⊎◌, ℕ, ◌+◌, List, [], ◌∷◌, Some, take}
-use Rattle.grade_io.specs.Devices.{ShelfState, SinkState, ShelfCall, Fetch, Devices, Rose, added}
-use Rattle.grade_io.specs.Kept.{Holds}
+use Rattle.std.specs.Prelude.{◌≡◌, ◌⊎◌, ℕ, List}
+use Rattle.grade_io.specs.Devices.{ShelfState, Devices, Rose}
 use Rattle.grade_io.specs.Says.{Says, StoodStill}
 use Rattle.grade_io.specs.Written.{WroteNothing}
 use Rattle.grade_io.specs.declared.status.Status.{Status}
 use Rattle.grade_io.specs.declared.status.Status.TheVariants as status
+use Rattle.mpy_tree.specs.declared.outcome.Outcome as run
 use Rattle.mpy_tree.specs.declared.refusal.Source.{Source}
 use Rattle.mpy_tree.specs.declared.refusal.Source.TheVariants as source
-use Rattle.mpy_tree.specs.declared.refusal.Cause.{Cause}
 use Rattle.mpy_tree.specs.declared.refusal.Refusal.{Refusal}
 use Rattle.mpy_tree.specs.Refusals.{refusal_text}
-use Rattle.grade_top.specs.Words.{Command, Grade, Nothing, GradeWords}
-use Rattle.grade_top.specs.Texts.{Texts, AllFit, source_limit}
-use Rattle.grade_top.specs.Agreement.{Task}
-use Rattle.grade_top.specs.Answers.{Answer, Correct, Corrected, NoCorrection}
-use Rattle.grade_top.specs.Decisions.{IsRefusal, IsTooLong, IsGradedAs}
-use Rattle.grade_top.specs.Reports.{usage_text, report_of}
+use Rattle.grade_top.specs.Words.{Command, Grade, Run, Nothing}
+use Rattle.grade_top.specs.Files.{files_of, word_of}
+use Rattle.source_files.specs.Fetches.{FilesKept}
+use Rattle.source_files.specs.Texts.{AllFit, AreHeld, IsTooLong, TookTooMuch}
+use Rattle.grade_top.specs.Tasks.{Task}
+use Rattle.grade_top.specs.Answers.{Answer, Correct, Corrected, NoCorrection, IsAnswer}
+use Rattle.grade_top.specs.Decisions.{graded_step, run_step}
+use Rattle.grade_top.specs.Reports.{usage_text, report_of, run_text, value_refusal_text}
 
--- what comes of a command: an answer to a task, a refusal, or words that ask for nothing
+-- What comes of a command: an answer to a task, the end of a run, a refusal, or words that ask for
+-- nothing.
 pub data Outcome : Type 0 where
   Answered : (k : Task) (a : Answer) → Outcome
+  Ran : (o : run.Outcome) → Outcome
   Refused : (r : Refusal) → Outcome
   Unasked : Outcome
-
--- the shelf tells these texts for the words
-pub record Tells (shelf : ShelfState) (g : GradeWords) (t : Texts) : Type 0 where
-  pub bounds : shelf.holds g.bounds ≡ Some t.bounds
-  pub reference : shelf.holds g.reference ≡ Some t.reference
-  pub submission : shelf.holds g.submission ≡ Some t.submission
-  pub rules : shelf.holds g.rules ≡ Some t.rules
-
--- each text is that of its file where the shelf tells it
-pub record AreHeld (shelf : ShelfState) (g : GradeWords) (t : Texts) : Type 0 where
-  pub bounds : Holds shelf g.bounds t.bounds
-  pub reference : Holds shelf g.reference t.reference
-  pub submission : Holds shelf g.submission t.submission
-  pub rules : Holds shelf g.rules t.rules
 
 abbrev pub status_of_answer : Answer → Status
 status_of_answer Correct = status.Correct
@@ -46,55 +35,57 @@ status_of_answer (NoCorrection fails) = status.NoCorrection
 -- the status of an outcome that is written whole
 abbrev pub status_of : Outcome → Status
 status_of (Answered k a) = status_of_answer a
+status_of (Ran o) = status.Correct
 status_of (Refused r) = status.Refused
 status_of Unasked = status.Usage
 
--- the word that names a source
-abbrev pub file_word : GradeWords → Source → List ℕ
-file_word g source.Bounds = g.bounds
-file_word g source.Reference = g.reference
-file_word g source.Submission = g.submission
-file_word g source.Rules = g.rules
-file_word g source.Cert = g.cert
-file_word g (source.Word n) = []
-
-abbrev pub refusal : Source → Cause → ℕ → Refusal
-refusal s cause line = record { source = s; cause = cause; line = line }
+-- the line of a refusal: of a file by its word, of a value by its number
+abbrev pub line_of : Command → Source → Refusal → List ℕ
+line_of c (source.Word n) r = value_refusal_text n r.cause
+line_of c source.Bounds r = refusal_text (word_of c source.Bounds) r
+line_of c source.Reference r = refusal_text (word_of c source.Reference) r
+line_of c source.Submission r = refusal_text (word_of c source.Submission) r
+line_of c source.Rules r = refusal_text (word_of c source.Rules) r
+line_of c source.Cert r = refusal_text (word_of c source.Cert) r
 
 -- what is written of an outcome
 abbrev pub text_of_outcome : Command → Outcome → List ℕ
-text_of_outcome (Grade g) (Answered k a) = report_of k a
-text_of_outcome (Grade g) (Refused r) = refusal_text (file_word g r.source) r
-text_of_outcome (Grade g) Unasked = usage_text
-text_of_outcome Nothing o = usage_text
+text_of_outcome c (Answered k a) = report_of k a
+text_of_outcome c (Ran o) = run_text o
+text_of_outcome c (Refused r) = line_of c r.source r
+text_of_outcome c Unasked = usage_text
 
--- the last fetch took one byte more than a source may have
-abbrev pub TookTooMuch : ShelfState → Type 0
-TookTooMuch after = after.taken ≡ source_limit + 1
+-- the texts decide this, by what they say
+abbrev pub IsDecided : Command → List (List ℕ) → Outcome → Type 0
+IsDecided (Grade g) ts (Answered k a) = (graded_step ts).gives k × IsAnswer k a
+IsDecided (Grade g) ts (Refused r) = (graded_step ts).refuses r
+IsDecided (Run w) ts (Ran o) = (run_step w ts).gives o
+IsDecided (Run w) ts (Refused r) = (run_step w ts).refuses r
+IsDecided c ts o = ⊥
+
+-- the first refusal of the texts: lengths are looked at first, and then what the texts say
+abbrev pub IsFirstRefusal : Command → List (List ℕ) → Refusal → Type 0
+IsFirstRefusal c ts r =
+    IsTooLong (files_of c) ts r ⊎ (AllFit ts × IsDecided c ts (Refused r))
 
 -- what comes of texts; a source is too long only where too much was taken
-abbrev pub ComesOf : Texts → ShelfState → Outcome → Type 0
-ComesOf t after (Answered k a) = IsGradedAs t k a
-ComesOf t after (Refused r) = (IsTooLong t r × TookTooMuch after) ⊎ (AllFit t × IsRefusal t r)
-ComesOf t after Unasked = ⊥
+abbrev pub ComesOf : Command → List (List ℕ) → ShelfState → Outcome → Type 0
+ComesOf c ts after (Refused r) =
+    (IsTooLong (files_of c) ts r × TookTooMuch after)
+    ⊎ (AllFit ts × IsDecided c ts (Refused r))
+ComesOf c ts after o = AllFit ts × IsDecided c ts o
 
--- There are four texts, those of the files where these are told, of which the outcome comes. They
--- are the task's for the whole of the claim, also on a shelf that tells nothing.
-pub record ComesOfSources (g : GradeWords) (before after : ShelfState) (o : Outcome) : Type 0 where
-  pub texts : Texts
-  pub held : AreHeld before g texts
-  pub comes : ComesOf texts after o
+-- There are texts, those of the files where these are told, of which the outcome comes. They are
+-- the ones of the whole claim, also on a shelf that tells nothing.
+pub record ComesOfFiles (c : Command) (before after : ShelfState) (o : Outcome) : Type 0 where
+  pub texts : List (List ℕ)
+  pub held : AreHeld before (files_of c) texts
+  pub comes : ComesOf c texts after o
 
 -- each outcome of a command comes only so
 abbrev pub IsDue : Command → ShelfState → ShelfState → Outcome → Type 0
-IsDue (Grade g) before after o = ComesOfSources g before after o
-IsDue Nothing before after (Answered k a) = ⊥
-IsDue Nothing before after (Refused r) = ⊥
-IsDue Nothing before after Unasked = Unit {0}
-
--- the files hold what they held
-abbrev pub FilesKept : ShelfState → ShelfState → Type 0
-FilesKept before after = after.holds ≡ before.holds
+IsDue Nothing before after o = o ≡ Unasked
+IsDue c before after o = ComesOfFiles c before after o
 
 -- an outcome that is due is written, and the files are as before
 pub record EndsBySaying (c : Command) (before after : Devices) (s : Status) : Type 0 where
@@ -109,20 +100,11 @@ pub record EndsInSilence (before after : Devices) : Type 0 where
   pub still : StoodStill before.sink after.sink
   pub files : FilesKept before.shelf after.shelf
 
--- the calls of the shelf that a command makes, in order
-abbrev pub calls_of : Command → List ShelfCall
-calls_of (Grade g) = Fetch g.bounds ∷ Fetch g.reference ∷ Fetch g.submission ∷ Fetch g.rules ∷ []
-calls_of Nothing = []
-
--- the calls that were made are the first of those
-abbrev pub CallsInOrder : Command → ShelfState → ShelfState → Type 0
-CallsInOrder c before after = (n : ℕ) × (after.calls ≡ added before.calls (take n (calls_of c)))
-
 -- a fetch failed: the shelf counted a fault
 abbrev pub ReadStops : Command → Devices → Devices → Type 0
-ReadStops (Grade g) before after =
-    Rose before.shelf.faults after.shelf.faults × EndsInSilence before after
 ReadStops Nothing before after = ⊥
+ReadStops c before after =
+    Rose before.shelf.faults after.shelf.faults × EndsInSilence before after
 
 -- the shelf counted no fault
 abbrev pub ReadWell : Devices → Devices → Type 0

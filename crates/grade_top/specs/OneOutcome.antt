@@ -1,21 +1,38 @@
--- What the texts of a request spell, and what comes of them, is one thing.
-use Rattle.std.specs.Prelude.{◌≡◌}
+-- What the texts of a command spell, and what comes of them, is one thing.
+use Rattle.std.specs.Prelude.{◌≡◌, ℕ, List}
+use Rattle.mpy_tree.specs.declared.outcome.Outcome as run
 use Rattle.mpy_tree.specs.declared.refusal.Refusal.{Refusal}
-use Rattle.grade_top.specs.Agreement.{Task}
-use Rattle.grade_top.specs.Answers.{Answer}
-use Rattle.grade_top.specs.Decisions.{IsTask, IsFirstRefusal, IsGradedAs}
-use Rattle.grade_top.specs.Texts.{Texts}
+use Rattle.source_files.specs.Texts.{AllFit}
+use Rattle.grade_top.specs.Decisions.{run_step, task_step}
+use Rattle.grade_top.specs.Ends.{IsDecided, IsFirstRefusal, Outcome, Refused}
+use Rattle.grade_top.specs.Tasks.{Task}
+use Rattle.grade_top.specs.Words.{Command, RunWords}
 
--- the texts of a request spell one task at most
+-- the texts of `grade` spell one task at most
 abbrev pub SpellOneTask : Type 0
-SpellOneTask = (t : Texts) (k other : Task) → IsTask t k → IsTask t other → k ≡ other
+SpellOneTask =
+    (ts : List (List ℕ)) (k other : Task) → (task_step ts).gives k → (task_step ts).gives other
+    → k ≡ other
+
+-- the texts of `run` end in one way at most
+abbrev pub RunOnce : Type 0
+RunOnce =
+    (w : RunWords) (ts : List (List ℕ)) (o other : run.Outcome)
+    → (run_step w ts).gives o → (run_step w ts).gives other → o ≡ other
 
 -- one refusal at most is the first
 abbrev pub HaveOneRefusal : Type 0
-HaveOneRefusal = (t : Texts) (r other : Refusal)
-    → IsFirstRefusal t r → IsFirstRefusal t other → r ≡ other
+HaveOneRefusal =
+    (c : Command) (ts : List (List ℕ)) (r other : Refusal)
+    → IsFirstRefusal c ts r → IsFirstRefusal c ts other → r ≡ other
+
+-- another outcome than a refusal
+abbrev pub IsNoRefusal : Outcome → Type 0
+IsNoRefusal (Refused r) = ⊥
+IsNoRefusal o = Unit {0}
 
 -- no texts are both refused and answered
-abbrev pub NotRefusedAndAnswered : Type 0
-NotRefusedAndAnswered = (t : Texts) (r : Refusal) (k : Task) (a : Answer)
-    → IsFirstRefusal t r → IsGradedAs t k a → ⊥
+abbrev pub NotRefusedAndDecided : Type 0
+NotRefusedAndDecided =
+    (c : Command) (ts : List (List ℕ)) (r : Refusal) (o : Outcome)
+    → IsFirstRefusal c ts r → AllFit ts → IsDecided c ts o → IsNoRefusal o → ⊥

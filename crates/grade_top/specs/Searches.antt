@@ -1,26 +1,32 @@
 -- The search over all selections.
-use Rattle.std.specs.Prelude.{◌≡◌, ℕ, ◌+◌, ◌<◌, ◌≤◌, List, Option, Some, None, ℤ, pos, ◌+ℤ◌, slice_get}
-use Rattle.mpy_tree.specs.declared.limits.Limits.{Limits}
-use Rattle.mpy_tree.specs.Syntax.{Term}
-use Rattle.grade_top.specs.FormulaValues.{formula_value}
+use Rattle.std.specs.Prelude.{◌≡◌, ℕ, ◌<◌, ◌≤◌, Option, Some, None, length}
+use Rattle.mpy_tree.specs.View.{routines_of}
+use Rattle.input_space.specs.Agreement.{Agrees}
+use Rattle.input_space.specs.Inputs.{inputs}
+use Rattle.literal_rules.specs.Corrections.{chosen_program, program_cost}
+use Rattle.literal_rules.specs.Rewriting.{alternatives, selections_of}
+use Rattle.literal_rules.specs.Views.{rules_of}
 use Rattle.grade_top.specs.declared.search.Found.{Found}
 use Rattle.grade_top.specs.declared.search.Search.{Search}
-use Rattle.grade_top.specs.RewritingViews.{chosen_by, cost_under}
+use Rattle.grade_top.specs.Tasks.{Task}
 
--- the term gives what is wanted on the input, where something is
-abbrev pub Meets : Limits → ℤ → Term → Option ℤ → Type 0
-Meets l z e wanted = (v : ℤ) → wanted ≡ Some v → formula_value l z e ≡ Some v
+-- few selections and inputs, as those of a task that isn't too large
+pub record IsSmall (s : Search) : Type 0 where
+  pub inputs : length (inputs s.comparison.bounds.now.params) ≤ 1000000
+  pub selections : selections_of (rules_of s.corrections.now.rules.now)
+      (routines_of s.corrections.now.program.now) ≤ 1000000
 
--- the same of each input from the lowest on
-abbrev pub MeetsAll : Limits → ℤ → List (Option ℤ) → Term → Type 0
-MeetsAll l low wanted e = (k : ℕ) (v : ℤ) → slice_get wanted k ≡ Some (Some v) → formula_value l (low +ℤ pos k) e ≡ Some v
-
--- the selection's formula does so
+-- the program that a selection makes agrees
 abbrev pub SelectionAgrees : Search → ℕ → Type 0
-SelectionAgrees s j = MeetsAll s.limits.now s.wanted.now.low s.wanted.now.values.items (chosen_by s.rewritings s.formula.now j)
+SelectionAgrees s j =
+    Agrees s.comparison.bounds.now (routines_of s.comparison.reference.now.program)
+    (chosen_program (alternatives (rules_of s.corrections.now.rules.now))
+    (routines_of s.corrections.now.program.now) j)
 
 abbrev pub selection_cost : Search → ℕ → ℕ
-selection_cost s j = cost_under s.rewritings s.formula.now j
+selection_cost s j =
+    program_cost (alternatives (rules_of s.corrections.now.rules.now))
+    (routines_of s.corrections.now.program.now) j
 
 -- the selection agrees, and of those below n none that agrees is cheaper
 pub record IsLeastOf (s : Search) (n : ℕ) (f : Found) : Type 0 where
@@ -38,3 +44,10 @@ IsLeast s n (Some f) = IsLeastOf s n f
 abbrev pub IsCheaper : ℕ → Option Found → Type 0
 IsCheaper cost None = Unit {0}
 IsCheaper cost (Some f) = cost < f.cost
+
+-- the search is that of the task
+pub record Searches (s : Search) (k : Task) : Type 0 where
+  pub bounds : s.comparison.bounds.now ≡ k.bounds
+  pub reference : routines_of s.comparison.reference.now.program ≡ k.reference
+  pub submission : routines_of s.corrections.now.program.now ≡ k.submission
+  pub rules : rules_of s.corrections.now.rules.now ≡ k.rules

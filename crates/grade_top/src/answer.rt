@@ -1,21 +1,20 @@
 //! The answer to a task.
-ghost use Rattle.std.specs.Prelude.{◌≡◌, IfOk, MatchOption, map};
-ghost use Rattle.grade_top.specs.Agreement.{IsTooLarge};
+ghost use Rattle.std.specs.Prelude.{◌≡◌, IfOk, MatchOption};
+ghost use Rattle.mpy_tree.specs.View.{routines_of};
+ghost use Rattle.literal_rules.specs.Views.{rules_of};
+ghost use Rattle.literal_rules.specs.Rewriting.{selections_of};
 ghost use Rattle.grade_top.specs.Answers.{IsAnswer};
-ghost use Rattle.grade_top.specs.Rewriting.{alternatives as alternatives_in};
-ghost use Rattle.grade_top.specs.RewritingViews.{alternative_of};
-ghost use Rattle.grade_top.specs.Tables.{IsTable};
+ghost use Rattle.grade_top.specs.Comparing.{failure_of};
+ghost use Rattle.grade_top.specs.Searches.{IsSmall, Searches};
+ghost use Rattle.grade_top.specs.Tasks.{IsFailureOf, IsTooLarge};
 ghost use Rattle.grade_top.specs.Verdicts.{IsSound, IsTried, IsVerdict, answer_of};
 ghost use Rattle.grade_top.specs.Views.{task_of};
 
-use crate::alternatives::{Alternative, alternatives_by};
-use crate::failure::{Failure, first_failure, has_number};
-use crate::least::least;
-use crate::numbers::Numbers;
-use crate::rewritings::{Rewritings, selections};
+use crate::comparing::{Comparison, Failure};
 use crate::search::Search;
-use crate::tables::{inputs_count, table_of};
 use crate::task::Task;
+use input_space::inputs_count;
+use literal_rules::Corrections;
 use mpy_tree::NoMemory;
 use std::alloc::Global;
 
@@ -23,7 +22,7 @@ use std::alloc::Global;
 const MOST_TRIALS: u64 = 1_000_000;
 
 /// What is answered for a task that isn't refused.
-#[derive(Clone, Copy, Debug, PartialEq, Eq, Drop)]
+#[derive(Drop)]
 pub(crate) enum Answer {
     Correct,
     Corrected {
@@ -37,7 +36,7 @@ pub(crate) enum Answer {
 }
 
 /// What is said of a task.
-#[derive(Clone, Copy, Debug, PartialEq, Eq, Drop)]
+#[derive(Drop)]
 pub(crate) enum Verdict {
     TooLarge,
     EmptyReference,
@@ -45,54 +44,40 @@ pub(crate) enum Verdict {
 }
 
 /// The number of the submission's selections, unless with the inputs there are too many to try.
-fn selections_to_try(task: &Task, alternatives: &[Alternative]) -> Option<u64>
-    requires { map alternative_of alternatives.now ≡ alternatives_in (task_of task.now).rules }
+fn selections_to_try(task: &Task, corrections: &Corrections<'_>) -> Option<u64>
+    requires program { routines_of corrections.now.program.now ≡ (task_of task.now).submission }
+    requires rules { rules_of corrections.now.rules.now ≡ (task_of task.now).rules }
     ensures { MatchOption result (IsTooLarge (task_of task.now)) (IsTried (task_of task.now)) }
 {
-    let rewritings = Rewritings {
-        line: task.submission.body_line,
-        param: &task.submission.param,
-        alternatives,
-    };
-    let most = MOST_TRIALS / inputs_count(&task.bounds) as u64;
-    selections(&rewritings, &task.submission.body, most)
+    let inputs = inputs_count(&task.bounds);
+    if inputs > MOST_TRIALS {
+        return None;
+    }
+    corrections.count(MOST_TRIALS / inputs)
 }
 
-/// The answer, from what the two programs give.
-fn find_answer(
+/// The answer to a task whose submission fails so.
+fn answer_failing(
+    search: &Search<'_>,
     task: &Task,
-    alternatives: &[Alternative],
     selections: u64,
-    wanted: &Numbers,
-    given: &Numbers,
-) -> Answer
+    fails: Failure,
+) -> Result<Answer, NoMemory>
     requires sound { IsSound (task_of task.now) }
-    requires seen { map alternative_of alternatives.now ≡ alternatives_in (task_of task.now).rules }
-    requires all { IsTried (task_of task.now) selections }
-    requires wanted { IsTable (task_of task.now).bounds (task_of task.now).reference wanted.now }
-    requires given { IsTable (task_of task.now).bounds (task_of task.now).submission given.now }
-    ensures { IsAnswer (task_of task.now) (answer_of (task_of task.now) result) }
+    requires searched { Searches search.now (task_of task.now) }
+    requires small { IsSmall search.now }
+    requires all { selections ≡ selections_of (task_of task.now).rules (task_of task.now).submission }
+    requires fails { IsFailureOf (task_of task.now) (failure_of fails) }
+    ensures { IfOk result (λ a. IsAnswer (task_of task.now) (answer_of (task_of task.now) a)) }
 {
-    let Some(fails) = first_failure(wanted, given) else {
-        return Answer::Correct;
-    };
-    let search = Search {
-        limits: &task.bounds.limits,
-        rewritings: Rewritings {
-            line: task.submission.body_line,
-            param: &task.submission.param,
-            alternatives,
-        },
-        formula: &task.submission.body,
-        wanted,
-    };
-    match least(&search, selections) {
-        Some(found) => Answer::Corrected {
+    let _task = task;
+    match search.least(selections)? {
+        Some(found) => Ok(Answer::Corrected {
             selection: found.selection,
             cost: found.cost,
             fails,
-        },
-        None => Answer::NoCorrection { fails },
+        }),
+        None => Ok(Answer::NoCorrection { fails }),
     }
 }
 
@@ -101,15 +86,26 @@ pub(crate) fn find_verdict(alloc: Global, task: &Task) -> Result<Verdict, NoMemo
     requires { IsSound (task_of task.now) }
     ensures { IfOk result (IsVerdict (task_of task.now)) }
 {
-    let alternatives = alternatives_by(alloc, &task.rules)?;
-    let Some(selections) = selections_to_try(task, &alternatives) else {
+    let corrections = Corrections::new(alloc, &task.submission.program, &task.rules)?;
+    let Some(selections) = selections_to_try(task, &corrections) else {
         return Ok(Verdict::TooLarge);
     };
-    let wanted = table_of(alloc, &task.bounds, &task.reference)?;
-    if !has_number(&wanted) {
+    let comparison = Comparison {
+        alloc,
+        bounds: &task.bounds,
+        reference: &task.reference,
+    };
+    if !comparison.ends_somewhere()? {
         return Ok(Verdict::EmptyReference);
     }
-    let given = table_of(alloc, &task.bounds, &task.submission)?;
-    let answer = find_answer(task, &alternatives, selections, &wanted, &given);
-    Ok(Verdict::Answered(answer))
+    let types = &task.submission.types;
+    let Some(fails) = comparison.first_failure(&task.submission.program, types)? else {
+        return Ok(Verdict::Answered(Answer::Correct));
+    };
+    let search = Search {
+        comparison,
+        corrections: &corrections,
+        types,
+    };
+    Ok(Verdict::Answered(answer_failing(&search, task, selections, fails)?))
 }

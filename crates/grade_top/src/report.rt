@@ -1,51 +1,56 @@
 //! The report of an answer.
-ghost use Rattle.std.specs.Prelude.{◌≡◌, ◌++◌, ℕ, IfOk, OnOk, map, slice_get};
+ghost use Rattle.std.specs.Prelude.{◌≡◌, ◌++◌, IfOk, OnOk, codes, map, slice_get};
 ghost use Rattle.std.specs.Option.{option_map};
 ghost use Rattle.mpy_tree.specs.Printing.{program_text as text_of_program};
-ghost use Rattle.grade_top.specs.FormulaValues.{outcome_by};
-ghost use Rattle.grade_top.specs.ProgramForm.{program};
-ghost use Rattle.grade_top.specs.Reports.{edit_by, edit_line, edits_text as text_of_edits, fails_text as text_of_failure, outcome_text as text_of_outcome, report_of};
-ghost use Rattle.grade_top.specs.Answers.{Corrected};
-ghost use Rattle.grade_top.specs.Rewriting.{alternatives};
-ghost use Rattle.grade_top.specs.RewritingViews.{edit_of};
-ghost use Rattle.grade_top.specs.Selections.{edits_of};
-ghost use Rattle.grade_top.specs.Verdicts.{answer_of, failure_of, function_by};
-ghost use Rattle.grade_top.specs.Views.{function_of, rule_of, rules_of, task_of};
+ghost use Rattle.mpy_tree.specs.View.{routines_of};
+ghost use Rattle.literal_rules.specs.Corrections.{chosen_program, program_edits};
+ghost use Rattle.literal_rules.specs.Rewriting.{alternatives};
+ghost use Rattle.literal_rules.specs.RewritingViews.{edit_of};
+ghost use Rattle.literal_rules.specs.Views.{rule_of, rules_of};
+ghost use Rattle.grade_top.specs.Comparing.{failure_of};
+ghost use Rattle.grade_top.specs.Reports.{edit_by, edit_line, edits_text as text_of_edits};
+ghost use Rattle.grade_top.specs.Reports.{fails_text as text_of_failure};
+ghost use Rattle.grade_top.specs.Reports.{outcome_text as text_of_outcome, report_of};
+ghost use Rattle.grade_top.specs.Reports.{run_text as text_of_run};
+ghost use Rattle.grade_top.specs.Verdicts.{answer_of};
+ghost use Rattle.grade_top.specs.Views.{task_of};
 
-use crate::alternatives::alternatives_by;
 use crate::answer::Answer;
-use crate::failure::Failure;
-use crate::number_text::{push_number, push_signed};
-use crate::program::program_of;
-use crate::rewritings::{Edit, Rewritings, push_edits, rewritten};
-use crate::task::{Function, Rule, Task};
+use crate::comparing::Failure;
+use crate::number_text::push_number;
+use crate::task::Task;
+use input_space::{print_case, print_value};
+use literal_rules::{Corrections, Edit, Rule};
 use mpy_printer::print_prog;
-use mpy_tree::{Name, NoMemory};
+use mpy_tree::{Name, NoMemory, Outcome};
 use std::alloc::Global;
 
-/// Adds what a run gives: a number, or the fault of a number outside the width.
-fn push_outcome(alloc: Global, out: &mut Vec<u8>, gives: Option<i32>) -> Result<(), NoMemory>
-    ensures { (line : ℕ) → OnOk result (out.new.items ≡ out.old.items ++ text_of_outcome (outcome_by line gives)) }
+/// Adds how a run ended: its value, or `fault` and its kind.
+fn push_outcome(out: &mut Vec<u8>, outcome: &Outcome) -> Result<(), NoMemory>
+    ensures { OnOk result (out.new.items ≡ out.old.items ++ text_of_outcome outcome.now) }
 {
-    match gives {
-        Some(n) => push_signed(alloc, out, n)?,
-        None => out.extend_from_slice(b"fault Overflow")?,
+    match outcome {
+        Outcome::Value(v) => print_value(out, v)?,
+        Outcome::Fault { kind, .. } => {
+            out.extend_from_slice(b"fault ")?;
+            out.extend_from_slice(kind.name().as_bytes())?;
+        }
     }
     Ok(())
 }
 
 /// The line for an input on which the submission fails.
 fn fails_line(alloc: Global, entry: &Name, fails: &Failure) -> Result<Vec<u8>, NoMemory>
-    ensures { (line : ℕ) → IfOk result (λ v. v.items ≡ text_of_failure entry.now (failure_of line fails.now)) }
+    ensures { IfOk result (λ v. v.items ≡ text_of_failure entry.now (failure_of fails.now)) }
 {
     let mut text = b"fails ".to_vec(alloc)?;
     text.extend_from_slice(entry.bytes())?;
     text.extend_from_slice(b"(")?;
-    push_signed(alloc, &mut text, fails.input)?;
+    text.extend_from_slice(print_case(alloc, &fails.case)?.as_slice())?;
     text.extend_from_slice(b"): gives ")?;
-    push_outcome(alloc, &mut text, fails.gives)?;
+    push_outcome(&mut text, &fails.gives)?;
     text.extend_from_slice(b", wanted ")?;
-    push_signed(alloc, &mut text, fails.wanted)?;
+    print_value(&mut text, &fails.wanted)?;
     text.extend_from_slice(b"\n")?;
     Ok(text)
 }
@@ -88,82 +93,26 @@ fn edit_lines(alloc: Global, rules: &[Rule], edits: &[Edit]) -> Result<Vec<u8>, 
     Ok(text)
 }
 
-/// The function that a selection makes of the submission.
-fn corrected(alloc: Global, task: &Task, selection: u64) -> Result<Function, NoMemory>
-    ensures { IfOk result (λ f. function_of f ≡ function_by (task_of task.now) selection) }
-{
-    let alternatives = alternatives_by(alloc, &task.rules)?;
-    let rewritings = Rewritings {
-        line: task.submission.body_line,
-        param: &task.submission.param,
-        alternatives: alternatives.as_slice(),
-    };
-    let (body, _) = rewritten(alloc, &rewritings, &task.submission.body, selection)?;
-    Ok(Function {
-        line: task.submission.line,
-        param: task.submission.param.copy()?,
-        body_line: task.submission.body_line,
-        body,
-    })
-}
-
-/// The edits by which a selection makes it.
-fn edits_by(alloc: Global, task: &Task, selection: u64) -> Result<Vec<Edit>, NoMemory>
-    ensures { IfOk result (λ v. map edit_of v.items ≡ edits_of (alternatives (task_of task.now).rules) (task_of task.now).submission.body_line (task_of task.now).submission.body selection) }
-{
-    let alternatives = alternatives_by(alloc, &task.rules)?;
-    let rewritings = Rewritings {
-        line: task.submission.body_line,
-        param: &task.submission.param,
-        alternatives: alternatives.as_slice(),
-    };
-    let mut edits = Vec::new(alloc);
-    push_edits(&mut edits, &rewritings, &task.submission.body, selection)?;
-    Ok(edits)
-}
-
-/// The text of the program that a selection makes.
+/// What follows the fails line where a selection corrects the submission.
 fn corrected_text(alloc: Global, task: &Task, selection: u64) -> Result<Vec<u8>, NoMemory>
-    ensures { IfOk result (λ v. v.items ≡ text_of_program (program (task_of task.now).bounds.entry (function_by (task_of task.now) selection))) }
+    ensures { IfOk result (λ v. v.items ≡ text_of_edits (task_of task.now).rules
+        (program_edits (alternatives (task_of task.now).rules) (task_of task.now).submission selection)
+        ++ codes "program\n" ++ text_of_program (chosen_program
+        (alternatives (task_of task.now).rules) (task_of task.now).submission selection)) }
 {
-    let function = corrected(alloc, task, selection)?;
-    let program = program_of(alloc, &task.bounds.entry, &function)?;
-    let text = print_prog(alloc, &program)?;
-    Ok(text)
-}
-
-/// The lines for the edits by which a selection makes it.
-fn correction_lines(alloc: Global, task: &Task, selection: u64) -> Result<Vec<u8>, NoMemory>
-    ensures { IfOk result (λ v. v.items ≡ text_of_edits (task_of task.now).rules (edits_of (alternatives (task_of task.now).rules) (task_of task.now).submission.body_line (task_of task.now).submission.body selection)) }
-{
-    let edits = edits_by(alloc, task, selection)?;
-    let text = edit_lines(alloc, &task.rules, &edits)?;
-    Ok(text)
-}
-
-/// The report of a correction.
-fn correction_report(
-    alloc: Global,
-    task: &Task,
-    selection: u64,
-    cost: u64,
-    fails: &Failure,
-) -> Result<Vec<u8>, NoMemory>
-    ensures { IfOk result (λ v. v.items ≡ report_of (task_of task.now) (Corrected cost (failure_of (task_of task.now).submission.body_line fails.now) (edits_of (alternatives (task_of task.now).rules) (task_of task.now).submission.body_line (task_of task.now).submission.body selection) (function_by (task_of task.now) selection))) }
-{
-    let mut text = b"cost ".to_vec(alloc)?;
-    push_number(alloc, &mut text, cost)?;
-    text.extend_from_slice(b"\n")?;
-    text.extend_from_slice(fails_line(alloc, &task.bounds.entry, fails)?.as_slice())?;
-    text.extend_from_slice(correction_lines(alloc, task, selection)?.as_slice())?;
+    let corrections = Corrections::new(alloc, &task.submission.program, &task.rules)?;
+    let edits = corrections.edits(alloc, selection)?;
+    let program = corrections.program_of(alloc, selection)?;
+    let mut text = edit_lines(alloc, &task.rules, &edits)?;
     text.extend_from_slice(b"program\n")?;
-    text.extend_from_slice(corrected_text(alloc, task, selection)?.as_slice())?;
+    text.extend_from_slice(print_prog(alloc, &program)?.as_slice())?;
     Ok(text)
 }
 
-/// The report of an answer to a task.
+/// The report of an answer.
 pub(crate) fn report(alloc: Global, task: &Task, answer: &Answer) -> Result<Vec<u8>, NoMemory>
-    ensures { IfOk result (λ v. v.items ≡ report_of (task_of task.now) (answer_of (task_of task.now) answer.now)) }
+    ensures { IfOk result (λ v. v.items ≡ report_of (task_of task.now)
+        (answer_of (task_of task.now) answer.now)) }
 {
     match answer {
         Answer::Correct => b"correct\n".to_vec(alloc),
@@ -171,11 +120,36 @@ pub(crate) fn report(alloc: Global, task: &Task, answer: &Answer) -> Result<Vec<
             selection,
             cost,
             fails,
-        } => correction_report(alloc, task, *selection, *cost, fails),
+        } => {
+            let mut text = b"cost ".to_vec(alloc)?;
+            push_number(alloc, &mut text, *cost)?;
+            text.extend_from_slice(b"\n")?;
+            text.extend_from_slice(fails_line(alloc, &task.bounds.entry, fails)?.as_slice())?;
+            text.extend_from_slice(corrected_text(alloc, task, *selection)?.as_slice())?;
+            Ok(text)
+        }
         Answer::NoCorrection { fails } => {
             let mut text = b"no correction\n".to_vec(alloc)?;
             text.extend_from_slice(fails_line(alloc, &task.bounds.entry, fails)?.as_slice())?;
             Ok(text)
+        }
+    }
+}
+
+/// The line for how a run ended.
+pub(crate) fn run_text(alloc: Global, outcome: &Outcome) -> Result<Vec<u8>, NoMemory>
+    ensures { IfOk result (λ v. v.items ≡ text_of_run outcome.now) }
+{
+    match outcome {
+        Outcome::Value(v) => {
+            let mut text = b"value ".to_vec(alloc)?;
+            print_value(&mut text, v)?;
+            text.extend_from_slice(b"\n")?;
+            Ok(text)
+        }
+        Outcome::Fault { kind, line } => {
+            let text = format!(in alloc; "fault {} line {line}\n", kind.name())?;
+            Ok(text.into_bytes())
         }
     }
 }

@@ -1,5 +1,5 @@
-use Rattle.grade_top.proofs.OneRefusal.{one_refusal}
+use Rattle.grade_top.proofs.OneOutcome.{one_refusal as law}
 use Rattle.grade_top.proofs.laws.one_refusal.Goals as goal
 
 pub returns : goal.returns
-returns c = one_refusal
+returns c = record { holds = law }

@@ -1,5 +1,5 @@
-use Rattle.grade_top.proofs.OneReading.{one_task}
+use Rattle.grade_top.proofs.OneOutcome.{one_task as law}
 use Rattle.grade_top.proofs.laws.one_task.Goals as goal
 
 pub returns : goal.returns
-returns c = one_task
+returns c = record { holds = law }

@@ -1,0 +1,11 @@
+pub mod Corrections
+pub mod Formulas
+pub mod Names
+pub mod Returning
+pub mod Rewriting
+pub mod RewritingViews
+pub mod RulesForm
+pub mod RulesReading
+pub mod Scanning
+pub mod Selections
+pub mod Views
