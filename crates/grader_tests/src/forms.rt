@@ -1,89 +1,97 @@
-//! The forms of bounds, rules and formulas that are graded.
+//! The forms of bounds and rules, and formulas that are graded.
 
 use crate::requests::{DOUBLE, Texts, graded};
 use grade_top::Status;
 use std::alloc::Global;
 use std::test::Fail;
 
+/// What is written of a submission that isn't corrected.
+const WRONG: &str = "no correction\nfails f(4): gives 8, wanted 12\n";
+
 /// Texts of bounds, each with what is written.
-const BOUNDS: [(&str, &str); 20] = [
+const BOUNDS: [(&str, &str); 22] = [
     (
         "width 6\nturns 4\ndepth 2\ncap 4\nentry f\nparam x int 4..4\n",
-        "no correction\nfails f(4): gives 8, wanted 12\n",
+        WRONG,
     ),
     (
-        "width 2\nturns 32\ndepth 8\ncap 4\nentry f\nparam x int -5..15\n",
+        "# of one number\n\n\twidth  6 # bits\r\nturns 4\ndepth 2\ncap 4\nentry f\nparam f int 4..4",
+        WRONG,
+    ),
+    (
+        "width 2\nturns 0\ndepth 2\ncap 4\nentry f\nparam x int 4..4\n",
         "refused b.txt line 1: BoundRange\n",
     ),
     (
-        "width 17\nturns 0\ndepth 8\ncap 4\nentry f\nparam x int -5..15\n",
+        "width 17\nturns 0\ndepth 2\ncap 4\nentry f\nparam x int 4..4\n",
         "refused b.txt line 1: BoundRange\n",
     ),
     (
-        "width -6\nturns 0\ndepth 8\ncap 4\nentry f\nparam x int -5..15\n",
-        "refused b.txt line 1: BoundRange\n",
-    ),
-    (
-        "width 6\nturns 0\ndepth 8\ncap 4\nentry f\nparam x int -5..15\n",
+        "width 6\nturns 33\ndepth 2\ncap 4\nentry f\nparam x int 4..4\n",
         "refused b.txt line 2: BoundRange\n",
     ),
     (
-        "width 6\nturns 33\ndepth 8\ncap 4\nentry f\nparam x int -5..15\n",
+        "width 6\nturns -4\ndepth 2\ncap 4\nentry f\nparam x int 4..4\n",
         "refused b.txt line 2: BoundRange\n",
     ),
     (
-        "width 6\nturns 32\ndepth 9\ncap 4\nentry f\nparam x int -5..15\n",
+        "width 6\nturns 4\ndepth 9\ncap 4\nentry f\nparam x int 4..4\n",
         "refused b.txt line 3: BoundRange\n",
     ),
     (
-        "width 6\nturns 32\ndepth 8\ncap 17\nentry f\nparam x int -5..15\n",
+        "width 6\nturns 4\ndepth 2\ncap 17\nentry f\nparam x int 4..4\n",
         "refused b.txt line 4: BoundRange\n",
     ),
     (
-        "width 6\nturns 32\ndepth 8\ncap 4\nentry f\nparam x int -33..15\n",
+        "width 6\nturns 4\ndepth 2\ncap 4\nentry f\nparam x int 4..32\n",
         "refused b.txt line 6: BoundRange\n",
     ),
     (
-        "width 6\nturns 32\ndepth 8\ncap 4\nentry f\nparam x int -32..32\n",
+        "width 6\nturns 4\ndepth 2\ncap 4\nentry f\nparam x int 5..4\n",
         "refused b.txt line 6: BoundRange\n",
     ),
     (
-        "width 6\nturns 32\ndepth 8\ncap 4\nentry f\nparam x int 5..4\n",
+        "width 6\nturns 4\ndepth 2\ncap 4\nentry f\nparam x list 0..5 of 0..1\n",
         "refused b.txt line 6: BoundRange\n",
     ),
     (
-        "width 06\nturns 32\ndepth 8\ncap 4\nentry f\nparam x int -5..15\n",
-        "refused b.txt line 1: NotYet\n",
+        "width 6\nturns 4\ndepth 2\ncap 4\nentry f\nparam x text 0..2 of 'aba'\n",
+        "refused b.txt line 6: BoundRange\n",
     ),
     (
-        "width 6\nturns 32\ndepth 8\ncap 4\nentry f\nparam x int -0..15\n",
-        "refused b.txt line 1: NotYet\n",
+        "width 2\nturns 4\ndepth 2\ncap 4\nentry f2345678901234567890123456789012345678901\n",
+        "refused b.txt line 5: Limit\n",
     ),
     (
-        "width 6\nturns 32\ndepth 8\ncap 4\nentry f\nparam x int -5..1000000000\n",
-        "refused b.txt line 1: NotYet\n",
+        "width 2\nturns 4\ndepth 2\ncap 4\nentry f\nparam x bool\nparam x bool\nparam x bool\nparam x bool\nparam x bool\n",
+        "refused b.txt line 10: Limit\n",
     ),
     (
-        "width 6\nturns 32\ndepth 8\ncap 4\nentry if\nparam x int -5..15\n",
-        "refused b.txt line 1: NotYet\n",
+        "width 06\nturns 4\ndepth 2\ncap 4\nentry f\nparam x int 4..4\n",
+        "refused b.txt line 1: Syntax\n",
     ),
     (
-        "width 6\nturns 32\ndepth 8\ncap 4\nentry f\nparam x int -5..15",
-        "refused b.txt line 1: NotYet\n",
+        "width 2\nturns 4\ndepth 2\ncap 4\nentry f\nparam x int -0..4\n",
+        "refused b.txt line 6: Syntax\n",
     ),
     (
-        "width 6\nturns 32\ndepth 8\ncap 4\nentry f\nparam x int -5..15\n\n",
-        "refused b.txt line 1: NotYet\n",
+        "width 6\nturns 4\ndepth 2\ncap 4\nentry f\nparam x int 4..1000000000\n",
+        "refused b.txt line 6: Syntax\n",
     ),
     (
-        "width  6\nturns 32\ndepth 8\ncap 4\nentry f\nparam x int -5..15\n",
-        "refused b.txt line 1: NotYet\n",
+        "width 6\nturns 4\ndepth 2\ncap 4\nentry if\nparam x int 4..4\n",
+        "refused b.txt line 5: Syntax\n",
     ),
     (
-        "width 6\nturns 32\ndepth 8\ncap 4\nentry f\nparam x bool\n",
-        "refused b.txt line 1: NotYet\n",
+        "width 6\ndepth 2\nturns 4\ncap 4\nentry f\nparam x int 4..4\n",
+        "refused b.txt line 2: Syntax\n",
     ),
-    ("", "refused b.txt line 1: NotYet\n"),
+    ("width 6\nturns 4\n", "refused b.txt line 3: Syntax\n"),
+    ("", "refused b.txt line 1: Syntax\n"),
+    (
+        "width 6\nturns\ndepth 2\ncap 4\nentry \u{e9}\nparam x int 4..4\n",
+        "refused b.txt line 5: Byte\n",
+    ),
 ];
 
 #[test]
@@ -186,18 +194,5 @@ fn formulas_are_read(rt: HostRuntime) -> Result<(), Fail> {
         let (ended, _) = graded(rt.alloc(), texts)?;
         assert_eq!(rt; ended, Status::Correct, "of {reference} and {submission}");
     }
-    Ok(())
-}
-
-/// A function with a builtin's name isn't graded.
-#[test]
-fn builtins_are_no_entries(rt: HostRuntime) -> Result<(), Fail> {
-    let texts = Texts {
-        bounds: "width 6\nturns 4\ndepth 2\ncap 4\nentry len\nparam x int 4..4\n",
-        reference: "def len(x):\n    return x\n",
-        ..DOUBLE
-    };
-    let (_, written) = graded(rt.alloc(), texts)?;
-    assert_eq!(rt; written.as_str(), "refused ref.py line 1: NotYet\n");
     Ok(())
 }

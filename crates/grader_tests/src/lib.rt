@@ -3,6 +3,8 @@
 #![tactic(auto)]
 
 #[cfg(test)]
+mod comparing;
+#[cfg(test)]
 mod devices;
 #[cfg(test)]
 mod forms;
@@ -14,6 +16,8 @@ mod layout;
 mod refusals;
 #[cfg(test)]
 mod requests;
+#[cfg(test)]
+mod runs;
 #[cfg(test)]
 mod slow;
 #[cfg(test)]

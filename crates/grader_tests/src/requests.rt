@@ -51,16 +51,25 @@ fn shelf_of(alloc: Global, texts: Texts<'_>, fails: Vec<u64>) -> Result<MemShelf
     Ok(shelf)
 }
 
-/// The status of a request, and what is written.
-pub(crate) fn graded(alloc: Global, texts: Texts<'_>) -> Result<(Status, String), Fail> {
-    let words = words(alloc, REQUEST.as_slice())?;
-    let mut shelf = shelf_of(alloc, texts, Vec::new(alloc))?;
+/// The status of these words over a shelf, and what is written.
+pub(crate) fn answered(
+    alloc: Global,
+    words: &Vec<String>,
+    shelf: &mut MemShelf,
+) -> Result<(Status, String), Fail> {
     let mut out = MemSink::new(alloc, 1000, Vec::new(alloc));
-    let status = grade_top(alloc, &words, &mut shelf, &mut out);
+    let status = grade_top(alloc, words, shelf, &mut out);
     match String::from_utf8(Vec::from_slice(alloc, out.bytes())?) {
         Ok(text) => Ok((status, text)),
         Err(_) => Err("no text")?,
     }
+}
+
+/// The status of a request, and what is written.
+pub(crate) fn graded(alloc: Global, texts: Texts<'_>) -> Result<(Status, String), Fail> {
+    let words = words(alloc, REQUEST.as_slice())?;
+    let mut shelf = shelf_of(alloc, texts, Vec::new(alloc))?;
+    answered(alloc, &words, &mut shelf)
 }
 
 #[test]

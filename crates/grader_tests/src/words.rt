@@ -1,8 +1,8 @@
 //! The words of a command line.
 
-use crate::requests::{REQUEST, words};
-use grade_io::{MemShelf, MemSink};
-use grade_top::{Status, grade_top};
+use crate::requests::{REQUEST, answered, words};
+use grade_io::MemShelf;
+use grade_top::Status;
 use std::test::Fail;
 
 /// The usage is written for every budget that isn't a number from 1 to 200000, and nothing is
@@ -15,10 +15,37 @@ fn other_words_get_the_usage(rt: HostRuntime) -> Result<(), Fail> {
         request[6] = budget;
         let words = words(alloc, request.as_slice())?;
         let mut shelf = MemShelf::new(alloc, Vec::new(alloc));
-        let mut out = MemSink::new(alloc, 1000, Vec::new(alloc));
-        let ended = grade_top(alloc, &words, &mut shelf, &mut out);
+        let (ended, written) = answered(alloc, &words, &mut shelf)?;
         assert_eq!(rt; ended, Status::Usage, "with the budget {budget}");
-        assert!(rt; out.bytes().starts_with(b"usage: mpygrade grade "));
+        assert!(rt; written.starts_with("usage: mpygrade grade "));
+    }
+    Ok(())
+}
+
+/// So it is for a run of more than four values, or without a program, and for the other commands.
+#[test]
+fn other_commands_get_the_usage(rt: HostRuntime) -> Result<(), Fail> {
+    let alloc = rt.alloc();
+    let rows: [&[&str]; 5] = [
+        &["run", "b.txt", "p.py", "1", "2", "3", "4", "5"],
+        &["run", "b.txt"],
+        &[
+            "check",
+            "b.txt",
+            "ref.py",
+            "sub.py",
+            "rules.eml",
+            "cert.txt",
+        ],
+        &["sample", "1"],
+        &[],
+    ];
+    for row in rows {
+        let words = words(alloc, row)?;
+        let mut shelf = MemShelf::new(alloc, Vec::new(alloc));
+        let (ended, written) = answered(alloc, &words, &mut shelf)?;
+        assert_eq!(rt; ended, Status::Usage, "of {} words", row.len());
+        assert!(rt; written.starts_with("usage: mpygrade grade "));
     }
     Ok(())
 }
