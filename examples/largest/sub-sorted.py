@@ -1,0 +1,3 @@
+def largest(v):
+    w = sorted(v)
+    return w[-1]

@@ -1,0 +1,6 @@
+def is_palindrome(s):
+    for i in range(len(s) // 2):
+        if s[i] == s[-1 - i]:
+            return True
+        else:
+            return False
