@@ -79,7 +79,7 @@ class Tried:
             for number, request in enumerate(requests):
                 with open(os.path.join(cases, 'c%03d' % number), 'w'):
                     pass
-                with open(os.path.join(cases, 'c%03d.args' % number), 'w') as file:
+                with open(os.path.join(cases, 'c%03d.args' % number), 'w', encoding='utf-8') as file:
                     file.write(''.join(word + '\n' for word in request.words))
                 for name, text in request.files.items():
                     with open(os.path.join(folder, name), 'wb') as file:
