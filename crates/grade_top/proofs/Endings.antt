@@ -1,5 +1,5 @@
 -- From an outcome that is due and written to how the call ends.
-use Rattle.std.proofs.Common.{◌≡◌, ◌≤◌, ◌+◌, sym, ap, subst, ◌∙◌, arith, refl, inl, inr, Result, Ok, Err, IfOk, IfErr, IsErrAnd, MatchResult, List, [], ◌∷◌, ℕ, length}
+use Rattle.std.proofs.Common.{◌≡◌, ◌≤◌, suc, sym, ap, subst, ◌∙◌, arith, refl, inl, inr, Result, Ok, Err, IfOk, IfErr, IsErrAnd, MatchResult, List, [], ◌∷◌, ℕ, length}
 use Rattle.std.specs.Fmt.{decimal}
 use Rattle.std.proofs.lemmas.Fmt.{decimal_injective}
 use Rattle.grade_io.specs.Devices.{Devices, ShelfState, SinkState, Rose}
@@ -27,7 +27,7 @@ pub as_many : (shelf : ShelfState) (fs : List SourceFile) (ts : List (List ℕ))
 as_many shelf [] [] held = refl
 as_many shelf [] (t ∷ ts) held = absurd held
 as_many shelf (f ∷ fs) [] held = absurd held
-as_many shelf (f ∷ fs) (t ∷ ts) held = ap (λ n. n + 1) (as_many shelf fs ts held.1)
+as_many shelf (f ∷ fs) (t ∷ ts) held = ap suc (as_many shelf fs ts held.1)
 
 comes_decided : (c : Command) (ts : List (List ℕ)) (after : ShelfState) (o : Outcome) → AllFit ts → IsDecided c ts o → ComesOf c ts after o
 comes_decided c ts after (Answered k a) fit decided = (fit, decided)
