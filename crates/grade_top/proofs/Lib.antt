@@ -4,5 +4,6 @@ mod Decimals
 mod Endings
 mod Leasts
 pub mod OneOutcome
+mod ReadingLaws
 mod SevenItems
 mod VerdictLaws
