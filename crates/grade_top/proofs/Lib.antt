@@ -1,6 +1,7 @@
 mod Claims
 mod ComparingLaws
 mod Decimals
+mod DecidingLaws
 mod Endings
 mod Leasts
 pub mod OneOutcome

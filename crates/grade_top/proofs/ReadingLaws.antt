@@ -153,5 +153,5 @@ mapped_at f (y ∷ xs) (suc i) x below is =
 
 pub all_read : (ps : List Param) (ws : List (List ℕ)) (i : ℕ) (vs : List Value) → length ps ≤ i → ReadsOn ps ws i vs → (values_step 1 ps ws).gives vs
 all_read ps ws i vs past before =
-    let none : drop i ps ≡ [] = drop_of_length-le i ps past in
+    let none : drop i ps ≡ [] = drop_of_length-le ps past in
     subst (values_step 1 ps ws).gives (append-nil vs) (before.gives [] (rw none refl))
