@@ -17,6 +17,8 @@ use Rattle.grade_top.specs.Answers.{Answer, Correct, Corrected, NoCorrection}
 use Rattle.grade_top.specs.Ends.{Answered, Ran, Refused, Unasked, Outcome, ComesOf, ComesOfFiles, Ends, IsDecided, IsDue, ReadWell, status_of, text_of_outcome}
 use Rattle.grade_top.specs.Files.{files_of}
 use Rattle.grade_top.specs.OneOutcome.{IsNoRefusal}
+use Rattle.grade_top.specs.Requests.{command_of}
+use Rattle.grade_top.specs.declared.words.Command as code_command
 use Rattle.grade_top.specs.Outcomes.{IsReport, ReportsFiles, Shows}
 use Rattle.grade_top.specs.Words.{Command, Grade, Run, Nothing, GradeWords, RunWords, AsksGrade, AsksRun, Asks, grade_words, run_words}
 
@@ -176,3 +178,18 @@ one_command words (Run w) Nothing asks other = absurd (other.no_run w asks)
 one_command words Nothing (Grade h) asks other = absurd (asks.no_grade h other)
 one_command words Nothing (Run w) asks other = absurd (asks.no_run w other)
 one_command words Nothing Nothing asks other = refl
+
+-- COMMANDS THAT WERE READ
+
+pub has_files : (c : code_command.Command) → HasFiles (command_of c)
+has_files (code_command.TheVariants.Grade w) = tt
+has_files (code_command.TheVariants.Run w) = tt
+
+pub asks_something : (c : Command) → HasFiles c → c ≡ Nothing → ⊥
+asks_something c some is = rw is at some
+
+-- a read is said to have failed where the shelf counted a fault
+pub read_failed : (c : Command) (before after : Devices) (s : Status) → HasFiles c → Ends c before after s → s ≡ status.ReadFailed → Rose before.shelf.faults after.shelf.faults
+read_failed (Grade g) before after s some ends is = (subst (Ends (Grade g) before after) is ends).0
+read_failed (Run w) before after s some ends is = (subst (Ends (Run w) before after) is ends).0
+read_failed Nothing before after s some ends is = absurd some
