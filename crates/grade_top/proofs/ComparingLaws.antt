@@ -67,3 +67,7 @@ failure_is b r p k vs f at fails = record {
 
 pub ends_there : (b : Bounds) (r : List Routine) (k : ℕ) (vs : List Value) (v : Value) → slice_get (inputs b.params) k ≡ Some vs → ends_on b r vs ≡ outcome.Value v → EndsSomewhere b r
 ends_there b r k vs v at ends = record { input = vs; wanted = v; is_input = is_input b k vs at; ends = ends }
+
+-- a count that stops far above is that of all
+pub whole : (n count place : ℕ) → n ≤ 1000000 → count ≡ min n 1000000000000 → count ≤ place → n ≤ place
+whole n count place small is past = grind arith

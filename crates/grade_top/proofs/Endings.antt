@@ -1,5 +1,5 @@
 -- From an outcome that is due and written to how the call ends.
-use Rattle.std.proofs.Common.{◌≡◌, ◌≤◌, ◌+◌, sym, ap, subst, ◌∙◌, arith, refl, inl, inr, Result, Ok, Err, IfOk, IfErr, IsErrAnd, MatchResult, List, [], ◌∷◌, ℕ, length}
+use Rattle.std.proofs.Common.{◌≡◌, ◌≤◌, suc, sym, ap, subst, ◌∙◌, arith, refl, inl, inr, Result, Ok, Err, IfOk, IfErr, IsErrAnd, MatchResult, List, [], ◌∷◌, ℕ, length}
 use Rattle.std.specs.Fmt.{decimal}
 use Rattle.std.proofs.lemmas.Fmt.{decimal_injective}
 use Rattle.grade_io.specs.Devices.{Devices, ShelfState, SinkState, Rose}
@@ -17,6 +17,8 @@ use Rattle.grade_top.specs.Answers.{Answer, Correct, Corrected, NoCorrection}
 use Rattle.grade_top.specs.Ends.{Answered, Ran, Refused, Unasked, Outcome, ComesOf, ComesOfFiles, Ends, IsDecided, IsDue, ReadWell, status_of, text_of_outcome}
 use Rattle.grade_top.specs.Files.{files_of}
 use Rattle.grade_top.specs.OneOutcome.{IsNoRefusal}
+use Rattle.grade_top.specs.Requests.{command_of}
+use Rattle.grade_top.specs.declared.words.Command as code_command
 use Rattle.grade_top.specs.Outcomes.{IsReport, ReportsFiles, Shows}
 use Rattle.grade_top.specs.Words.{Command, Grade, Run, Nothing, GradeWords, RunWords, AsksGrade, AsksRun, Asks, grade_words, run_words}
 
@@ -27,7 +29,7 @@ pub as_many : (shelf : ShelfState) (fs : List SourceFile) (ts : List (List ℕ))
 as_many shelf [] [] held = refl
 as_many shelf [] (t ∷ ts) held = absurd held
 as_many shelf (f ∷ fs) [] held = absurd held
-as_many shelf (f ∷ fs) (t ∷ ts) held = ap (λ n. n + 1) (as_many shelf fs ts held.1)
+as_many shelf (f ∷ fs) (t ∷ ts) held = ap suc (as_many shelf fs ts held.1)
 
 comes_decided : (c : Command) (ts : List (List ℕ)) (after : ShelfState) (o : Outcome) → AllFit ts → IsDecided c ts o → ComesOf c ts after o
 comes_decided c ts after (Answered k a) fit decided = (fit, decided)
@@ -176,3 +178,18 @@ one_command words (Run w) Nothing asks other = absurd (other.no_run w asks)
 one_command words Nothing (Grade h) asks other = absurd (asks.no_grade h other)
 one_command words Nothing (Run w) asks other = absurd (asks.no_run w other)
 one_command words Nothing Nothing asks other = refl
+
+-- COMMANDS THAT WERE READ
+
+pub has_files : (c : code_command.Command) → HasFiles (command_of c)
+has_files (code_command.TheVariants.Grade w) = tt
+has_files (code_command.TheVariants.Run w) = tt
+
+pub asks_something : (c : Command) → HasFiles c → c ≡ Nothing → ⊥
+asks_something c some is = rw is at some
+
+-- a read is said to have failed where the shelf counted a fault
+pub read_failed : (c : Command) (before after : Devices) (s : Status) → HasFiles c → Ends c before after s → s ≡ status.ReadFailed → Rose before.shelf.faults after.shelf.faults
+read_failed (Grade g) before after s some ends is = (subst (Ends (Grade g) before after) is ends).0
+read_failed (Run w) before after s some ends is = (subst (Ends (Run w) before after) is ends).0
+read_failed Nothing before after s some ends is = absurd some

@@ -27,7 +27,7 @@ use Rattle.grade_top.specs.OneOutcome.{IsNoRefusal}
 use Rattle.grade_top.specs.Tasks.{Task}
 use Rattle.grade_top.specs.Words.{Command, Grade, Run, Nothing, RunWords}
 
-pub one_never : {A : Type 0} → IsOne (never {A})
+pub one_never : {A : Type 0} → IsOne (never {A = A})
 one_never = record { gives = λ a b x y. absurd x; refuses = λ q r x y. absurd x; not_both = λ a r x y. x }
 
 pub one_rules : (bytes : List ℕ) (r s : List Rule) → IsRules bytes r → IsRules bytes s → r ≡ s

@@ -3,19 +3,22 @@ use Rattle.std.proofs.Common.{◌≡◌, ◌≢◌, ◌⊎◌, ℕ, zero, suc, �
 use Rattle.std.specs.Prelude.{Option}
 use Rattle.std.specs.List.{AllByRecursion}
 use Rattle.std.proofs.lemmas.Bool.{cases_lt}
-use Rattle.std.proofs.Math.Nat.{le-div_iff_mul-le}
+use Rattle.std.proofs.Math.Nat.{le-div_iff_mul-le, mul-le-mul_left, mul-le-mul_right, one-le-pow}
 use Rattle.mpy_tree.specs.Syntax.{Routine}
 use Rattle.input_space.specs.Agreement.{Agrees, IsFailure}
 use Rattle.input_space.specs.Inputs.{inputs}
+use Rattle.input_space.proofs.SomeInput.{some_inputs}
 use Rattle.literal_rules.specs.Corrections.{AreRewritings, AreTakenFor, IsSelected, chosen_program, program_cost, program_edits}
-use Rattle.literal_rules.specs.Rewriting.{Edit, IsRewriting, kept, alternatives, selections_of}
+use Rattle.literal_rules.specs.Rewriting.{Edit, IsRewriting, kept, Return, alternatives, literals_in, returned, selections_of, ways}
 use Rattle.literal_rules.specs.RulesForm.{Rule, IsRule}
 use Rattle.literal_rules.specs.Selections.{at_most}
 use Rattle.literal_rules.proofs.CorrectionLaws.{free, selections_are_rewritings}
 use Rattle.literal_rules.proofs.Counting.{small, large}
 use Rattle.grade_top.specs.Answers.{Answer, Correct, Corrected, NoCorrection, IsAnswer}
 use Rattle.grade_top.specs.Comparing.{failure_of}
-use Rattle.grade_top.specs.Searches.{IsLeast, IsLeastOf, SelectionAgrees, selection_cost}
+use Rattle.grade_top.specs.Searches.{IsLeast, IsLeastOf, Searches, SelectionAgrees, selection_cost}
+use Rattle.grade_top.specs.declared.search.Found.{Found}
+use Rattle.grade_top.specs.declared.search.Search.{Search}
 use Rattle.grade_top.specs.Tasks.{Task, IsBestOf, IsFailureOf, IsTooLarge, NoneAgrees}
 use Rattle.grade_top.specs.Verdicts.{IsSound, IsTried}
 use Rattle.grade_top.specs.declared.comparing.Failure as code
@@ -105,6 +108,79 @@ tried k o some is =
       | inr high ↦ rw (is, large (1000000 / count) n high) (too_many n count some high)
     ]
 
+-- there is a selection, which keeps all
+some_ways : (rules : List Rule) (o : Option Return) → 0 < ways rules o
+some_ways rules None = omega arith
+some_ways rules (Some r) = one-le-pow (literals_in r.term) (1 + length (alternatives rules)) (omega arith)
+
+some_selections : (rules : List Rule) (p : List Routine) → 0 < selections_of rules p
+some_selections rules p = some_ways rules (returned p)
+
 -- more inputs than the limit are too many by themselves
-pub too_many_inputs : (k : Task) → 0 < selections_of k.rules k.submission → 1000000 < length (inputs k.bounds.params) → IsTooLarge k
-too_many_inputs k some large = grind arith
+times : (n m most : ℕ) → 0 < n → most < m → most < n * m
+times n m most some large = let more : 1 * m ≤ n * m = mul-le-mul_right m some in omega (arith, more, large)
+
+pub too_many_inputs : (k : Task) → 1000000 < length (inputs k.bounds.params) → IsTooLarge k
+too_many_inputs k large = times (selections_of k.rules k.submission) (length (inputs k.bounds.params)) 1000000 (some_selections k.rules k.submission) large
+
+some_inputs_of : (k : Task) → 0 < length (inputs k.bounds.params)
+some_inputs_of k = some_inputs k.bounds.limits k.bounds.params k.bounds.ranges
+
+-- a task that isn't too large has few inputs and few selections
+pub few_inputs : (k : Task) → (IsTooLarge k → ⊥) → length (inputs k.bounds.params) ≤ 1000000
+few_inputs k small = elim (cases_le (length (inputs k.bounds.params)) 1000000) [
+  | inl few ↦ few
+  | inr many ↦ absurd (small (too_many_inputs k many))
+]
+
+pub few_selections : (k : Task) → (IsTooLarge k → ⊥) → selections_of k.rules k.submission ≤ 1000000
+few_selections k small = elim (cases_le (selections_of k.rules k.submission) 1000000) [
+  | inl few ↦ few
+  | inr many ↦
+      let n = selections_of k.rules k.submission in
+      let more : n * 1 ≤ n * length (inputs k.bounds.params) = mul-le-mul_left n (some_inputs_of k) in
+      absurd (small (omega (arith, more, many)))
+]
+
+-- the count of the inputs, which stops far above the limit
+pub many_by_count : (k : Task) (count : ℕ) → count ≡ min (length (inputs k.bounds.params)) 1000000000000 → 1000000 < count → IsTooLarge k
+many_by_count k count is many = too_many_inputs k (grind arith)
+
+pub some_by_count : (k : Task) (count : ℕ) → count ≡ min (length (inputs k.bounds.params)) 1000000000000 → 0 < count
+some_by_count k count is = let some = some_inputs_of k in grind arith
+
+pub room : (count : ℕ) → 0 < count → count ≤ 1000000 → 1 ≤ 1000000 / count
+room count some few = (le-div_iff_mul-le {k = count} {x = 1} {y = 1000000} some).1 (omega arith)
+
+same_count : (n count : ℕ) → count ≡ min n 1000000000000 → count ≤ 1000000 → count ≡ n
+same_count n count is few = grind arith
+
+pub tried_by_count : (k : Task) (o : Option ℕ) (count : ℕ) (rules : List Rule) (p : List Routine) → count ≡ min (length (inputs k.bounds.params)) 1000000000000 → count ≤ 1000000
+    → rules ≡ k.rules → p ≡ k.submission → o ≡ at_most (1000000 / count) (selections_of rules p) → MatchOption o (IsTooLarge k) (IsTried k)
+tried_by_count k o count rules p is few same_rules same_program chosen =
+    tried k o (some_inputs_of k) (chosen
+    ∙ ap (λ r. at_most (1000000 / count) (selections_of r p)) same_rules
+    ∙ ap (λ q. at_most (1000000 / count) (selections_of k.rules q)) same_program
+    ∙ ap (λ m. at_most (1000000 / m) (selections_of k.rules k.submission)) (same_count (length (inputs k.bounds.params)) count is few))
+
+-- THE SEARCH OF A TASK
+
+as_task : (s : Search) (k : Task) (j : ℕ) → Searches s k → SelectionAgrees s j → Agrees k.bounds k.reference (Chosen k j)
+as_task s k j h agrees = rw (h.bounds, h.reference, h.submission, h.rules) at agrees
+
+as_search : (s : Search) (k : Task) (j : ℕ) → Searches s k → Agrees k.bounds k.reference (Chosen k j) → SelectionAgrees s j
+as_search s k j h agrees = rw (h.bounds, h.reference, h.submission, h.rules) agrees
+
+same_cost : (s : Search) (k : Task) (j : ℕ) → Searches s k → selection_cost s j ≡ Cost k j
+same_cost s k j h = rw (h.submission, h.rules) refl
+
+pub cheapest : (s : Search) (k : Task) (n : ℕ) (f : Found) → Searches s k → n ≡ selections_of k.rules k.submission → IsLeastOf s n f → IsCheapest k f.selection f.cost
+cheapest s k n f h all found = record {
+  agrees = as_task s k f.selection h found.agrees;
+  cost_is = found.cost_is ∙ same_cost s k f.selection h;
+  least = λ i below agrees. omega (arith, found.least i (omega (arith, all, below)) (as_search s k i h agrees), same_cost s k i h);
+}
+
+pub none_agrees : (s : Search) (k : Task) (n : ℕ) → Searches s k → n ≡ selections_of k.rules k.submission → IsLeast s n None
+    → (i : ℕ) → i < selections_of k.rules k.submission → Agrees k.bounds k.reference (Chosen k i) → ⊥
+none_agrees s k n h all none i below agrees = none i (omega (arith, all, below)) (as_search s k i h agrees)

@@ -62,4 +62,4 @@ run_text (outcome.Fault kind line) =
 -- a value of `run` is refused, by its number
 abbrev pub value_refusal_text : ℕ → Cause → List ℕ
 value_refusal_text n c =
-    codes "refused value " ++ decimal n ++ codes ": " ++ cause_text c ++ codes "\n"
+    codes "refused value " ++ (decimal n ++ (codes ": " ++ (cause_text c ++ codes "\n")))

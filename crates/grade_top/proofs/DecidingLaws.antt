@@ -1,0 +1,77 @@
+-- What the texts of a command decide, step after step.
+use Rattle.std.proofs.Common.{◌≡◌, ◌≢◌, ◌⊎◌, ℕ, List, [], ◌∷◌, length, refl, sym, subst, inl, inr}
+use Rattle.mpy_tree.specs.declared.outcome.Outcome as run
+use Rattle.mpy_tree.specs.declared.refusal.Cause.TheVariants as cause
+use Rattle.mpy_tree.specs.declared.refusal.Source.TheVariants as source
+use Rattle.mpy_tree.specs.declared.refusal.Refusal.{Refusal}
+use Rattle.mpy_tree.specs.declared.value.Value.{Value}
+use Rattle.mpy_tree.specs.Outcomes.{run_outcome}
+use Rattle.bounds_reader.specs.declared.bounds.Bounds.{Bounds}
+use Rattle.bounds_reader.specs.Files.{IsBounds}
+use Rattle.input_space.specs.Agreement.{EndsSomewhere}
+use Rattle.task_read.specs.Sources.{Typed, entry_at, program_step, refusal}
+use Rattle.grade_top.specs.Decisions.{graded_step, run_step, task_step, values_step}
+use Rattle.grade_top.specs.Tasks.{Task, IsTooLarge, entry_line}
+use Rattle.grade_top.specs.Verdicts.{IsSound}
+use Rattle.grade_top.specs.Words.{RunWords}
+
+-- GRADE
+
+pub sound_task : (ts : List (List ℕ)) (k : Task) → (task_step ts).gives k → IsSound k
+sound_task [] k g = absurd g
+sound_task (a ∷ []) k g = absurd g
+sound_task (a ∷ b ∷ []) k g = absurd g
+sound_task (a ∷ b ∷ c ∷ []) k g = absurd g
+sound_task (a ∷ b ∷ c ∷ d ∷ []) k g =
+    subst IsSound (sym g.second.second.second.second.second)
+    (record { rules = g.second.second.second.given.read.each; taken = g.second.second.second.given.taken })
+sound_task (a ∷ b ∷ c ∷ d ∷ e ∷ ts) k g = absurd g
+
+pub too_large : (ts : List (List ℕ)) (k : Task) → (task_step ts).gives k → IsTooLarge k
+    → (graded_step ts).refuses (refusal source.Submission cause.TooLarge (entry_line k k.submission))
+too_large ts k read large = inr (record { first = k; given = read; second = inl (large, refl) })
+
+pub empty_reference : (ts : List (List ℕ)) (k : Task) → (task_step ts).gives k → (IsTooLarge k → ⊥) → (EndsSomewhere k.bounds k.reference → ⊥)
+    → (graded_step ts).refuses (refusal source.Reference cause.EmptyReference (entry_line k k.reference))
+empty_reference ts k read small empty =
+    inr (record { first = k; given = read; second = inr (record { first = tt; given = small; second = inl (empty, refl) }) })
+
+pub graded_given : (ts : List (List ℕ)) (k : Task) → (task_step ts).gives k → (IsTooLarge k → ⊥) → EndsSomewhere k.bounds k.reference → (graded_step ts).gives k
+graded_given ts k read small ends = record { first = k; given = read; second =
+    record { first = tt; given = small; second =
+    record { first = tt; given = λ none. none ends; second = refl } } }
+
+pub task_refused : (ts : List (List ℕ)) (q : Refusal) → (task_step ts).refuses q → (graded_step ts).refuses q
+task_refused ts q h = inl h
+
+-- RUN
+
+-- what a run reads: bounds, and a program
+pub record ReadRun (a b : List ℕ) (x : Bounds) (p : Typed) : Type 0 where
+  pub bounds : IsBounds a x
+  pub program : (program_step source.Reference b (entry_at x)).gives p
+
+pub at_program : (w : RunWords) (ts : List (List ℕ)) (a b : List ℕ) (x : Bounds) → a ∷ b ∷ [] ≡ ts → IsBounds a x
+    → (q : Refusal) → (program_step source.Reference b (entry_at x)).refuses q → (run_step w ts).refuses q
+at_program w ts a b x is read q h = subst (λ us. (run_step w us).refuses q) is (inr (record { first = x; given = read; second = inl h }))
+
+pub at_count : (w : RunWords) (ts : List (List ℕ)) (a b : List ℕ) (x : Bounds) (p : Typed) → a ∷ b ∷ [] ≡ ts → ReadRun a b x p
+    → length w.values ≢ length x.params → (run_step w ts).refuses (refusal source.Bounds cause.Entry x.entry_line)
+at_count w ts a b x p is read differ = subst (λ us. (run_step w us).refuses (refusal source.Bounds cause.Entry x.entry_line)) is
+    (inr (record { first = x; given = read.bounds; second =
+    inr (record { first = p; given = read.program; second = inl (differ, refl) }) }))
+
+pub at_values : (w : RunWords) (ts : List (List ℕ)) (a b : List ℕ) (x : Bounds) (p : Typed) → a ∷ b ∷ [] ≡ ts → ReadRun a b x p
+    → length w.values ≡ length x.params → (q : Refusal) → (values_step 1 x.params w.values).refuses q → (run_step w ts).refuses q
+at_values w ts a b x p is read same q h = subst (λ us. (run_step w us).refuses q) is
+    (inr (record { first = x; given = read.bounds; second =
+    inr (record { first = p; given = read.program; second =
+    inr (record { first = tt; given = λ differ. differ same; second = inl h }) }) }))
+
+pub run_given : (w : RunWords) (ts : List (List ℕ)) (a b : List ℕ) (x : Bounds) (p : Typed) (vs : List Value) → a ∷ b ∷ [] ≡ ts → ReadRun a b x p
+    → length w.values ≡ length x.params → (values_step 1 x.params w.values).gives vs → (run_step w ts).gives (run_outcome x.limits p.program x.entry vs)
+run_given w ts a b x p vs is read same values = subst (λ us. (run_step w us).gives (run_outcome x.limits p.program x.entry vs)) is
+    (record { first = x; given = read.bounds; second =
+    record { first = p; given = read.program; second =
+    record { first = tt; given = λ differ. differ same; second =
+    record { first = vs; given = values; second = refl } } } })

@@ -1,0 +1,157 @@
+-- What the texts of a command are read to, step after step.
+use Rattle.std.proofs.Common.{◌≡◌, ◌≢◌, ◌⊎◌, ℕ, suc, ◌+◌, List, [], ◌∷◌, ◌++◌, length, map, get_or, refl, sym, ap, subst, ◌∙◌, arith, inl, inr, drop, Result, Ok, Err, IsErrAnd, MatchResult, Vec, zero, ◌<◌, ◌≤◌, drop_of_length-le, append-nil}
+use Rattle.std.specs.declared.alloc.Global.{Global}
+use Rattle.std.proofs.lemmas.List.{append_assoc}
+use Rattle.mpy_tree.specs.declared.refusal.Refusal.{Refusal}
+use Rattle.mpy_tree.specs.declared.value.Value.{Value}
+use Rattle.mpy_tree.specs.Syntax.{Routine}
+use Rattle.input_space.specs.Cases.{SpellsCase}
+use Rattle.input_space.proofs.OneCase.{one_case}
+use Rattle.source_files.specs.Fetches.{StopsAs}
+use Rattle.source_files.specs.Views.{texts_of}
+use Rattle.source_files.specs.declared.stop.Stop.{Stop}
+use Rattle.source_files.specs.declared.stop.Stop.TheVariants as stop
+use Rattle.literal_rules.specs.Corrections.{AreTakenFor}
+use Rattle.literal_rules.specs.RulesForm.{Rule, IsRules}
+use Rattle.mpy_tree.specs.declared.refusal.Cause.TheVariants as cause
+use Rattle.mpy_tree.specs.declared.refusal.Source.TheVariants as source
+use Rattle.bounds_reader.specs.declared.bounds.Bounds.{Bounds}
+use Rattle.bounds_reader.specs.declared.params.Param.{Param}
+use Rattle.bounds_reader.specs.Files.{IsBounds}
+use Rattle.task_read.specs.Sources.{Typed, bounds_step, entry_at, program_step, refusal}
+use Rattle.task_read.specs.Steps.{Step, ◌>>=◌, done, refuse_if}
+use Rattle.grade_top.specs.Decisions.{AreTaken, result_type, rules_step, task, task_step, value_step, values_step}
+use Rattle.grade_top.specs.Tasks.{entry_line}
+use Rattle.grade_top.proofs.OneOutcome.{one_rules}
+
+-- what a step refuses is refused by all of it
+pub stops_in : (P Q : Refusal → Type 0) → ((r : Refusal) → P r → Q r) → (s : Stop) → StopsAs P s → StopsAs Q s
+stops_in P Q more (stop.Refused r) h = more r h
+stops_in P Q more stop.Failed h = h
+stops_in P Q more stop.NoMemory h = h
+
+-- a step of a call that stopped
+pub stopped : {T : Type 0} (X : T → Type 0) (P Q : Refusal → Type 0) (r : Result T Stop) (s : Stop) → IsErrAnd r (λ t. t ≡ s) → StopsAs P s → ((q : Refusal) → P q → Q q) → MatchResult r X (StopsAs Q)
+stopped X P Q (Ok x) s is h more = absurd is
+stopped X P Q (Err t) s is h more = subst (StopsAs Q) (sym is) (stops_in P Q more s h)
+
+-- THE TASK OF FOUR TEXTS
+
+pub four_texts : (xs : List (Vec ℕ Global)) (a b c d : Vec ℕ Global) (s t u v : List ℕ) → length xs ≡ 4
+    → a ≡ get_or xs 0 a → b ≡ get_or xs 1 b → c ≡ get_or xs 2 c → d ≡ get_or xs 3 d → s ≡ a.items → t ≡ b.items → u ≡ c.items → v ≡ d.items
+    → s ∷ t ∷ u ∷ v ∷ [] ≡ texts_of xs
+four_texts (i ∷ j ∷ k ∷ l ∷ []) a b c d s t u v len ia ib ic id fa fb fc fd = cc
+four_texts xs a b c d s t u v len ia ib ic id fa fb fc fd = absurd (omega arith)
+
+pub two_texts : (xs : List (Vec ℕ Global)) (a b : Vec ℕ Global) (s t : List ℕ) → length xs ≡ 2
+    → a ≡ get_or xs 0 a → b ≡ get_or xs 1 b → s ≡ a.items → t ≡ b.items → s ∷ t ∷ [] ≡ texts_of xs
+two_texts (i ∷ j ∷ []) a b s t len ia ib fa fb = cc
+two_texts xs a b s t len ia ib fa fb = absurd (omega arith)
+
+-- the sources before one that stops are read
+pub record ReadTwo (a b : List ℕ) (x : Bounds) (r : Typed) : Type 0 where
+  pub bounds : IsBounds a x
+  pub reference : (program_step source.Reference b (entry_at x)).gives r
+
+pub record ReadThree (a b c : List ℕ) (x : Bounds) (r s : Typed) : Type 0 where
+  pub bounds : IsBounds a x
+  pub reference : (program_step source.Reference b (entry_at x)).gives r
+  pub submission : (program_step source.Submission c (entry_at x)).gives s
+
+pub at_reference : (ts : List (List ℕ)) (a b c d : List ℕ) (x : Bounds) → a ∷ b ∷ c ∷ d ∷ [] ≡ ts → IsBounds a x
+    → (q : Refusal) → (program_step source.Reference b (entry_at x)).refuses q → (task_step ts).refuses q
+at_reference ts a b c d x is read q h = subst (λ us. (task_step us).refuses q) is
+    (inr (record { first = x; given = read; second = inl h }))
+
+pub at_submission : (ts : List (List ℕ)) (a b c d : List ℕ) (x : Bounds) (r : Typed) → a ∷ b ∷ c ∷ d ∷ [] ≡ ts → ReadTwo a b x r
+    → (q : Refusal) → (program_step source.Submission c (entry_at x)).refuses q → (task_step ts).refuses q
+at_submission ts a b c d x r is read q h = subst (λ us. (task_step us).refuses q) is
+    (inr (record { first = x; given = read.bounds; second = inr (record { first = r; given = read.reference; second = inl h }) }))
+
+-- what follows the three sources
+in_three : (a b c d : List ℕ) (x : Bounds) (r s : Typed) → ReadThree a b c x r s → (q : Refusal)
+    → ((rules_step d s.program) >>= (λ e. refuse_if (result_type x.entry r ≢ result_type x.entry s) (refusal source.Submission cause.ResultType (entry_line (task x r s e) s.program)) >>= (λ t. done (task x r s e)))).refuses q
+    → (task_step (a ∷ b ∷ c ∷ d ∷ [])).refuses q
+in_three a b c d x r s read q h =
+    inr (record { first = x; given = read.bounds; second =
+    inr (record { first = r; given = read.reference; second =
+    inr (record { first = s; given = read.submission; second = h }) }) })
+
+pub at_rules : (ts : List (List ℕ)) (a b c d : List ℕ) (x : Bounds) (r s : Typed) → a ∷ b ∷ c ∷ d ∷ [] ≡ ts → ReadThree a b c x r s
+    → (q : Refusal) → (rules_step d s.program).refuses q → (task_step ts).refuses q
+at_rules ts a b c d x r s is read q h = subst (λ us. (task_step us).refuses q) is (in_three a b c d x r s read q (inl h))
+
+pub at_results : (ts : List (List ℕ)) (a b c d : List ℕ) (x : Bounds) (r s : Typed) (e : List Rule) → a ∷ b ∷ c ∷ d ∷ [] ≡ ts → ReadThree a b c x r s
+    → (rules_step d s.program).gives e → result_type x.entry r ≢ result_type x.entry s
+    → (task_step ts).refuses (refusal source.Submission cause.ResultType (entry_line (task x r s e) s.program))
+at_results ts a b c d x r s e is read rules differ =
+    let q = refusal source.Submission cause.ResultType (entry_line (task x r s e) s.program) in
+    subst (λ us. (task_step us).refuses q) is
+    (in_three a b c d x r s read q (inr (record { first = e; given = rules; second = inl (differ, refl) })))
+
+pub task_given : (ts : List (List ℕ)) (a b c d : List ℕ) (x : Bounds) (r s : Typed) (e : List Rule) → a ∷ b ∷ c ∷ d ∷ [] ≡ ts → ReadThree a b c x r s
+    → (rules_step d s.program).gives e → (result_type x.entry r ≢ result_type x.entry s → ⊥) → (task_step ts).gives (task x r s e)
+task_given ts a b c d x r s e is read rules same = subst (λ us. (task_step us).gives (task x r s e)) is
+    (record { first = x; given = read.bounds; second =
+    record { first = r; given = read.reference; second =
+    record { first = s; given = read.submission; second =
+    record { first = e; given = rules; second =
+    record { first = tt; given = same; second = refl } } } } })
+
+-- RULES AND VALUES
+
+-- rules that were read and aren't taken: none are
+pub not_taken : (text : List ℕ) (p : List Routine) (read : List Rule) → IsRules text read → (AreTakenFor read p → ⊥) → (rules : List Rule) → AreTaken text p rules → ⊥
+not_taken text p read is not rules taken = not (subst (λ r. AreTakenFor r p) (one_rules text rules read taken.read is) taken.taken)
+
+-- a case that isn't one value
+pub not_one : (text : List ℕ) (values : List Value) → SpellsCase text values → ((v : Value) → values ≢ v ∷ []) → (v : Value) → SpellsCase text (v ∷ []) → ⊥
+not_one text values spells other v one = other v (one_case text values (v ∷ []) spells one)
+
+-- the values so far, and how the others are read after them
+pub record ReadsOn (ps : List Param) (ws : List (List ℕ)) (i : ℕ) (vs : List Value) : Type 0 where
+  pub gives : (rest : List Value) → (values_step (i + 1) (drop i ps) (drop i ws)).gives rest → (values_step 1 ps ws).gives (vs ++ rest)
+  pub refuses : (r : Refusal) → (values_step (i + 1) (drop i ps) (drop i ws)).refuses r → (values_step 1 ps ws).refuses r
+
+-- one value more
+pub read_on : (ps : List Param) (ws : List (List ℕ)) (i : ℕ) (vs : List Value) (p : Param) (w : List ℕ) (v : Value) → drop i ps ≡ p ∷ drop (i + 1) ps → drop i ws ≡ w ∷ drop (i + 1) ws
+    → (value_step (i + 1) p w).gives v → ReadsOn ps ws i vs → ReadsOn ps ws (i + 1) (vs ++ v ∷ [])
+read_on ps ws i vs p w v is word value before =
+    let next : i + 1 + 1 ≡ suc (i + 1) = omega arith in
+    record {
+      gives = λ rest given.
+          let here : (values_step (i + 1) (p ∷ drop (i + 1) ps) (w ∷ drop (i + 1) ws)).gives (v ∷ rest) =
+              record { first = v; given = value; second = record { first = rest; given = subst (λ n. (values_step n (drop (i + 1) ps) (drop (i + 1) ws)).gives rest) next given; second = refl } } in
+          subst (values_step 1 ps ws).gives (sym (append_assoc vs (v ∷ []) rest)) (before.gives (v ∷ rest) (rw (is, word) here));
+      refuses = λ r refused.
+          let here : (values_step (i + 1) (p ∷ drop (i + 1) ps) (w ∷ drop (i + 1) ws)).refuses r =
+              inr (record { first = v; given = value; second = inl (subst (λ n. (values_step n (drop (i + 1) ps) (drop (i + 1) ws)).refuses r) next refused) }) in
+          before.refuses r (rw (is, word) here);
+    }
+
+pub value_refused : (ps : List Param) (ws : List (List ℕ)) (i : ℕ) (vs : List Value) (p : Param) (w : List ℕ) → drop i ps ≡ p ∷ drop (i + 1) ps → drop i ws ≡ w ∷ drop (i + 1) ws
+    → ReadsOn ps ws i vs → (r : Refusal) → (value_step (i + 1) p w).refuses r → (values_step 1 ps ws).refuses r
+value_refused ps ws i vs p w is word before r h =
+    let here : (values_step (i + 1) (p ∷ drop (i + 1) ps) (w ∷ drop (i + 1) ws)).refuses r = inl h in
+    before.refuses r (rw (is, word) here)
+
+pub item_at : {X : Type 0} (xs : List X) (i : ℕ) (x : X) → i < length xs → x ≡ get_or xs i x → drop i xs ≡ x ∷ drop (i + 1) xs
+item_at [] i x below is = absurd (omega arith)
+item_at (y ∷ xs) zero x below is = ap (λ z. z ∷ xs) (sym is)
+item_at (y ∷ xs) (suc i) x below is =
+    let rest : drop i xs ≡ x ∷ drop (i + 1) xs = item_at xs i x (omega arith) is in
+    let next : suc i + 1 ≡ suc (i + 1) = omega arith in
+    rw next rest
+
+pub mapped_at : {X Y : Type 0} (f : X → Y) (xs : List X) (i : ℕ) (x : X) → i < length xs → x ≡ get_or xs i x → drop i (map f xs) ≡ f x ∷ drop (i + 1) (map f xs)
+mapped_at f [] i x below is = absurd (omega arith)
+mapped_at f (y ∷ xs) zero x below is = ap (λ z. f z ∷ map f xs) (sym is)
+mapped_at f (y ∷ xs) (suc i) x below is =
+    let rest : drop i (map f xs) ≡ f x ∷ drop (i + 1) (map f xs) = mapped_at f xs i x (omega arith) is in
+    let next : suc i + 1 ≡ suc (i + 1) = omega arith in
+    rw next rest
+
+pub all_read : (ps : List Param) (ws : List (List ℕ)) (i : ℕ) (vs : List Value) → length ps ≤ i → ReadsOn ps ws i vs → (values_step 1 ps ws).gives vs
+all_read ps ws i vs past before =
+    let none : drop i ps ≡ [] = drop_of_length-le ps past in
+    subst (values_step 1 ps ws).gives (append-nil vs) (before.gives [] (rw none refl))
