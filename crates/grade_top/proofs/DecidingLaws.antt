@@ -37,9 +37,17 @@ empty_reference ts k read small empty =
     inr (record { first = k; given = read; second = inr (record { first = tt; given = small; second = inl (empty, refl) }) })
 
 pub graded_given : (ts : List (List ℕ)) (k : Task) → (task_step ts).gives k → (IsTooLarge k → ⊥) → EndsSomewhere k.bounds k.reference → (graded_step ts).gives k
-graded_given ts k read small ends = record { first = k; given = read; second =
-    record { first = tt; given = small; second =
-    record { first = tt; given = λ none. none ends; second = refl } } }
+graded_given ts k read small ends = record {
+  first = k;
+  given = read;
+  second =
+      record {
+        first = tt;
+        given = small;
+        second =
+            record { first = tt; given = λ none. none ends; second = refl };
+      };
+}
 
 pub task_refused : (ts : List (List ℕ)) (q : Refusal) → (task_step ts).refuses q → (graded_step ts).refuses q
 task_refused ts q h = inl h
@@ -58,20 +66,44 @@ at_program w ts a b x is read q h = subst (λ us. (run_step w us).refuses q) is 
 pub at_count : (w : RunWords) (ts : List (List ℕ)) (a b : List ℕ) (x : Bounds) (p : Typed) → a ∷ b ∷ [] ≡ ts → ReadRun a b x p
     → length w.values ≢ length x.params → (run_step w ts).refuses (refusal source.Bounds cause.Entry x.entry_line)
 at_count w ts a b x p is read differ = subst (λ us. (run_step w us).refuses (refusal source.Bounds cause.Entry x.entry_line)) is
-    (inr (record { first = x; given = read.bounds; second =
-    inr (record { first = p; given = read.program; second = inl (differ, refl) }) }))
+    (inr (record {
+      first = x;
+      given = read.bounds;
+      second =
+          inr (record { first = p; given = read.program; second = inl (differ, refl) });
+    }))
 
 pub at_values : (w : RunWords) (ts : List (List ℕ)) (a b : List ℕ) (x : Bounds) (p : Typed) → a ∷ b ∷ [] ≡ ts → ReadRun a b x p
     → length w.values ≡ length x.params → (q : Refusal) → (values_step 1 x.params w.values).refuses q → (run_step w ts).refuses q
 at_values w ts a b x p is read same q h = subst (λ us. (run_step w us).refuses q) is
-    (inr (record { first = x; given = read.bounds; second =
-    inr (record { first = p; given = read.program; second =
-    inr (record { first = tt; given = λ differ. differ same; second = inl h }) }) }))
+    (inr (record {
+      first = x;
+      given = read.bounds;
+      second =
+          inr (record {
+            first = p;
+            given = read.program;
+            second =
+                inr (record { first = tt; given = λ differ. differ same; second = inl h });
+          });
+    }))
 
 pub run_given : (w : RunWords) (ts : List (List ℕ)) (a b : List ℕ) (x : Bounds) (p : Typed) (vs : List Value) → a ∷ b ∷ [] ≡ ts → ReadRun a b x p
     → length w.values ≡ length x.params → (values_step 1 x.params w.values).gives vs → (run_step w ts).gives (run_outcome x.limits p.program x.entry vs)
 run_given w ts a b x p vs is read same values = subst (λ us. (run_step w us).gives (run_outcome x.limits p.program x.entry vs)) is
-    (record { first = x; given = read.bounds; second =
-    record { first = p; given = read.program; second =
-    record { first = tt; given = λ differ. differ same; second =
-    record { first = vs; given = values; second = refl } } } })
+    (record {
+      first = x;
+      given = read.bounds;
+      second =
+          record {
+            first = p;
+            given = read.program;
+            second =
+                record {
+                  first = tt;
+                  given = λ differ. differ same;
+                  second =
+                      record { first = vs; given = values; second = refl };
+                };
+          };
+    })

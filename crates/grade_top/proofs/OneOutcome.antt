@@ -11,7 +11,6 @@ use Rattle.mpy_tree.specs.Syntax.{Routine}
 use Rattle.bounds_reader.specs.declared.params.Param.{Param}
 use Rattle.input_space.specs.Cases.{SpellsCase}
 use Rattle.input_space.proofs.OneCase.{one_case}
-
 use Rattle.source_files.specs.Files.{SourceFile}
 use Rattle.source_files.specs.Texts.{AllFit, IsFirstLong, IsTooLong}
 use Rattle.task_read.specs.Sources.{entry_at}

@@ -73,9 +73,17 @@ in_three : (a b c d : List ℕ) (x : Bounds) (r s : Typed) → ReadThree a b c x
     → ((rules_step d s.program) >>= (λ e. refuse_if (result_type x.entry r ≢ result_type x.entry s) (refusal source.Submission cause.ResultType (entry_line (task x r s e) s.program)) >>= (λ t. done (task x r s e)))).refuses q
     → (task_step (a ∷ b ∷ c ∷ d ∷ [])).refuses q
 in_three a b c d x r s read q h =
-    inr (record { first = x; given = read.bounds; second =
-    inr (record { first = r; given = read.reference; second =
-    inr (record { first = s; given = read.submission; second = h }) }) })
+    inr (record {
+      first = x;
+      given = read.bounds;
+      second =
+          inr (record {
+            first = r;
+            given = read.reference;
+            second =
+                inr (record { first = s; given = read.submission; second = h });
+          });
+    })
 
 pub at_rules : (ts : List (List ℕ)) (a b c d : List ℕ) (x : Bounds) (r s : Typed) → a ∷ b ∷ c ∷ d ∷ [] ≡ ts → ReadThree a b c x r s
     → (q : Refusal) → (rules_step d s.program).refuses q → (task_step ts).refuses q
@@ -92,11 +100,27 @@ at_results ts a b c d x r s e is read rules differ =
 pub task_given : (ts : List (List ℕ)) (a b c d : List ℕ) (x : Bounds) (r s : Typed) (e : List Rule) → a ∷ b ∷ c ∷ d ∷ [] ≡ ts → ReadThree a b c x r s
     → (rules_step d s.program).gives e → (result_type x.entry r ≢ result_type x.entry s → ⊥) → (task_step ts).gives (task x r s e)
 task_given ts a b c d x r s e is read rules same = subst (λ us. (task_step us).gives (task x r s e)) is
-    (record { first = x; given = read.bounds; second =
-    record { first = r; given = read.reference; second =
-    record { first = s; given = read.submission; second =
-    record { first = e; given = rules; second =
-    record { first = tt; given = same; second = refl } } } } })
+    (record {
+      first = x;
+      given = read.bounds;
+      second =
+          record {
+            first = r;
+            given = read.reference;
+            second =
+                record {
+                  first = s;
+                  given = read.submission;
+                  second =
+                      record {
+                        first = e;
+                        given = rules;
+                        second =
+                            record { first = tt; given = same; second = refl };
+                      };
+                };
+          };
+    })
 
 -- RULES AND VALUES
 
@@ -121,11 +145,11 @@ read_on ps ws i vs p w v is word value before =
     record {
       gives = λ rest given.
           let here : (values_step (i + 1) (p ∷ drop (i + 1) ps) (w ∷ drop (i + 1) ws)).gives (v ∷ rest) =
-              record { first = v; given = value; second = record { first = rest; given = subst (λ n. (values_step n (drop (i + 1) ps) (drop (i + 1) ws)).gives rest) next given; second = refl } } in
+          record { first = v; given = value; second = record { first = rest; given = subst (λ n. (values_step n (drop (i + 1) ps) (drop (i + 1) ws)).gives rest) next given; second = refl } } in
           subst (values_step 1 ps ws).gives (sym (append_assoc vs (v ∷ []) rest)) (before.gives (v ∷ rest) (rw (is, word) here));
       refuses = λ r refused.
           let here : (values_step (i + 1) (p ∷ drop (i + 1) ps) (w ∷ drop (i + 1) ws)).refuses r =
-              inr (record { first = v; given = value; second = inl (subst (λ n. (values_step n (drop (i + 1) ps) (drop (i + 1) ws)).refuses r) next refused) }) in
+          inr (record { first = v; given = value; second = inl (subst (λ n. (values_step n (drop (i + 1) ps) (drop (i + 1) ws)).refuses r) next refused) }) in
           before.refuses r (rw (is, word) here);
     }
 

@@ -51,7 +51,7 @@ costs_something : (k : Task) (j cost : ℕ) (f : code.Failure) → IsSound k →
 costs_something k j zero f sound found fails =
     let made = (selections_are_rewritings k.rules k.submission sound.taken).sound j in
     let same : Chosen k j ≡ k.submission = free k.rules k.submission (Chosen k j) (program_edits (alternatives k.rules) k.submission j) sound.rules
-        (subst (λ n. IsRewriting k.rules k.submission (Chosen k j) n (program_edits (alternatives k.rules) k.submission j)) (sym found.cost_is) made) in
+    (subst (λ n. IsRewriting k.rules k.submission (Chosen k j) n (program_edits (alternatives k.rules) k.submission j)) (sym found.cost_is) made) in
     let right : Agrees k.bounds k.reference k.submission = subst (Agrees k.bounds k.reference) same found.agrees in
     absurd (fails.differ (sym fails.submission ∙ right f.case.values f.wanted fails.is_input fails.reference))
 costs_something k j (suc n) f sound found fails = omega arith

@@ -74,11 +74,7 @@ fn fetch<S: Shelf>(
 }
 
 /// What is written of what the texts of the command's files decide.
-fn report_for(
-    alloc: Global,
-    command: &Command<'_>,
-    texts: &[Vec<u8>],
-) -> Result<Report, Stop>
+fn report_for(alloc: Global, command: &Command<'_>, texts: &[Vec<u8>]) -> Result<Report, Stop>
     requires files { length texts.now ≡ length (files_of (command_of command.now)) }
     requires fit { AllFit (texts_of texts.now) }
     ensures { MatchResult result (IsReport (command_of command.now) (texts_of texts.now))

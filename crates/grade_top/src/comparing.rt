@@ -37,7 +37,14 @@ impl Comparison<'_> {
             case.now.values) }
     {
         let bounds = self.bounds;
-        run(self.alloc, program, types, &bounds.limits, &bounds.entry, &case.values)
+        run(
+            self.alloc,
+            program,
+            types,
+            &bounds.limits,
+            &bounds.entry,
+            &case.values,
+        )
     }
 
     // The value that the reference gives on a case, where it gives one.

@@ -50,7 +50,11 @@ fn only(mut values: Vec<Value>) -> Option<Value>
     ensures { MatchOption result ((v : AnyValue) → values.items ≢ v ∷ [])
         (λ v. values.items ≡ v ∷ []) }
 {
-    if values.len() == 1 { values.pop() } else { None }
+    if values.len() == 1 {
+        values.pop()
+    } else {
+        None
+    }
 }
 
 /// The value of a number, for a parameter.
@@ -108,7 +112,14 @@ fn outcome(alloc: Global, words: &RunWords<'_>, texts: &[Vec<u8>]) -> Result<Out
     }
     let values = read_values(alloc, bounds.params.items(), words.values)?;
     let (program, types) = (&typed.program, &typed.types);
-    Ok(run(alloc, program, types, &bounds.limits, &bounds.entry, &values)?)
+    Ok(run(
+        alloc,
+        program,
+        types,
+        &bounds.limits,
+        &bounds.entry,
+        &values,
+    )?)
 }
 
 /// What is written of a run.

@@ -43,7 +43,9 @@ impl Search<'_> {
         requires { IsSmall self.now }
         ensures { IfOk result (λ b. IsTrue b ↔ SelectionAgrees self.now selection) }
     {
-        let program = self.corrections.program_of(self.comparison.alloc, selection)?;
+        let program = self
+            .corrections
+            .program_of(self.comparison.alloc, selection)?;
         let failure = self.comparison.first_failure(&program, self.types)?;
         Ok(failure.is_none())
     }

@@ -90,7 +90,9 @@ impl<'a> Corrections<'a> {
         let Some(it) = find_returned(self.program) else {
             return copy_prog(alloc, self.program);
         };
-        let (body, _) = self.rewritings(it.line).rewritten(alloc, it.body, selection)?;
+        let (body, _) = self
+            .rewritings(it.line)
+            .rewritten(alloc, it.body, selection)?;
         program_returning(alloc, &it, body)
     }
 
@@ -102,7 +104,8 @@ impl<'a> Corrections<'a> {
     {
         let mut edits = Vec::new(alloc);
         if let Some(it) = find_returned(self.program) {
-            self.rewritings(it.line).push_edits(&mut edits, it.body, selection)?;
+            self.rewritings(it.line)
+                .push_edits(&mut edits, it.body, selection)?;
         }
         Ok(edits)
     }
