@@ -1,0 +1,12 @@
+pub mod Complete
+pub mod CostLaws
+pub mod Enough
+pub mod Giving
+pub mod Lists
+pub mod Numbers
+pub mod Opening
+pub mod PlainParts
+pub mod SelectionLaws
+pub mod Sound
+pub mod Types
+pub mod Within

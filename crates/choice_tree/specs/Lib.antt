@@ -1,0 +1,14 @@
+pub mod Choices
+pub mod Contexts
+pub mod Costs
+pub mod Drafts
+pub mod Growing
+pub mod Matching
+pub mod Rewriting
+pub mod RuleViews
+pub mod Selections
+pub mod StatementViews
+pub mod Templates
+pub mod Typing
+pub mod WeightedTrees
+pub mod WeightedViews

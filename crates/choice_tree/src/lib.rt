@@ -1,0 +1,24 @@
+//! Weighted trees, their selections, and the rules of error models.
+#![tactic(auto)]
+
+mod cost;
+mod laws;
+mod plain;
+mod rules;
+mod selection;
+mod tree;
+
+pub use cost::cost_expr;
+pub use laws::selections_are_rewritings;
+pub use plain::plain_expr;
+pub use rules::{
+    ArithOps, CmpOps, Meta, PArith, PCmp, PExpr, PExprs, Pattern, Place, Right, Rule, Rules,
+};
+pub use selection::{Choice, Selection};
+use std::alloc::AllocError;
+pub use tree::{
+    Other, Others, WAct, WArm, WArms, WExpr, WExprs, WFunc, WFuncs, WProg, WStmt, WStmts,
+};
+
+/// Want of memory, where a call has no other refusal.
+pub type NoMemory = AllocError;

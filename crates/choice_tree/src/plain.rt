@@ -1,0 +1,119 @@
+//! The plain tree of a selection.
+ghost use Rattle.std.specs.Prelude.{◌≡◌, IfOk, option_map};
+ghost use Rattle.mpy_tree.specs.View.{term_of, terms_of, end_by};
+ghost use Rattle.mpy_tree.specs.Shapes.{shape, shapes, shape_and};
+ghost use Rattle.mpy_tree.specs.Trees.{no_trees};
+ghost use Rattle.choice_tree.specs.Choices.{member_of};
+ghost use Rattle.choice_tree.specs.Selections.{plain, plains, other_plains, other_at};
+ghost use Rattle.choice_tree.specs.WeightedViews.{weighted_of, weighteds_of, others_of, end_and};
+ghost use Rattle.choice_tree.specs.WeightedTrees.{no_weighted};
+
+use crate::NoMemory;
+use crate::selection::Selection;
+use crate::tree::{Others, WExpr, WExprs};
+use mpy_tree::{Expr, Exprs};
+use std::alloc::Global;
+
+/// The expression that a selection makes of a weighted one.
+#[cycle(plain)]
+pub fn plain_expr(alloc: Global, w: &WExpr, s: &Selection) -> Result<Expr, NoMemory>
+    ensures { IfOk result (λ r. shape (term_of r) ≡ plain (member_of s.now) (weighted_of w.now)) }
+{
+    match w {
+        WExpr::Int(n) => Ok(Expr::Int(*n)),
+        WExpr::Bool(b) => Ok(Expr::Bool(*b)),
+        WExpr::Text(t) => Ok(Expr::Text(t.copy()?)),
+        WExpr::Name(x) => Ok(Expr::Name(x.copy()?)),
+        WExpr::List(es) => Ok(Expr::List(plain_exprs(alloc, es, s)?)),
+        WExpr::Neg(a) => Ok(Expr::Neg(plain_boxed(alloc, a, s)?)),
+        WExpr::Not(a) => Ok(Expr::Not(plain_boxed(alloc, a, s)?)),
+        WExpr::Arith(op, a, b) => Ok(Expr::Arith(
+            *op,
+            plain_boxed(alloc, a, s)?,
+            plain_boxed(alloc, b, s)?,
+        )),
+        WExpr::Cmp(op, a, b) => Ok(Expr::Cmp(
+            *op,
+            plain_boxed(alloc, a, s)?,
+            plain_boxed(alloc, b, s)?,
+        )),
+        WExpr::And(a, b) => Ok(Expr::And(plain_boxed(alloc, a, s)?, plain_boxed(alloc, b, s)?)),
+        WExpr::Or(a, b) => Ok(Expr::Or(plain_boxed(alloc, a, s)?, plain_boxed(alloc, b, s)?)),
+        WExpr::Cond { test, yes, no } => Ok(Expr::Cond {
+            test: plain_boxed(alloc, test, s)?,
+            yes: plain_boxed(alloc, yes, s)?,
+            no: plain_boxed(alloc, no, s)?,
+        }),
+        WExpr::Index(a, b) => Ok(Expr::Index(plain_boxed(alloc, a, s)?, plain_boxed(alloc, b, s)?)),
+        WExpr::Slice(a, from, to) => Ok(Expr::Slice(
+            plain_boxed(alloc, a, s)?,
+            plain_end(alloc, from, s)?,
+            plain_end(alloc, to, s)?,
+        )),
+        WExpr::Call(f, es) => Ok(Expr::Call(f.copy()?, plain_exprs(alloc, es, s)?)),
+        WExpr::Pick {
+            number,
+            base,
+            others,
+        } => match plain_other(alloc, others, s.member(*number), s)? {
+            Some(made) => Ok(made),
+            None => plain_expr(alloc, base, s),
+        },
+    }
+}
+
+// The same of a member of a pick besides its base, if there is one of this number.
+#[cycle(plain)]
+fn plain_other(
+    alloc: Global,
+    others: &Others,
+    member: u32,
+    s: &Selection,
+) -> Result<Option<Expr>, NoMemory>
+    ensures { IfOk result (λ r. option_map (λ e. shape (term_of e)) r ≡ other_at member (other_plains (member_of s.now) (others_of others.now))) }
+{
+    if member == 0 {
+        return Ok(None);
+    }
+    let place = member as usize - 1;
+    match others.items.get(place) {
+        None => Ok(None),
+        Some(other) => Ok(Some(plain_expr(alloc, &other.tree, s)?)),
+    }
+}
+
+// The same of an expression in a box.
+#[cycle(plain)]
+fn plain_boxed(alloc: Global, w: &WExpr, s: &Selection) -> Result<Box<Expr>, NoMemory>
+    ensures { IfOk result (λ r. shape (term_of r.value) ≡ plain (member_of s.now) (weighted_of w.now)) }
+{
+    let made = plain_expr(alloc, w, s)?;
+    Ok(Box::new(alloc, made)?)
+}
+
+// The same of an end of a slice.
+#[cycle(plain)]
+fn plain_end(
+    alloc: Global,
+    w: &Option<Box<WExpr>>,
+    s: &Selection,
+) -> Result<Option<Box<Expr>>, NoMemory>
+    ensures { IfOk result (λ r. shape_and (end_by (λ b. term_of b.value) r) no_trees ≡ plains (member_of s.now) (end_and (λ b. weighted_of b.value) w.now no_weighted)) }
+{
+    match w {
+        None => Ok(None),
+        Some(w) => Ok(Some(plain_boxed(alloc, w, s)?)),
+    }
+}
+
+// The same of a list of expressions.
+#[cycle(plain)]
+fn plain_exprs(alloc: Global, ws: &WExprs, s: &Selection) -> Result<Exprs, NoMemory>
+    ensures { IfOk result (λ r. shapes (terms_of r) ≡ plains (member_of s.now) (weighteds_of ws.now)) }
+{
+    let mut made = Vec::new(alloc);
+    for w in &ws.items {
+        made.push(plain_expr(alloc, w, s)?)?;
+    }
+    Ok(Exprs::from_vec(made))
+}
