@@ -28,6 +28,5 @@ made_by_selections g s keeps =
       selected = λ u n es made.
           let a = selected w 0 0 u n es (complete made keeps (steps t) (omega arith)) in
           let x = a.gives (member_of a.selection) (λ p lo hi. refl) in
-          let given = record { tree = x.0; cost_is = x.1; edits_are = x.2 } in
-          (a.selection, (a.rises, a.names), given);
+          (a.selection, (a.rises, a.names), record { tree = x.0; cost_is = x.1; edits_are = x.2 });
     }

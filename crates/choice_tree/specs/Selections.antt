@@ -24,7 +24,7 @@ chosen i base xs = unwrap_or (other_at i xs) base
 abbrev mutual
   pub plain : (ℕ → ℕ) → Weighted → Tree
   plain m (plainly k ws) = node k (plains m ws)
-  plain m (pick number base others) = chosen (m number) (plain m base) (other_plains m others)
+  plain m (pick number base os) = chosen (m number) (plain m base) (other_plains m os)
 
   pub plains : (ℕ → ℕ) → Weighteds → Trees
   plains m no_weighted = no_trees
@@ -38,7 +38,7 @@ abbrev mutual
 abbrev mutual
   pub cost : (ℕ → ℕ) → Weighted → ℕ
   cost m (plainly k ws) = costs m ws
-  cost m (pick number base others) = chosen (m number) (cost m base) (other_costs m others)
+  cost m (pick number base os) = chosen (m number) (cost m base) (other_costs m os)
 
   pub costs : (ℕ → ℕ) → Weighteds → ℕ
   costs m no_weighted = 0
@@ -52,8 +52,8 @@ abbrev mutual
 abbrev mutual
   pub edits : (ℕ → ℕ) → Weighted → ℕ → List Edit
   edits m (plainly k ws) line = edits_in m ws (line_below k line)
-  edits m (pick number base others) line =
-      chosen (m number) (edits m base line) (other_edits m others line (base_of base))
+  edits m (pick number base os) line =
+      chosen (m number) (edits m base line) (other_edits m os line (base_of base))
 
   pub edits_in : (ℕ → ℕ) → Weighteds → ℕ → List Edit
   edits_in m no_weighted line = []
@@ -72,9 +72,9 @@ count_others (other_and rule c w os) = suc (count_others os)
 abbrev mutual
   pub has_member : Weighted → ℕ → ℕ → Bool
   has_member (plainly k ws) p i = any_has_member ws p i
-  has_member (pick number base others) p i =
-      (number == p) && nat_le i (count_others others) || has_member base p i
-      || other_has_member others p i
+  has_member (pick number base os) p i =
+      (number == p) && nat_le i (count_others os) || has_member base p i
+      || other_has_member os p i
 
   pub any_has_member : Weighteds → ℕ → ℕ → Bool
   any_has_member no_weighted p i = false
@@ -92,7 +92,7 @@ Fits w s = Rises 0 s × NamesBy (has_member w) s
 abbrev mutual
   pub most_cost : Weighted → ℕ
   most_cost (plainly k ws) = most_costs ws
-  most_cost (pick number base others) = max (most_cost base) (other_most_cost others)
+  most_cost (pick number base os) = max (most_cost base) (other_most_cost os)
 
   pub most_costs : Weighteds → ℕ
   most_costs no_weighted = 0
@@ -106,8 +106,8 @@ abbrev mutual
 abbrev mutual
   pub choices : Weighted → ℕ
   choices (plainly k ws) = choices_in ws
-  choices (pick number base others) =
-      suc (count_others others) * (choices base * choices_in_others others)
+  choices (pick number base os) =
+      suc (count_others os) * (choices base * choices_in_others os)
 
   pub choices_in : Weighteds → ℕ
   choices_in no_weighted = 1

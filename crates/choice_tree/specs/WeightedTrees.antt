@@ -32,7 +32,7 @@ abbrev mutual
 abbrev mutual
   pub base_of : Weighted → Tree
   base_of (plainly k ws) = node k (bases_of ws)
-  base_of (pick number base others) = base_of base
+  base_of (pick number base os) = base_of base
 
   pub bases_of : Weighteds → Trees
   bases_of no_weighted = no_trees
@@ -45,7 +45,7 @@ node_size k = if is_expression k then 1 else 0
 abbrev mutual
   pub size : Weighted → ℕ
   size (plainly k ws) = node_size k + sizes ws
-  size (pick number base others) = 1 + (size base + other_sizes others)
+  size (pick number base os) = 1 + (size base + other_sizes os)
 
   pub sizes : Weighteds → ℕ
   sizes no_weighted = 0
@@ -59,7 +59,7 @@ abbrev mutual
 abbrev mutual
   pub picks : Weighted → ℕ
   picks (plainly k ws) = picks_in ws
-  picks (pick number base others) = suc (picks base + picks_in_others others)
+  picks (pick number base os) = suc (picks base + picks_in_others os)
 
   pub picks_in : Weighteds → ℕ
   picks_in no_weighted = 0
@@ -73,8 +73,8 @@ abbrev mutual
 abbrev mutual
   pub numbered : Weighted → ℕ → Weighted
   numbered (plainly k ws) from = plainly k (numbered_all ws from)
-  numbered (pick number base others) from =
-      pick from (numbered base (suc from)) (numbered_others others (suc from + picks base))
+  numbered (pick number base os) from =
+      pick from (numbered base (suc from)) (numbered_others os (suc from + picks base))
 
   pub numbered_all : Weighteds → ℕ → Weighteds
   numbered_all no_weighted from = no_weighted

@@ -42,23 +42,23 @@ has_end None = false
 has_end (Some b) = true
 
 abbrev pub wexpr_step : F.WExpr-F Weighted Member W.Others Weighteds → Weighted
-wexpr_step (F.Int n) = plainly (T.(kind.Int n)) no_weighted
-wexpr_step (F.Bool b) = plainly (T.(kind.Bool b)) no_weighted
-wexpr_step (F.Text t) = plainly (T.(kind.Text t)) no_weighted
-wexpr_step (F.Name x) = plainly (T.(kind.Name x)) no_weighted
-wexpr_step (F.List es) = plainly (T.kind.List) es
-wexpr_step (F.Neg e) = plainly (T.kind.Neg) (one e.value)
-wexpr_step (F.Not e) = plainly (T.kind.Not) (one e.value)
-wexpr_step (F.Arith op a b) = plainly (T.(kind.Arith op)) (two a.value b.value)
-wexpr_step (F.Cmp op a b) = plainly (T.(kind.Cmp op)) (two a.value b.value)
-wexpr_step (F.And a b) = plainly (T.kind.And) (two a.value b.value)
-wexpr_step (F.Or a b) = plainly (T.kind.Or) (two a.value b.value)
-wexpr_step (F.Cond t y n) = plainly (T.kind.Cond) (weighted_and y.value (two t.value n.value))
-wexpr_step (F.Index a b) = plainly (T.kind.Index) (two a.value b.value)
+wexpr_step (F.Int n) = plainly (kind.Int n) no_weighted
+wexpr_step (F.Bool b) = plainly (kind.Bool b) no_weighted
+wexpr_step (F.Text t) = plainly (kind.Text t) no_weighted
+wexpr_step (F.Name x) = plainly (kind.Name x) no_weighted
+wexpr_step (F.List es) = plainly kind.List es
+wexpr_step (F.Neg e) = plainly kind.Neg (one e.value)
+wexpr_step (F.Not e) = plainly kind.Not (one e.value)
+wexpr_step (F.Arith op a b) = plainly (kind.Arith op) (two a.value b.value)
+wexpr_step (F.Cmp op a b) = plainly (kind.Cmp op) (two a.value b.value)
+wexpr_step (F.And a b) = plainly kind.And (two a.value b.value)
+wexpr_step (F.Or a b) = plainly kind.Or (two a.value b.value)
+wexpr_step (F.Cond t y n) = plainly kind.Cond (weighted_and y.value (two t.value n.value))
+wexpr_step (F.Index a b) = plainly kind.Index (two a.value b.value)
 wexpr_step (F.Slice a f t) =
-    plainly (T.(kind.Slice (has_end f) (has_end t)))
+    plainly (kind.Slice (has_end f) (has_end t))
     (weighted_and a.value (end_and (λ b. b.value) f (end_and (λ b. b.value) t no_weighted)))
-wexpr_step (F.Call x es) = plainly (T.(kind.Call x)) es
+wexpr_step (F.Call x es) = plainly (kind.Call x) es
 wexpr_step (F.Pick number base others) = W.pick number base.value others
 
 abbrev pub wexprs_step : F.WExprs-F Weighted Member W.Others Weighteds → Weighteds
