@@ -1,6 +1,6 @@
 -- A selection costs no more than all members together.
 use Rattle.std.proofs.Common.{◌≡◌, ℕ, zero, suc, ◌+◌, ◌-◌, ◌<◌, ◌≤◌, min, List, [], ◌∷◌, map}
-use Rattle.std.proofs.Common.{length, get_or, drop, Option, Some, None, option_map, refl, ap, sym}
+use Rattle.std.proofs.Common.{length, get_or, drop, slice_get, Option, Some, None, option_map, refl, ap, sym}
 use Rattle.std.proofs.Common.{◌∙◌, arith}
 use Rattle.std.specs.Option.{unwrap_or}
 use Rattle.choice_tree.specs.declared.tree.WExpr.{WExpr}
@@ -11,7 +11,9 @@ use Rattle.choice_tree.specs.WeightedTrees.{weighted_and, no_others, other_and}
 use Rattle.choice_tree.specs.WeightedViews.{weighted_of, weighteds, member_seen, members, others_of}
 use Rattle.choice_tree.specs.Selections.{cost, costs, other_costs, other_at, chosen}
 use Rattle.choice_tree.specs.Costs.{capped, all_costs, all_costs_in, all_other_costs}
-use Rattle.choice_tree.proofs.Opening.{others_of_is, member_is}
+use Rattle.choice_tree.specs.declared.node.Pick.{Pick}
+use Rattle.choice_tree.specs.NodeViews.{own_pick, pick_of}
+use Rattle.choice_tree.proofs.Opening.{member_is}
 
 chosen_within : (i base n : ℕ) (xs : List ℕ) (most : ℕ) → base ≤ most
     → ((k d : ℕ) → k < length xs → get_or xs k d ≤ most) → chosen i base xs ≤ most
@@ -27,7 +29,7 @@ mutual
   cost_within m (pick number base os) =
       let b = cost_within m base in
       chosen_within (m number) (cost m base) 0 (other_costs m os)
-          (all_costs base + all_other_costs os) (omega arith)
+      (all_costs base + all_other_costs os) (omega arith)
       (λ k d below. let one = other_within m os k d below in omega arith)
 
   costs_within : (m : ℕ → ℕ) (ws : Weighteds) → costs m ws ≤ all_costs_in ws
@@ -42,36 +44,33 @@ mutual
   other_within m (other_and rule c w os) (suc k) d below = let a =
       other_within m os k d (omega arith) in omega arith
 
--- the costs of the members of a pick
-cost_in : (m : ℕ → ℕ) (os : List Other) (i : ℕ) (d : Other) → i < length os
-    → other_at (suc i) (other_costs m (members (map member_seen os))) ≡ Some
-    ((member_seen (get_or os i d)).cost + cost m (member_seen (get_or os i d)).tree)
-cost_in m [] i d h = absurd (omega arith)
-cost_in m (x ∷ os) zero d h = refl
-cost_in m (x ∷ os) (suc i) d h = cost_in m os i d (omega arith)
+-- the cost of a pick, by the member that is chosen
+abbrev pub cost_by : (ℕ → ℕ) → Weighted → Option Other → ℕ
+cost_by m base None = cost m base
+cost_by m base (Some o) = o.cost + cost m (weighted_of o.tree)
 
-none_in : (m : ℕ → ℕ) (os : List Other) (i : ℕ) → length os ≤ i
-    → other_at (suc i) (other_costs m (members (map member_seen os))) ≡ None
-none_in m [] i h = refl
-none_in m (x ∷ os) zero h = absurd (omega arith)
-none_in m (x ∷ os) (suc i) h = none_in m os i (omega arith)
+chosen_in : (m : ℕ → ℕ) (base : Weighted) (os : List Other) (i : ℕ) (o : Option Other)
+    → o ≡ slice_get os i
+    → cost_by m base o ≡ chosen (suc i) (cost m base) (other_costs m (members (map member_seen os)))
+chosen_in m base [] i o h = rw h refl
+chosen_in m base (x ∷ os) zero o h =
+    rw h (ap (λ y. y.cost + cost m y.tree) (sym (member_is x)))
+chosen_in m base (x ∷ os) (suc i) o h = chosen_in m base os i o h
 
-pub chosen_cost : (m : ℕ → ℕ) (os : CodeOthers) (xs : List Other) (k i : ℕ) (d : Other)
-    → xs ≡ (out-Others os).items.items → i < length xs → d ≡ get_or xs i d → k ≡ suc i
-    → other_at k (other_costs m (others_of os)) ≡ Some (d.cost + cost m (weighted_of d.tree))
-chosen_cost m os xs k i d x h g e =
-    rw (e, others_of_is os, ← x)
-    (cost_in m xs i d h ∙ ap (λ o. Some ((member_seen o).cost + cost m (member_seen o).tree))
-    (sym g) ∙ ap (λ o. Some (o.cost + cost m o.tree)) (member_is d))
+pub chosen_cost : (m : ℕ → ℕ) (base : Weighted) (os : List Other) (k : ℕ) (o : Option Other)
+    → o ≡ other_at k os
+    → cost_by m base o ≡ chosen k (cost m base) (other_costs m (members (map member_seen os)))
+chosen_cost m base os zero o h = rw h refl
+chosen_cost m base os (suc i) o h = chosen_in m base os i o h
 
-pub no_cost : (m : ℕ → ℕ) (os : CodeOthers) (xs : List Other) (k i : ℕ)
-    → xs ≡ (out-Others os).items.items → length xs ≤ i → k ≡ suc i
-    → other_at k (other_costs m (others_of os)) ≡ None
-no_cost m os xs k i x h e = rw (e, others_of_is os, ← x) (none_in m xs i h)
-
-pub none_left : (m : ℕ → ℕ) (ws : List WExpr) (i : ℕ) → length ws ≤ i
-    → costs m (weighteds (map weighted_of (drop i ws))) ≡ 0
-none_left m [] zero h = refl
-none_left m [] (suc i) h = refl
-none_left m (w ∷ ws) zero h = absurd (omega arith)
-none_left m (w ∷ ws) (suc i) h = none_left m ws i (omega arith)
+-- the cost of a node that is a pick
+pub pick_cost : (m : ℕ → ℕ) (w : Weighted) (p : Pick) (o : Option Other)
+    → Some (pick_of p) ≡ own_pick w → o ≡ other_at (m p.number) p.others.now
+    → cost m w ≡ cost_by m (weighted_of p.base.now) o
+pick_cost m (plainly k ws) p o h e = cc
+pick_cost m (pick number base os) p o h e =
+    let same : pick_of p ≡ record { number = number; base = base; others = os } = cc in
+    let n : p.number ≡ number = ap (λ q. q.number) same in
+    let b : weighted_of p.base.now ≡ base = ap (λ q. q.base) same in
+    let a : members (map member_seen p.others.now) ≡ os = ap (λ q. q.others) same in
+    rw (← n, ← b, ← a) (sym (chosen_cost m (weighted_of p.base.now) p.others.now (m p.number) o e))

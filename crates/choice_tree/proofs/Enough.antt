@@ -48,7 +48,7 @@ mutual
       → draft_grown g one d c ≡ draft_grown g other d c
   draft_same g f h one other same (as_is k ds) c a b =
       λ j. if copies c (filled (as_is k ds)) then lifted (copy_of (filled (as_is k ds))) else
-          plainly k (drafts_same g f h one other same ds k 0 c a b j)
+      plainly k (drafts_same g f h one other same ds k 0 c a b j)
   draft_same g f h one other same (again t) c a b = same elsewhere c t (omega arith) (omega arith)
 
   drafts_same : (g : Setting) (f h : ℕ) (one other : Growing) → Same f h one other
@@ -83,38 +83,38 @@ both_same : (g : Setting) (f h : ℕ) (one other : Growing) → Same f h one oth
     → (base base' : Weighted) → base ≡ base'
     → (around : Place → Option Bindings) (c : Context) (t : Tree)
     → Each (λ p. Within f p.draft) (proposals around c.scope g.rules t)
-        → Each (λ p. Within h p.draft) (proposals around c.scope g.rules t)
+    → Each (λ p. Within h p.draft) (proposals around c.scope g.rules t)
     → picked base (members g one (inside c) (alternatives g around c t)) ≡ picked base'
-        (members g other (inside c) (alternatives g around c t))
+    (members g other (inside c) (alternatives g around c t))
 both_same g f h one other same base base' e around c t a b =
     let test = is_alternative c.scope t in
     let ps = proposals around c.scope g.rules t in
     let others =
-        members_same g f h one other same (inside c) (alternatives g around c t)
-        (each_filter (λ p. Within f p.draft) test ps a)
-        (each_filter (λ p. Within h p.draft) test ps b) in
+    members_same g f h one other same (inside c) (alternatives g around c t)
+    (each_filter (λ p. Within f p.draft) test ps a)
+    (each_filter (λ p. Within h p.draft) test ps b) in
     λ j. picked (e j) (others j)
 
 site_same : (g : Setting) (f h : ℕ) (one other : Growing) → Same f h one other
     → (site : Site) (c : Context) (t : Tree) → steps t + 1 ≤ suc f → steps t + 1 ≤ suc h
     → picked (one elsewhere c t) (members g one (inside c) (alternatives g (with_place site) c t)) ≡
-        picked (other elsewhere c t)
-        (members g other (inside c) (alternatives g (with_place site) c t))
+    picked (other elsewhere c t)
+    (members g other (inside c) (alternatives g (with_place site) c t))
 site_same g f h one other same site c t a b =
     both_same g f h one other same (one elsewhere c t) (other elsewhere c t)
-        (same elsewhere c t (omega arith) (omega arith)) (with_place site) c t
-        (placed_within f site c.scope g.rules t (omega arith))
-        (placed_within h site c.scope g.rules t (omega arith))
+    (same elsewhere c t (omega arith) (omega arith)) (with_place site) c t
+    (placed_within f site c.scope g.rules t (omega arith))
+    (placed_within h site c.scope g.rules t (omega arith))
 
 pub enough : (g : Setting) → KeepPrimes g.rules → (f h : ℕ) → Same f h (grown g f) (grown g h)
 enough g keeps zero h site c (node k ts) a b = absurd (omega arith)
 enough g keeps (suc f) zero site c (node k ts) a b = absurd (omega arith)
 enough g keeps (suc f) (suc h) elsewhere c t a b =
     both_same g f h (grown g f) (grown g h) (enough g keeps f h) (node_grown g (grown g f) c t)
-        (node_grown g (grown g h) c t)
-        (node_same g f h (grown g f) (grown g h) (enough g keeps f h) c t (omega arith)
-        (omega arith)) without_place c t
+    (node_grown g (grown g h) c t)
+    (node_same g f h (grown g f) (grown g h) (enough g keeps f h) c t (omega arith)
+    (omega arith)) without_place c t
     (alternatives_within f c.scope g.rules t keeps (omega arith))
-        (alternatives_within h c.scope g.rules t keeps (omega arith))
+    (alternatives_within h c.scope g.rules t keeps (omega arith))
 enough g keeps (suc f) (suc h) site c t a b =
     site_same g f h (grown g f) (grown g h) (enough g keeps f h) site c t a b

@@ -55,9 +55,12 @@ mutual
   lifted_all_give (tree_and u us) line ts n es h =
       let p = h.0 in
       let a = lifted_gives u line p.tree p.cost p.edits h.4 in
-      let b = lifted_all_give us line p.trees p.costs p.more h.5 in
-      (h.1 ∙ (λ i. tree_and (a.0 i) (b.0 i)), h.2 ∙ (λ i. a.1 i + b.1 i), h.3 ∙
-          (λ i. a.2 i ++ b.2 i))
+      let b = lifted_all_give us line p.trees p.costs p.more h.5 in (
+        h.1 ∙ (λ i. tree_and (a.0 i) (b.0 i)),
+        h.2 ∙ (λ i. a.1 i + b.1 i),
+        h.3 ∙
+            (λ i. a.2 i ++ b.2 i),
+      )
 
 mutual
   pub lifted_given : (u : Tree) (line : ℕ) → Gives (lifted u) line u 0 []
@@ -65,9 +68,14 @@ mutual
 
   pub lifted_all_given : (us : Trees) (line : ℕ) → GivesAll (lifted_all us) line us 0 []
   lifted_all_given no_trees line = (refl, refl, refl)
-  lifted_all_given (tree_and u us) line =
-      (record { tree = u; trees = us; cost = 0; costs = 0; edits = []; more = [] }, refl, refl,
-      refl, lifted_given u line, lifted_all_given us line)
+  lifted_all_given (tree_and u us) line = (
+    record { tree = u; trees = us; cost = 0; costs = 0; edits = []; more = [] },
+    refl,
+    refl,
+    refl,
+    lifted_given u line,
+    lifted_all_given us line,
+  )
 
 mutual
   pub base_lifted : (u : Tree) → base_of (lifted u) ≡ u

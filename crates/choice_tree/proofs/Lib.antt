@@ -5,8 +5,10 @@ pub mod Giving
 pub mod Lists
 pub mod Numbers
 pub mod Opening
+pub mod Places
 pub mod PlainParts
 pub mod SelectionLaws
 pub mod Sound
 pub mod Types
+pub mod Walking
 pub mod Within

@@ -39,8 +39,8 @@ mutual
   choice_given (pick number w os) from m line =
       let os' = numbered_others os (suc from + picks w) in
       elim (member_given os (suc from + picks w) m line (base_of (numbered w (suc from))) (m from) w
-          (plain m (numbered w (suc from))) (cost m (numbered w (suc from)))
-          (edits m (numbered w (suc from)) line) (choice_given w (suc from) m line)) [
+      (plain m (numbered w (suc from))) (cost m (numbered w (suc from)))
+      (edits m (numbered w (suc from)) line) (choice_given w (suc from) m line)) [
         | inl base ↦ inl base
         | inr other ↦ inr (subst
             (λ old. GivesOther os line old (plain m (numbered (pick number w os) from))
@@ -54,30 +54,47 @@ mutual
   choices_given no_weighted from m line = (refl, refl, refl)
   choices_given (weighted_and w ws) from m line =
       let w' = numbered w from in
-      let ws' = numbered_all ws (from + picks w) in
-      (record { tree = plain m w'; trees = plains m ws'; cost = cost m w'; costs =
-          costs m ws'; edits = edits m w' line; more = edits_in m ws' line }, refl, refl, refl,
-          choice_given w from m line, choices_given ws (from + picks w) m line)
+      let ws' = numbered_all ws (from + picks w) in (
+        record {
+          tree = plain m w';
+          trees = plains m ws';
+          cost = cost m w';
+          costs =
+              costs m ws';
+          edits = edits m w' line;
+          more = edits_in m ws' line;
+        },
+        refl,
+        refl,
+        refl,
+        choice_given w from m line,
+        choices_given ws (from + picks w) m line,
+      )
 
   member_given : (os : Others) (from : ℕ) (m : ℕ → ℕ) (line : ℕ) (old : Tree) (i : ℕ)
       (base : Weighted) (t : Tree) (n : ℕ) (es : List Edit) → Gives base line t n es
       → Gives base line (chosen i t (other_plains m (numbered_others os from)))
-          (chosen i n (other_costs m (numbered_others os from)))
-          (chosen i es (other_edits m (numbered_others os from) line old))
+      (chosen i n (other_costs m (numbered_others os from)))
+      (chosen i es (other_edits m (numbered_others os from) line old))
       ⊎ GivesOther os line old (chosen i t (other_plains m (numbered_others os from)))
-          (chosen i n (other_costs m (numbered_others os from)))
-          (chosen i es (other_edits m (numbered_others os from) line old))
+      (chosen i n (other_costs m (numbered_others os from)))
+      (chosen i es (other_edits m (numbered_others os from) line old))
   member_given os from m line old zero b t n es base = inl base
   member_given no_others from m line old (suc i) b t n es base = inl base
   member_given (other_and rule c w os) from m line old (suc zero) b t n es base =
       let w' = numbered w from in
-      inr (inl (record { cost = cost m w'; edits = edits m w' line }, refl, refl, choice_given w
-          from m line))
+      inr (inl (
+        record { cost = cost m w'; edits = edits m w' line },
+        refl,
+        refl,
+        choice_given w
+            from m line,
+      ))
   member_given (other_and rule c w os) from m line old (suc (suc i)) b t n es base =
       elim (member_given os (from + picks w) m line old (suc i) b t n es base) [
-    | inl base ↦ inl base
-    | inr other ↦ inr (inr other)
-  ]
+        | inl base ↦ inl base
+        | inr other ↦ inr (inr other)
+      ]
 
 -- each pick is below a number
 abbrev pub Ends : List Choice → ℕ → Type 0
@@ -161,39 +178,39 @@ agrees_right m s u from mid to h e a = λ p lo hi. a p (omega arith) hi ∙ memb
 
 -- A selection that gives this from the picks of a tree, with whatever members elsewhere.
 pub record Selected (w : Weighted) (from line : ℕ) (t : Tree) (n : ℕ) (es : List Edit) : Type 0
-    where
-  pub selection : List Choice
-  pub rises : Rises from selection
-  pub ends : Ends selection (from + picks w)
-  pub names : NamesBy (has_member (numbered w from)) selection
-  pub gives : (m : ℕ → ℕ) → Agrees m selection from (from + picks w)
-      → (plain m (numbered w from) ≡ t) × (cost m (numbered w from) ≡ n)
-      × (edits m (numbered w from) line ≡ es)
+  where
+    pub selection : List Choice
+    pub rises : Rises from selection
+    pub ends : Ends selection (from + picks w)
+    pub names : NamesBy (has_member (numbered w from)) selection
+    pub gives : (m : ℕ → ℕ) → Agrees m selection from (from + picks w)
+        → (plain m (numbered w from) ≡ t) × (cost m (numbered w from) ≡ n)
+        × (edits m (numbered w from) line ≡ es)
 
 record SelectedAll (ws : Weighteds) (from line : ℕ) (ts : Trees) (n : ℕ) (es : List Edit) : Type 0
-    where
-  pub selection : List Choice
-  pub rises : Rises from selection
-  pub ends : Ends selection (from + picks_in ws)
-  pub names : NamesBy (any_has_member (numbered_all ws from)) selection
-  pub gives : (m : ℕ → ℕ) → Agrees m selection from (from + picks_in ws)
-      → (plains m (numbered_all ws from) ≡ ts) × (costs m (numbered_all ws from) ≡ n)
-      × (edits_in m (numbered_all ws from) line ≡ es)
+  where
+    pub selection : List Choice
+    pub rises : Rises from selection
+    pub ends : Ends selection (from + picks_in ws)
+    pub names : NamesBy (any_has_member (numbered_all ws from)) selection
+    pub gives : (m : ℕ → ℕ) → Agrees m selection from (from + picks_in ws)
+        → (plains m (numbered_all ws from) ≡ ts) × (costs m (numbered_all ws from) ≡ n)
+        × (edits_in m (numbered_all ws from) line ≡ es)
 
 -- the same of one of these members, counted from 0
 record SelectedOther (os : Others) (from line : ℕ) (old t : Tree) (n : ℕ) (es : List Edit) : Type 0
-    where
-  pub index : ℕ
-  pub there : index < count_others (numbered_others os from)
-  pub selection : List Choice
-  pub rises : Rises from selection
-  pub ends : Ends selection (from + picks_in_others os)
-  pub names : NamesBy (other_has_member (numbered_others os from)) selection
-  pub gives : (m : ℕ → ℕ) (u : Tree) (k : ℕ) (fs : List Edit)
-      → Agrees m selection from (from + picks_in_others os)
-      → (chosen (suc index) u (other_plains m (numbered_others os from)) ≡ t)
-          × (chosen (suc index) k (other_costs m (numbered_others os from)) ≡ n)
-          × (chosen (suc index) fs (other_edits m (numbered_others os from) line old) ≡ es)
+  where
+    pub index : ℕ
+    pub there : index < count_others (numbered_others os from)
+    pub selection : List Choice
+    pub rises : Rises from selection
+    pub ends : Ends selection (from + picks_in_others os)
+    pub names : NamesBy (other_has_member (numbered_others os from)) selection
+    pub gives : (m : ℕ → ℕ) (u : Tree) (k : ℕ) (fs : List Edit)
+        → Agrees m selection from (from + picks_in_others os)
+        → (chosen (suc index) u (other_plains m (numbered_others os from)) ≡ t)
+        × (chosen (suc index) k (other_costs m (numbered_others os from)) ≡ n)
+        × (chosen (suc index) fs (other_edits m (numbered_others os from) line old) ≡ es)
 
 -- both parts
 joined : (w : Weighted) (ws : Weighteds) (from line : ℕ) (t : Tree) (ts : Trees) (n k : ℕ)
@@ -203,7 +220,7 @@ joined w ws from line t ts n k es fs a b =
     let mid = from + picks w in
     let to = from + (picks w + picks_in ws) in
     let here : Ends b.selection to =
-        ends_later b.selection (mid + picks_in ws) to (omega arith) b.ends in
+    ends_later b.selection (mid + picks_in ws) to (omega arith) b.ends in
     record {
       selection = a.selection ++ b.selection;
       rises = rises_append a.selection b.selection from mid (omega arith) a.rises a.ends b.rises;
@@ -214,10 +231,10 @@ joined w ws from line t ts n k es fs a b =
           (names_more _ _ b.selection (λ p i h. or_right _ _ h) b.names);
       gives = λ m agrees.
           let x =
-              a.gives m (agrees_left m a.selection b.selection from mid to (omega arith) b.rises
-              agrees) in
+          a.gives m (agrees_left m a.selection b.selection from mid to (omega arith) b.rises
+          agrees) in
           let late : Agrees m b.selection mid to =
-              agrees_right m a.selection b.selection from mid to (omega arith) a.ends agrees in
+          agrees_right m a.selection b.selection from mid to (omega arith) a.ends agrees in
           let y = b.gives m (λ p lo hi. late p lo (omega arith)) in
           ((λ i. tree_and (x.0 i) (y.0 i)), (λ i. x.1 i + y.1 i), (λ i. x.2 i ++ y.2 i));
     }
@@ -236,8 +253,8 @@ in_base number w os from line t n es a =
       names = names_more _ _ a.selection (λ p i h. or_left _ _ (or_right _ _ h)) a.names;
       gives = λ m agrees.
           let none : m from ≡ 0 =
-              agrees from (omega arith) (omega arith) ∙ member_before a.selection (suc from) from
-              a.rises (omega arith) in
+          agrees from (omega arith) (omega arith) ∙ member_before a.selection (suc from) from
+          a.rises (omega arith) in
           let x = a.gives m (λ p lo hi. agrees p (omega arith) (omega arith)) in
           rw none x;
     }
@@ -256,22 +273,26 @@ in_other number w os from line t n es a =
     record {
       selection = this ∷ a.selection;
       rises = (omega arith, rises_earlier a.selection (suc from) start (omega arith) a.rises);
-      ends =
-          (omega arith, ends_later a.selection (start + picks_in_others os) to (omega arith)
-          a.ends);
-      names =
-          (omega arith, or_left _ _
-          (or_left _ _ (has_this from a.index (count_others (numbered_others os start)) a.there)),
-          names_more _ _ a.selection (λ p i h. or_right _ _ h) a.names);
+      ends = (
+        omega arith,
+        ends_later a.selection (start + picks_in_others os) to (omega arith)
+            a.ends,
+      );
+      names = (
+        omega arith,
+        or_left _ _
+            (or_left _ _ (has_this from a.index (count_others (numbered_others os start)) a.there)),
+        names_more _ _ a.selection (λ p i h. or_right _ _ h) a.names,
+      );
       gives = λ m agrees.
           let member : m from ≡ suc a.index =
-              agrees from (omega arith) (omega arith) ∙ this_pick from (suc a.index) a.selection in
+          agrees from (omega arith) (omega arith) ∙ this_pick from (suc a.index) a.selection in
           let inner : Agrees m a.selection start (start + picks_in_others os) =
-              λ p lo hi. agrees p (omega arith) (omega arith) ∙ other_pick this a.selection p
-              (omega arith) in
+          λ p lo hi. agrees p (omega arith) (omega arith) ∙ other_pick this a.selection p
+          (omega arith) in
           let x =
-              a.gives m (plain m (numbered w (suc from))) (cost m (numbered w (suc from)))
-              (edits m (numbered w (suc from)) line) inner in
+          a.gives m (plain m (numbered w (suc from))) (cost m (numbered w (suc from)))
+          (edits m (numbered w (suc from)) line) inner in
           rw (member, base_numbered w (suc from)) x;
     }
 
@@ -336,8 +357,8 @@ mutual
   all_selected (weighted_and w ws) from line ts n es h =
       let p = h.0 in
       rw (h.1, h.2, h.3) (joined w ws from line p.tree p.trees p.cost p.costs p.edits p.more
-          (selected w from line p.tree p.cost p.edits h.4)
-          (all_selected ws (from + picks w) line p.trees p.costs p.more h.5))
+      (selected w from line p.tree p.cost p.edits h.4)
+      (all_selected ws (from + picks w) line p.trees p.costs p.more h.5))
 
   other_selected : (os : Others) (from line : ℕ) (old t : Tree) (n : ℕ) (es : List Edit)
       → GivesOther os line old t n es → SelectedOther os from line old t n es

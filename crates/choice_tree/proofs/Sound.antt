@@ -40,13 +40,13 @@ parts_sound g grow sound no_trees k i line c us n es h = rw (h.0, h.1, h.2) none
 parts_sound g grow sound (tree_and t ts) k i line c us n es h =
     let p = h.0 in
     rw (h.1, h.2, h.3) (each (sound (site_below k) line (below g k i c) t p.tree p.cost p.edits h.4)
-        (parts_sound g grow sound ts k (suc i) line c p.trees p.costs p.more h.5))
+    (parts_sound g grow sound ts k (suc i) line c p.trees p.costs p.more h.5))
 
 node_sound_by : (g : Setting) (grow : Growing) → Sound g grow
     → (site : Site) (line : ℕ) (c : Context) (k : Kind) (ts : Trees) (t' : Tree) (n : ℕ)
     (es : List Edit) (b : Bool) → copies c (node k ts) ≡ b
     → Gives (if b then lifted (copy_of (node k ts)) else plainly k (parts_grown g grow ts k 0 c))
-        line t' n es → Rewrites g site line c (node k ts) t' n es
+    line t' n es → Rewrites g site line c (node k ts) t' n es
 node_sound_by g grow sound site line c k ts t' n es true e h =
     let r = lifted_gives (copy_of (node k ts)) line t' n es h in
     rw (r.0, r.1, r.2) (copied e)
@@ -62,9 +62,9 @@ node_sound g grow sound site line c (node k ts) t' n es h =
 draft_sound_by : (g : Setting) (grow : Growing) (k : Kind) (ds : Drafts) (line : ℕ) (c : Context)
     (t : Tree) (n : ℕ) (es : List Edit) (b : Bool) → copies c (filled (as_is k ds)) ≡ b
     → ((ts : Trees) → GivesAll (drafts_grown g grow ds k 0 c) (line_below k line) ts n es
-        → FinishesAll g k 0 (line_below k line) c ds ts n es)
+    → FinishesAll g k 0 (line_below k line) c ds ts n es)
     → Gives (if b then lifted (copy_of (filled (as_is k ds))) else plainly k
-        (drafts_grown g grow ds k 0 c)) line t n es → Finishes g line c (as_is k ds) t n es
+    (drafts_grown g grow ds k 0 c)) line t n es → Finishes g line c (as_is k ds) t n es
 draft_sound_by g grow k ds line c t n es true e parts h =
     let r = lifted_gives (copy_of (filled (as_is k ds))) line t n es h in
     rw (r.0, r.1, r.2) (made_a_copy e)
@@ -87,8 +87,8 @@ mutual
   drafts_sound g grow sound (draft_and d ds) k i line c ts n es h =
       let p = h.0 in
       rw (h.1, h.2, h.3) (and_all
-          (draft_sound g grow sound d line (below g k i c) p.tree p.cost p.edits h.4)
-          (drafts_sound g grow sound ds k (suc i) line c p.trees p.costs p.more h.5))
+      (draft_sound g grow sound d line (below g k i c) p.tree p.cost p.edits h.4)
+      (drafts_sound g grow sound ds k (suc i) line c p.trees p.costs p.more h.5))
 
 -- a member that is given is one of the proposals, finished
 record Member (g : Setting) (line : ℕ) (c : Context) (t : Tree) (ps : List Proposal) (t' : Tree)
@@ -105,8 +105,16 @@ member_later : (g : Setting) (line : ℕ) (c : Context) (t : Tree) (p : Proposal
     (t' : Tree) (n : ℕ) (es : List Edit) → Member g line c t ps t' n es
     → Member g line c t (p ∷ ps) t' n es
 member_later g line c t p ps t' n es m =
-    record { proposal = m.proposal; listed = inr m.listed; cost = m.cost; edits = m.edits; cost_is =
-    m.cost_is; edits_are = m.edits_are; finishes = m.finishes }
+    record {
+      proposal = m.proposal;
+      listed = inr m.listed;
+      cost = m.cost;
+      edits = m.edits;
+      cost_is =
+          m.cost_is;
+      edits_are = m.edits_are;
+      finishes = m.finishes;
+    }
 
 members_sound : (g : Setting) (grow : Growing) → Sound g grow
     → (line : ℕ) (c : Context) (t : Tree) (ps : List Proposal) (t' : Tree) (n : ℕ) (es : List Edit)
@@ -114,9 +122,17 @@ members_sound : (g : Setting) (grow : Growing) → Sound g grow
     → Member g line c t ps t' n es
 members_sound g grow sound line c t [] t' n es h = absurd h
 members_sound g grow sound line c t (p ∷ ps) t' n es h = elim h [
-  | inl this ↦ record { proposal = p; listed = inl refl; cost = this.0.cost; edits =
-      this.0.edits; cost_is = this.1; edits_are = this.2; finishes =
-      draft_sound g grow sound p.draft line (inside c) t' this.0.cost this.0.edits this.3 }
+  | inl this ↦ record {
+    proposal = p;
+    listed = inl refl;
+    cost = this.0.cost;
+    edits =
+        this.0.edits;
+    cost_is = this.1;
+    edits_are = this.2;
+    finishes =
+        draft_sound g grow sound p.draft line (inside c) t' this.0.cost this.0.edits this.3;
+  }
   | inr later ↦ member_later g line c t p ps t' n es
       (members_sound g grow sound line c t ps t' n es later)
 ]
@@ -126,7 +142,7 @@ alternative_typed : (g : Setting) (here : Place → Option Bindings) (line : ℕ
     (t : Tree) (p : Proposal) (t' : Tree) (n : ℕ) (es : List Edit) → In p (alternatives g here c t)
     → Finishes g line (inside c) p.draft t' n es
     → In p (proposals here c.scope g.rules t)
-        × (same_type (type_of c.scope t') (type_of c.scope t) ≡ true)
+    × (same_type (type_of c.scope t') (type_of c.scope t) ≡ true)
 alternative_typed g here line c t p t' n es i fin =
     let r = in_filtered (is_alternative c.scope t) (proposals here c.scope g.rules t) p i in
     (r.0, ap (λ u. same_type u (type_of c.scope t)) (type_finished fin) ∙ r.1)
@@ -136,8 +152,8 @@ by_member : (g : Setting) (site : Site) (line : ℕ) (c : Context) (t t' : Tree)
     → Rewrites g site line c t t' n es
 by_member g site line c t t' n es m =
     let r =
-        alternative_typed g without_place line c t m.proposal t' m.cost m.edits m.listed m.finishes
-        in
+    alternative_typed g without_place line c t m.proposal t' m.cost m.edits m.listed m.finishes
+    in
     rw (m.cost_is, m.edits_are) (replaced m.proposal r.0 m.finishes r.1)
 
 by_member_at : (g : Setting) (site : Site) (line : ℕ) (c : Context) (t t' : Tree) (n : ℕ)
@@ -145,8 +161,8 @@ by_member_at : (g : Setting) (site : Site) (line : ℕ) (c : Context) (t t' : Tr
     → Rewrites g site line c t t' n es
 by_member_at g site line c t t' n es m =
     let r =
-        alternative_typed g (with_place site) line c t m.proposal t' m.cost m.edits m.listed
-        m.finishes in
+    alternative_typed g (with_place site) line c t m.proposal t' m.cost m.edits m.listed
+    m.finishes in
     rw (m.cost_is, m.edits_are) (replaced_at m.proposal r.0 m.finishes r.1)
 
 -- no rule with a place is proposed elsewhere
@@ -197,7 +213,7 @@ parts_based g grow based (tree_and t ts) k i c =
 node_based_by : (g : Setting) (grow : Growing) → Based g grow
     → (c : Context) (k : Kind) (ts : Trees) (b : Bool)
     → base_of (if b then lifted (copy_of (node k ts)) else plainly k (parts_grown g grow ts k 0 c))
-        ≡ (if b then copy_of (node k ts) else node k (written_all g ts k 0 c))
+    ≡ (if b then copy_of (node k ts) else node k (written_all g ts k 0 c))
 node_based_by g grow based c k ts true = base_lifted (copy_of (node k ts))
 node_based_by g grow based c k ts false = ap (node k) (parts_based g grow based ts k 0 c)
 
@@ -220,8 +236,8 @@ grown_based g (suc f) site c t = by_based g (grown g f) (grown_based g f) site c
 site_sound : (g : Setting) (grow : Growing) → Sound g grow → Based g grow
     → (site : Site) (line : ℕ) (c : Context) (t t' : Tree) (n : ℕ) (es : List Edit)
     → Gives (picked (grow elsewhere c t)
-        (members g grow (inside c) (alternatives g (with_place site) c t))) line t' n es
-        → Rewrites g site line c t t' n es
+    (members g grow (inside c) (alternatives g (with_place site) c t))) line t' n es
+    → Rewrites g site line c t t' n es
 site_sound g grow sound based site line c t t' n es h =
     let ps = alternatives g (with_place site) c t in
     elim (picked_gives (grow elsewhere c t) (members g grow (inside c) ps) line t' n es h) [

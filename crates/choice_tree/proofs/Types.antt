@@ -82,5 +82,5 @@ mutual
   types_finished finished same = refl
   types_finished {g} (and_all {k} {i} {line} {c} {d} {t} r rs) same =
       let first : type_of c.scope t ≡ type_of c.scope (filled d) =
-          rw (same i) at (type_finished r) in
+      rw (same i) at (type_finished r) in
       λ j. first j ∷ types_finished rs same j

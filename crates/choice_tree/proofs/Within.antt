@@ -70,7 +70,7 @@ below_together : (n : ℕ) (a b : Option Bindings) (β : Bindings)
 below_together n a b β h k e =
     let j = joined a b β e in
     rw j.all (each_append (λ b. IsBelow n b.bound) j.left j.right (h j.left j.left_is)
-        (k j.right j.right_is))
+    (k j.right j.right_is))
 
 only_below : (n : ℕ) (b : Bool) (β : Bindings) → only_if b ≡ Some β → Below n β
 only_below n true β h = let e : β ≡ [] = cc in rw e tt
@@ -114,8 +114,8 @@ mutual
   matches_all_below (template_and p ps) no_trees n β s h = cc
   matches_all_below (template_and p ps) (tree_and t ts) n β s h =
       below_together n (matches p t) (matches_all ps ts) β
-          (λ x. matches_below p t n x (omega arith))
-          (λ x. matches_all_below ps ts n x (omega arith)) h
+      (λ x. matches_below p t n x (omega arith))
+      (λ x. matches_all_below ps ts n x (omega arith)) h
 
 -- what a metavariable stands for
 term_bound : (n : ℕ) (x : Bound) → IsBelow n x → Each (λ t. steps t ≤ n) (term_in x)
@@ -160,23 +160,23 @@ mutual
       (each_any (λ j. Unit {0}) (node_resolutions β k) (λ j. tt))
   resolutions_within (made k (template_and p ps)) σ β n h =
       each_flat_map (Within n) (Within n)
-          (λ d. flat_map (node_drafts d (resolutions_all σ β ps))
-          (node_resolutions β k)) (resolutions σ β p)
+      (λ d. flat_map (node_drafts d (resolutions_all σ β ps))
+      (node_resolutions β k)) (resolutions σ β p)
       (λ d dw. each_flat_map (λ j. Unit {0}) (Within n)
-          (node_drafts d (resolutions_all σ β ps))
-          (node_resolutions β k)
+      (node_drafts d (resolutions_all σ β ps))
+      (node_resolutions β k)
       (λ j s. each_map (WithinAll n) (Within n) (λ ds. as_is j (draft_and d ds))
-          (resolutions_all σ β ps) (λ ds dsw. (dw, dsw))
-          (all_within ps σ β n (λ e. h (or_right (has_prime p) (any_prime ps) e))))
+      (resolutions_all σ β ps) (λ ds dsw. (dw, dsw))
+      (all_within ps σ β n (λ e. h (or_right (has_prime p) (any_prime ps) e))))
       (each_any (λ j. Unit {0}) (node_resolutions β k) (λ j. tt)))
       (resolutions_within p σ β n (λ e. h (or_left (has_prime p) (any_prime ps) e)))
   resolutions_within (hole m) σ β n h = hole_within n β m m.primed h
   resolutions_within (one_of ps) σ β n h = each_within ps σ β n h
   resolutions_within (some_local m) σ β n h =
       each_flat_map (λ t. Unit {0}) (Within n) (λ t. map local_draft (locals_like σ t))
-          (bound_term β m)
+      (bound_term β m)
       (λ t s. each_map (λ x. Unit {0}) (Within n) local_draft (locals_like σ t) (λ x e. tt)
-          (each_any (λ x. Unit {0}) (locals_like σ t) (λ x. tt)))
+      (each_any (λ x. Unit {0}) (locals_like σ t) (λ x. tt)))
       (each_any (λ t. Unit {0}) (bound_term β m) (λ t. tt))
 
   all_within : (ps : Templates) (σ : Scope) (β : Bindings) (n : ℕ)
@@ -184,10 +184,10 @@ mutual
   all_within no_templates σ β n h = (tt, tt)
   all_within (template_and p ps) σ β n h =
       each_flat_map (Within n) (WithinAll n) (λ d. map (draft_and d) (resolutions_all σ β ps))
-          (resolutions σ β p)
+      (resolutions σ β p)
       (λ d dw. each_map (WithinAll n) (WithinAll n) (draft_and d) (resolutions_all σ β ps)
-          (λ ds dsw. (dw, dsw))
-          (all_within ps σ β n (λ e. h (or_right (has_prime p) (any_prime ps) e))))
+      (λ ds dsw. (dw, dsw))
+      (all_within ps σ β n (λ e. h (or_right (has_prime p) (any_prime ps) e))))
       (resolutions_within p σ β n (λ e. h (or_left (has_prime p) (any_prime ps) e)))
 
   each_within : (ps : Templates) (σ : Scope) (β : Bindings) (n : ℕ)
@@ -195,8 +195,8 @@ mutual
   each_within no_templates σ β n h = tt
   each_within (template_and p ps) σ β n h =
       each_append (Within n) (resolutions σ β p) (resolutions_of_each σ β ps)
-          (resolutions_within p σ β n (λ e. h (or_left (has_prime p) (any_prime ps) e)))
-          (each_within ps σ β n (λ e. h (or_right (has_prime p) (any_prime ps) e)))
+      (resolutions_within p σ β n (λ e. h (or_left (has_prime p) (any_prime ps) e)))
+      (each_within ps σ β n (λ e. h (or_right (has_prime p) (any_prime ps) e)))
 
 resolved_within : (n : ℕ) (σ : Scope) (right : Template) (b : Option Bindings)
     → ((β : Bindings) → b ≡ Some β → has_prime right ≡ true → Below n β)
@@ -216,9 +216,9 @@ proposals_within n here σ t i [] h = tt
 proposals_within n here σ t i (r ∷ rs) h =
     let found = together (here r.place) (matches r.left t) in
     each_append (λ p. Within n p.draft) (map (proposal i r.cost) (resolved σ r.right found))
-        (proposals_from here σ t (suc i) rs)
+    (proposals_from here σ t (suc i) rs)
     (each_map (Within n) (λ p. Within n p.draft) (proposal i r.cost) (resolved σ r.right found)
-        (λ d w. w) (resolved_within n σ r.right found h.0))
+    (λ d w. w) (resolved_within n σ r.right found h.0))
     (proposals_within n here σ t (suc i) rs h.1)
 
 -- a rule without a place binds smaller terms
@@ -227,8 +227,8 @@ anywhere_below : (n : ℕ) (place : Place) (left right : Template) (t : Tree) (�
     → together (without_place place) (matches left t) ≡ Some β → has_prime right ≡ true → Below n β
 anywhere_below n P.Anywhere (made k ps) right (node j ts) β keeps s h e =
     below_together n (node_matches k j) (matches_all ps ts) β (node_below n k j)
-        (λ x. matches_all_below ps ts n x (omega arith))
-        (one_side (together (node_matches k j) (matches_all ps ts)) h)
+    (λ x. matches_all_below ps ts n x (omega arith))
+    (one_side (together (node_matches k j) (matches_all ps ts)) h)
   where
     one_side : (a : Option Bindings) → together (Some []) a ≡ Some β → a ≡ Some β
     one_side (Some a) h = h
@@ -241,9 +241,11 @@ anywhere_below n _ left right t β keeps s h e = cc
 rules_below : (n : ℕ) (rules : List Correction) (t : Tree) → KeepPrimes rules → steps t ≤ suc n
     → Each (RuleBelow n without_place t) rules
 rules_below n [] t keeps s = tt
-rules_below n (r ∷ rs) t keeps s =
-    ((λ β h e. anywhere_below n r.place r.left r.right t β keeps.0 s h e), rules_below n rs t
-    keeps.1 s)
+rules_below n (r ∷ rs) t keeps s = (
+  (λ β h e. anywhere_below n r.place r.left r.right t β keeps.0 s h e),
+  rules_below n rs t
+      keeps.1 s,
+)
 
 pub alternatives_within : (n : ℕ) (σ : Scope) (rules : List Correction) (t : Tree)
     → KeepPrimes rules → steps t ≤ suc n

@@ -1,11 +1,16 @@
 -- Sums of costs.
-use Rattle.std.specs.Prelude.{ℕ, ◌+◌, min}
+use Rattle.std.specs.Prelude.{ℕ, ◌+◌, min, List, [], ◌∷◌}
 use Rattle.choice_tree.specs.WeightedTrees.{Weighted, Weighteds, Others, plainly, pick, no_weighted}
 use Rattle.choice_tree.specs.WeightedTrees.{weighted_and, no_others, other_and}
 
 -- at most the greatest u32
 abbrev pub capped : ℕ → ℕ
 capped n = min n 4294967295
+
+-- the sum over a list of trees
+abbrev pub sum_of : (Weighted → ℕ) → List Weighted → ℕ
+sum_of f [] = 0
+sum_of f (w ∷ ws) = f w + sum_of f ws
 
 -- the costs of all members of a tree
 abbrev mutual

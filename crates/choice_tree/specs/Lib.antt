@@ -4,6 +4,7 @@ pub mod Costs
 pub mod Drafts
 pub mod Growing
 pub mod Matching
+pub mod NodeViews
 pub mod Rewriting
 pub mod RuleViews
 pub mod Selections

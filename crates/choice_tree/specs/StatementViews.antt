@@ -9,6 +9,8 @@ use Rattle.choice_tree.specs.declared.tree.WAct.TheOpen as G
 use Rattle.choice_tree.specs.declared.tree.WAct.TheFolds.{fold-WAct, fold-WArm, fold-WArms}
 use Rattle.choice_tree.specs.declared.tree.WAct.TheFolds.{fold-WStmt, fold-WStmts}
 use Rattle.choice_tree.specs.declared.tree.WExpr.{WExpr}
+use Rattle.choice_tree.specs.declared.tree.WFunc.{WFunc}
+use Rattle.choice_tree.specs.declared.tree.WProg.{WProg}
 use Rattle.mpy_tree.specs.Trees as kind
 use Rattle.choice_tree.specs.WeightedTrees.{Weighted, Weighteds, plainly, no_weighted, weighted_and}
 use Rattle.choice_tree.specs.WeightedViews.{weighted_of, weighteds, one, two}
@@ -87,3 +89,9 @@ weighted_body =
 abbrev pub weighted_else : Option WStmts → Weighteds
 weighted_else None = no_weighted
 weighted_else (Some b) = one (weighted_body b)
+
+abbrev pub weighted_func : WFunc → Weighted
+weighted_func f = plainly (kind.Function f.line f.name f.params) (one (weighted_body f.body))
+
+abbrev pub weighted_prog : WProg → Weighted
+weighted_prog p = plainly kind.Program (weighteds (map weighted_func p.funcs.items.items))

@@ -1,5 +1,5 @@
 -- Weighted trees: trees in which a pick stands for any one of its members.
-use Rattle.std.specs.Prelude.{ℕ, suc, ◌+◌, true, false, if◌then◌else◌}
+use Rattle.std.specs.Prelude.{ℕ, suc, ◌+◌, true, false, if◌then◌else◌, List, [], ◌∷◌}
 use Rattle.mpy_tree.specs.Trees.{Kind, Tree, Trees, node, no_trees, tree_and}
 use Rattle.choice_tree.specs.Matching.{is_expression}
 use Rattle.choice_tree.specs.Rewriting.{Edit}
@@ -18,6 +18,19 @@ mutual
   pub data Others : Type 0 where
     no_others : Others
     other_and : (rule cost : ℕ) (w : Weighted) (os : Others) → Others
+
+-- the children of a node: its parts, or of a pick its base and then the trees of its other members
+abbrev pub listed : Weighteds → List Weighted
+listed no_weighted = []
+listed (weighted_and w ws) = w ∷ listed ws
+
+abbrev pub other_trees : Others → List Weighted
+other_trees no_others = []
+other_trees (other_and rule cost w os) = w ∷ other_trees os
+
+abbrev pub children : Weighted → List Weighted
+children (plainly k ws) = listed ws
+children (pick number base os) = base ∷ other_trees os
 
 -- a tree without picks
 abbrev mutual
@@ -54,6 +67,20 @@ abbrev mutual
   pub other_sizes : Others → ℕ
   other_sizes no_others = 0
   other_sizes (other_and rule cost w os) = size w + other_sizes os
+
+-- how many nodes there are, statements and picks among them
+abbrev mutual
+  pub nodes : Weighted → ℕ
+  nodes (plainly k ws) = suc (nodes_in ws)
+  nodes (pick number base os) = suc (nodes base + nodes_in_others os)
+
+  pub nodes_in : Weighteds → ℕ
+  nodes_in no_weighted = 0
+  nodes_in (weighted_and w ws) = nodes w + nodes_in ws
+
+  pub nodes_in_others : Others → ℕ
+  nodes_in_others no_others = 0
+  nodes_in_others (other_and rule cost w os) = nodes w + nodes_in_others os
 
 -- how many picks there are
 abbrev mutual

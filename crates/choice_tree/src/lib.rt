@@ -1,16 +1,18 @@
 //! Weighted trees, their selections, and the rules of error models.
 #![tactic(auto)]
 
-mod cost;
+mod costing;
 mod laws;
-mod plain;
+mod node;
+mod making;
 mod rules;
 mod selection;
 mod tree;
 
-pub use cost::cost_expr;
+pub use costing::cost;
 pub use laws::selections_are_rewritings;
-pub use plain::plain_expr;
+pub use node::{Node, Pick};
+pub use making::plain_expr;
 pub use rules::{
     ArithOps, CmpOps, Meta, PArith, PCmp, PExpr, PExprs, Pattern, Place, Right, Rule, Rules,
 };

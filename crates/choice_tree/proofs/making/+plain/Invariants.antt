@@ -4,7 +4,7 @@ use Rattle.mpy_tree.specs.Shapes.{shape}
 use Rattle.choice_tree.specs.Choices.{member_of}
 use Rattle.choice_tree.specs.Selections.{plain}
 use Rattle.choice_tree.specs.WeightedViews.{weighted_of}
-use Rattle.choice_tree.proofs.plain.+plain.Given as goal
+use Rattle.choice_tree.proofs.making.+plain.Given as goal
 
 -- what was made is the plain trees so far
 abbrev pub invariant-plain_exprs-loop-w : goal.invariant-plain_exprs-loop-w
