@@ -1,8 +1,11 @@
 pub mod Complete
 pub mod CostLaws
+pub mod CountLaws
 pub mod Enough
+pub mod FittingLaws
 pub mod Giving
 pub mod Lists
+pub mod MostLaws
 pub mod Numbers
 pub mod Opening
 pub mod Places

@@ -1,5 +1,5 @@
--- Sums of costs.
-use Rattle.std.specs.Prelude.{ℕ, ◌+◌, min, List, [], ◌∷◌}
+-- Sums of costs, and products.
+use Rattle.std.specs.Prelude.{ℕ, ◌+◌, ◌*◌, min, List, [], ◌∷◌}
 use Rattle.choice_tree.specs.WeightedTrees.{Weighted, Weighteds, Others, plainly, pick, no_weighted}
 use Rattle.choice_tree.specs.WeightedTrees.{weighted_and, no_others, other_and}
 
@@ -11,6 +11,11 @@ capped n = min n 4294967295
 abbrev pub sum_of : (Weighted → ℕ) → List Weighted → ℕ
 sum_of f [] = 0
 sum_of f (w ∷ ws) = f w + sum_of f ws
+
+-- and the product
+abbrev pub product_of : (Weighted → ℕ) → List Weighted → ℕ
+product_of f [] = 1
+product_of f (w ∷ ws) = f w * product_of f ws
 
 -- the costs of all members of a tree
 abbrev mutual

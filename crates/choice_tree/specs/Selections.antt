@@ -1,5 +1,5 @@
 -- What a selection makes of a weighted tree.
-use Rattle.std.specs.Prelude.{◌≡◌, ℕ, zero, suc, ◌+◌, ◌*◌, max, Bool, true, false, ◌==◌, ◌||◌}
+use Rattle.std.specs.Prelude.{◌≡◌, ℕ, zero, suc, ◌+◌, ◌*◌, min, max, Bool, true, false, ◌==◌, ◌||◌}
 use Rattle.std.specs.Prelude.{◌&&◌, nat_le, List, [], ◌∷◌, ◌++◌, Option, None, Some, slice_get}
 use Rattle.std.specs.Option.{unwrap_or}
 use Rattle.choice_tree.specs.declared.selection.Choice.{Choice}
@@ -84,9 +84,23 @@ abbrev mutual
   other_has_member no_others p i = false
   other_has_member (other_and rule c w os) p i = has_member w p i || other_has_member os p i
 
--- the selection fits the tree
+-- some tree of a list passes a test
+abbrev pub any_of : (Weighted → Bool) → List Weighted → Bool
+any_of f [] = false
+any_of f (w ∷ ws) = f w || any_of f ws
+
+-- the selection fits the tree: as a fact, and as a test
 abbrev pub Fits : Weighted → List Choice → Type 0
 Fits w s = Rises 0 s × NamesBy (has_member w) s
+
+abbrev pub fits_from : Weighted → ℕ → List Choice → Bool
+fits_from w from [] = true
+fits_from w from (c ∷ rest) =
+    nat_le from c.pick && nat_le 1 c.member && has_member w c.pick c.member
+    && fits_from w (suc c.pick) rest
+
+abbrev pub fits : Weighted → List Choice → Bool
+fits w s = fits_from w 0 s
 
 -- the greatest cost
 abbrev mutual
@@ -116,6 +130,10 @@ abbrev mutual
   pub choices_in_others : Others → ℕ
   choices_in_others no_others = 1
   choices_in_others (other_and rule c w os) = choices w * choices_in_others os
+
+-- the count of choices stops at 10^12
+abbrev pub stopped : ℕ → ℕ
+stopped n = min n 1000000000000
 
 -- What a selection gives: the tree, its cost and its edits.
 pub record IsGivenBy (s : List Choice) (w : Weighted) (t : Tree) (n : ℕ) (es : List Edit)

@@ -2,6 +2,8 @@
 #![tactic(auto)]
 
 mod costing;
+mod counting;
+mod fitting;
 mod laws;
 mod node;
 mod making;
@@ -10,6 +12,8 @@ mod selection;
 mod tree;
 
 pub use costing::cost;
+pub use counting::{choices, most_cost};
+pub use fitting::fits;
 pub use laws::selections_are_rewritings;
 pub use node::{Node, Pick};
 pub use making::plain_expr;
