@@ -12,6 +12,7 @@ pub mod Places
 pub mod PlainParts
 pub mod SelectionLaws
 pub mod Sound
+pub mod StatementParts
 pub mod Types
 pub mod Walking
 pub mod Within

@@ -34,6 +34,11 @@ abbrev mutual
   other_plains m no_others = []
   other_plains m (other_and rule cost w os) = plain m w ∷ other_plains m os
 
+-- plain arms before other parts
+abbrev pub arms_plain : (ℕ → ℕ) → List Weighted → Trees → Trees
+arms_plain m [] ts = ts
+arms_plain m (w ∷ ws) ts = tree_and (plain m w) (arms_plain m ws ts)
+
 -- its cost; members that aren't chosen don't count, nor do picks in them
 abbrev mutual
   pub cost : (ℕ → ℕ) → Weighted → ℕ

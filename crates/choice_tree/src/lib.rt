@@ -9,6 +9,7 @@ mod node;
 mod making;
 mod rules;
 mod selection;
+mod statements;
 mod tree;
 
 pub use costing::cost;
@@ -21,6 +22,7 @@ pub use rules::{
     ArithOps, CmpOps, Meta, PArith, PCmp, PExpr, PExprs, Pattern, Place, Right, Rule, Rules,
 };
 pub use selection::{Choice, Selection};
+pub use statements::plain;
 use std::alloc::AllocError;
 pub use tree::{
     Other, Others, WAct, WArm, WArms, WExpr, WExprs, WFunc, WFuncs, WProg, WStmt, WStmts,

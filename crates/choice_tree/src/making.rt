@@ -1,4 +1,4 @@
-//! The plain tree of a selection.
+//! The plain expression of a selection.
 ghost use Rattle.std.specs.Prelude.{◌≡◌, IfOk, option_map};
 ghost use Rattle.mpy_tree.specs.View.{term_of, terms_of, end_by};
 ghost use Rattle.mpy_tree.specs.Shapes.{shape, shapes, shape_and};
@@ -14,6 +14,9 @@ use crate::tree::{Others, WExpr, WExprs};
 use mpy_tree::{Expr, Exprs};
 use std::alloc::Global;
 
+// Two expressions, each in a box.
+type Two = (Box<Expr>, Box<Expr>);
+
 /// The expression that a selection makes of a weighted one.
 #[cycle(plain)]
 pub fn plain_expr(alloc: Global, w: &WExpr, s: &Selection) -> Result<Expr, NoMemory>
@@ -27,30 +30,50 @@ pub fn plain_expr(alloc: Global, w: &WExpr, s: &Selection) -> Result<Expr, NoMem
         WExpr::List(es) => Ok(Expr::List(plain_exprs(alloc, es, s)?)),
         WExpr::Neg(a) => Ok(Expr::Neg(plain_boxed(alloc, a, s)?)),
         WExpr::Not(a) => Ok(Expr::Not(plain_boxed(alloc, a, s)?)),
-        WExpr::Arith(op, a, b) => Ok(Expr::Arith(
-            *op,
-            plain_boxed(alloc, a, s)?,
-            plain_boxed(alloc, b, s)?,
-        )),
-        WExpr::Cmp(op, a, b) => Ok(Expr::Cmp(
-            *op,
-            plain_boxed(alloc, a, s)?,
-            plain_boxed(alloc, b, s)?,
-        )),
-        WExpr::And(a, b) => Ok(Expr::And(plain_boxed(alloc, a, s)?, plain_boxed(alloc, b, s)?)),
-        WExpr::Or(a, b) => Ok(Expr::Or(plain_boxed(alloc, a, s)?, plain_boxed(alloc, b, s)?)),
-        WExpr::Cond { test, yes, no } => Ok(Expr::Cond {
-            test: plain_boxed(alloc, test, s)?,
-            yes: plain_boxed(alloc, yes, s)?,
-            no: plain_boxed(alloc, no, s)?,
-        }),
-        WExpr::Index(a, b) => Ok(Expr::Index(plain_boxed(alloc, a, s)?, plain_boxed(alloc, b, s)?)),
+        WExpr::Arith(op, a, b) => {
+            let first = plain_boxed(alloc, a, s)?;
+            let (a, b) = plain_second(alloc, b, first, s)?;
+            Ok(Expr::Arith(*op, a, b))
+        }
+        WExpr::Cmp(op, a, b) => {
+            let first = plain_boxed(alloc, a, s)?;
+            let (a, b) = plain_second(alloc, b, first, s)?;
+            Ok(Expr::Cmp(*op, a, b))
+        }
+        WExpr::And(a, b) => {
+            let first = plain_boxed(alloc, a, s)?;
+            let (a, b) = plain_second(alloc, b, first, s)?;
+            Ok(Expr::And(a, b))
+        }
+        WExpr::Or(a, b) => {
+            let first = plain_boxed(alloc, a, s)?;
+            let (a, b) = plain_second(alloc, b, first, s)?;
+            Ok(Expr::Or(a, b))
+        }
+        WExpr::Cond { test, yes, no } => {
+            let test = plain_boxed(alloc, test, s)?;
+            let first = plain_boxed(alloc, yes, s)?;
+            let (a, b) = plain_second(alloc, no, first, s)?;
+            Ok(Expr::Cond {
+                test,
+                yes: a,
+                no: b,
+            })
+        }
+        WExpr::Index(a, b) => {
+            let first = plain_boxed(alloc, a, s)?;
+            let (a, b) = plain_second(alloc, b, first, s)?;
+            Ok(Expr::Index(a, b))
+        }
         WExpr::Slice(a, from, to) => Ok(Expr::Slice(
             plain_boxed(alloc, a, s)?,
             plain_end(alloc, from, s)?,
             plain_end(alloc, to, s)?,
         )),
-        WExpr::Call(f, es) => Ok(Expr::Call(f.copy()?, plain_exprs(alloc, es, s)?)),
+        WExpr::Call(f, es) => {
+            let name = f.copy()?;
+            Ok(Expr::Call(name, plain_exprs(alloc, es, s)?))
+        }
         WExpr::Pick {
             number,
             base,
@@ -62,7 +85,18 @@ pub fn plain_expr(alloc: Global, w: &WExpr, s: &Selection) -> Result<Expr, NoMem
     }
 }
 
-// The same of a member of a pick besides its base, if there is one of this number.
+// That of another expression, in a box behind the first one.
+#[cycle(plain)]
+fn plain_second(alloc: Global, w: &WExpr, first: Box<Expr>, s: &Selection) -> Result<Two, NoMemory>
+    ensures first { IfOk result (λ r. term_of r.0.value ≡ term_of first.value) }
+    ensures second { IfOk result (λ r. shape (term_of r.1.value) ≡ plain (member_of s.now)
+        (weighted_of w.now)) }
+{
+    let second = plain_boxed(alloc, w, s)?;
+    Ok((first, second))
+}
+
+// That of a member of a pick besides its base, if there is one of this number.
 #[cycle(plain)]
 fn plain_other(
     alloc: Global,
@@ -70,7 +104,8 @@ fn plain_other(
     member: u32,
     s: &Selection,
 ) -> Result<Option<Expr>, NoMemory>
-    ensures { IfOk result (λ r. option_map (λ e. shape (term_of e)) r ≡ other_at member (other_plains (member_of s.now) (others_of others.now))) }
+    ensures { IfOk result (λ r. option_map (λ e. shape (term_of e)) r ≡ other_at member
+        (other_plains (member_of s.now) (others_of others.now))) }
 {
     if member == 0 {
         return Ok(None);
@@ -82,23 +117,25 @@ fn plain_other(
     }
 }
 
-// The same of an expression in a box.
+// That of an expression, in a box.
 #[cycle(plain)]
 fn plain_boxed(alloc: Global, w: &WExpr, s: &Selection) -> Result<Box<Expr>, NoMemory>
-    ensures { IfOk result (λ r. shape (term_of r.value) ≡ plain (member_of s.now) (weighted_of w.now)) }
+    ensures { IfOk result (λ r. shape (term_of r.value) ≡ plain (member_of s.now)
+        (weighted_of w.now)) }
 {
     let made = plain_expr(alloc, w, s)?;
     Ok(Box::new(alloc, made)?)
 }
 
-// The same of an end of a slice.
+// That of an end of a slice.
 #[cycle(plain)]
 fn plain_end(
     alloc: Global,
     w: &Option<Box<WExpr>>,
     s: &Selection,
 ) -> Result<Option<Box<Expr>>, NoMemory>
-    ensures { IfOk result (λ r. shape_and (end_by (λ b. term_of b.value) r) no_trees ≡ plains (member_of s.now) (end_and (λ b. weighted_of b.value) w.now no_weighted)) }
+    ensures { IfOk result (λ r. shape_and (end_by (λ b. term_of b.value) r) no_trees ≡ plains
+        (member_of s.now) (end_and (λ b. weighted_of b.value) w.now no_weighted)) }
 {
     match w {
         None => Ok(None),
@@ -106,10 +143,11 @@ fn plain_end(
     }
 }
 
-// The same of a list of expressions.
+// Those of a list of expressions.
 #[cycle(plain)]
 fn plain_exprs(alloc: Global, ws: &WExprs, s: &Selection) -> Result<Exprs, NoMemory>
-    ensures { IfOk result (λ r. shapes (terms_of r) ≡ plains (member_of s.now) (weighteds_of ws.now)) }
+    ensures { IfOk result (λ r. shapes (terms_of r) ≡ plains (member_of s.now) (weighteds_of
+        ws.now)) }
 {
     let mut made = Vec::new(alloc);
     for w in &ws.items {
