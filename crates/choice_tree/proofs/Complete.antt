@@ -1,30 +1,28 @@
 -- What the rules make of a term, its weighted tree gives.
-use Rattle.std.proofs.Common.{◌≡◌, ◌⊎◌, ℕ, zero, suc, ◌+◌, ◌≤◌, max, Bool, true, false}
-use Rattle.std.proofs.Common.{if◌then◌else◌, List, [], ◌∷◌, ◌++◌, Option, refl, sym, ap, ◌∙◌, inl}
+use Rattle.std.proofs.Common.{◌≡◌, ℕ, zero, suc, ◌+◌, ◌≤◌, Bool, true, false}
+use Rattle.std.proofs.Common.{if◌then◌else◌, List, [], ◌∷◌, Option, refl, sym, ap, ◌∙◌, inl}
 use Rattle.std.proofs.Common.{inr, arith}
-use Rattle.mpy_tree.specs.Trees.{Kind, Tree, Trees, node, no_trees, tree_and}
-use Rattle.choice_tree.specs.Templates.{Correction, KeepPrimes}
+use Rattle.mpy_tree.specs.Trees.{Kind, Tree, Trees, node}
+use Rattle.choice_tree.specs.Templates.{KeepPrimes}
 use Rattle.choice_tree.specs.declared.rules.Place.{Place}
-use Rattle.choice_tree.specs.Typing.{Scope, type_of, same_type, copy_of}
-use Rattle.choice_tree.specs.Contexts.{Setting, Site, elsewhere, at_return, at_assign, at_if}
-use Rattle.choice_tree.specs.Contexts.{at_while, at_for, Context, site_below, line_below, below}
+use Rattle.choice_tree.specs.Typing.{type_of, same_type, copy_of}
+use Rattle.choice_tree.specs.Contexts.{Setting, Site, elsewhere}
+use Rattle.choice_tree.specs.Contexts.{Context, site_below}
 use Rattle.choice_tree.specs.Contexts.{inside, copies}
 use Rattle.choice_tree.specs.Matching.{Bindings, without_place, with_place}
-use Rattle.choice_tree.specs.Drafts.{Draft, Drafts, as_is, again, no_drafts, draft_and, filled}
-use Rattle.choice_tree.specs.Drafts.{filled_all, Proposal, proposals}
-use Rattle.choice_tree.specs.Rewriting.{Edit, In, written, written_all, edit, Rewrites, RewritesAll}
+use Rattle.choice_tree.specs.Drafts.{Draft, Drafts, as_is, filled}
+use Rattle.choice_tree.specs.Drafts.{Proposal, proposals}
+use Rattle.choice_tree.specs.Rewriting.{Edit, In, written, edit, Rewrites, RewritesAll}
 use Rattle.choice_tree.specs.Rewriting.{Finishes, FinishesAll, kept, copied, replaced, replaced_at}
 use Rattle.choice_tree.specs.Rewriting.{none, each, made, made_a_copy, rewritten, finished, and_all}
-use Rattle.choice_tree.specs.WeightedTrees.{Weighted, Weighteds, Others, plainly, base_of, bases_of}
-use Rattle.choice_tree.specs.WeightedTrees.{lifted}
-use Rattle.choice_tree.specs.Growing.{Growing, is_alternative, alternatives, picked, parts_grown}
-use Rattle.choice_tree.specs.Growing.{node_grown, draft_grown, drafts_grown, members, grown_by}
+use Rattle.choice_tree.specs.Growing.{Growing, is_alternative, alternatives, parts_grown}
+use Rattle.choice_tree.specs.Growing.{node_grown, draft_grown, drafts_grown, members}
 use Rattle.choice_tree.specs.Growing.{grown, steps, steps_in}
-use Rattle.choice_tree.proofs.Giving.{Parts, Inner, Gives, GivesAll, GivesOther, lifted_given}
+use Rattle.choice_tree.proofs.Giving.{Gives, GivesAll, GivesOther, lifted_given}
 use Rattle.choice_tree.proofs.Giving.{picked_base, picked_other}
-use Rattle.choice_tree.proofs.Lists.{Each, each_in, in_filter}
+use Rattle.choice_tree.proofs.Lists.{each_in, in_filter}
 use Rattle.choice_tree.proofs.Types.{type_finished}
-use Rattle.choice_tree.proofs.Sound.{Based, node_based, grown_based, none_elsewhere}
+use Rattle.choice_tree.proofs.Sound.{node_based, grown_based, none_elsewhere}
 use Rattle.choice_tree.proofs.Within.{Within, WithinAll, alternatives_within, placed_within}
 
 -- one step more where rules with a place are tried

@@ -1,16 +1,13 @@
 -- A selection costs no more than all members together.
-use Rattle.std.proofs.Common.{◌≡◌, ℕ, zero, suc, ◌+◌, ◌-◌, ◌<◌, ◌≤◌, min, List, [], ◌∷◌, map}
-use Rattle.std.proofs.Common.{length, get_or, drop, slice_get, Option, Some, None, option_map, refl, ap, sym}
-use Rattle.std.proofs.Common.{◌∙◌, arith}
-use Rattle.std.specs.Option.{unwrap_or}
-use Rattle.choice_tree.specs.declared.tree.WExpr.{WExpr}
+use Rattle.std.proofs.Common.{◌≡◌, ℕ, zero, suc, ◌+◌, ◌<◌, ◌≤◌, List, [], ◌∷◌, map}
+use Rattle.std.proofs.Common.{length, get_or, slice_get, Option, Some, None, refl, ap, sym}
+use Rattle.std.proofs.Common.{arith}
 use Rattle.choice_tree.specs.declared.tree.Other.{Other}
-use Rattle.choice_tree.specs.declared.tree.Others.{Others as CodeOthers, out-Others}
 use Rattle.choice_tree.specs.WeightedTrees.{Weighted, Weighteds, Others, plainly, pick, no_weighted}
 use Rattle.choice_tree.specs.WeightedTrees.{weighted_and, no_others, other_and}
-use Rattle.choice_tree.specs.WeightedViews.{weighted_of, weighteds, member_seen, members, others_of}
+use Rattle.choice_tree.specs.WeightedViews.{weighted_of, member_seen, members}
 use Rattle.choice_tree.specs.Selections.{cost, costs, other_costs, other_at, chosen}
-use Rattle.choice_tree.specs.Costs.{capped, all_costs, all_costs_in, all_other_costs}
+use Rattle.choice_tree.specs.Costs.{all_costs, all_costs_in, all_other_costs}
 use Rattle.choice_tree.specs.declared.node.Pick.{Pick}
 use Rattle.choice_tree.specs.NodeViews.{own_pick, pick_of}
 use Rattle.choice_tree.proofs.Opening.{member_is}

@@ -1,21 +1,21 @@
 -- With enough steps, more change nothing.
-use Rattle.std.proofs.Common.{◌≡◌, ℕ, zero, suc, ◌+◌, ◌≤◌, max, Bool, true, false, cond}
-use Rattle.std.proofs.Common.{if◌then◌else◌, List, [], ◌∷◌, Option, refl, sym, ap, ◌∙◌, arith}
+use Rattle.std.proofs.Common.{◌≡◌, ℕ, zero, suc, ◌+◌, ◌≤◌, Bool, true, false, cond}
+use Rattle.std.proofs.Common.{if◌then◌else◌, List, [], ◌∷◌, Option, refl, arith}
 use Rattle.std.specs.Prelude.{filter}
 use Rattle.mpy_tree.specs.Trees.{Kind, Tree, Trees, node, no_trees, tree_and}
 use Rattle.choice_tree.specs.declared.rules.Place.{Place}
-use Rattle.choice_tree.specs.Templates.{Correction, KeepPrimes}
+use Rattle.choice_tree.specs.Templates.{KeepPrimes}
 use Rattle.choice_tree.specs.Typing.{copy_of}
-use Rattle.choice_tree.specs.Contexts.{Setting, Site, elsewhere, at_return, at_assign, at_if}
-use Rattle.choice_tree.specs.Contexts.{at_while, at_for, Context, site_below, below, inside, copies}
-use Rattle.choice_tree.specs.Matching.{Bindings, here, without_place, with_place}
+use Rattle.choice_tree.specs.Contexts.{Setting, Site, elsewhere}
+use Rattle.choice_tree.specs.Contexts.{Context, site_below, below, inside, copies}
+use Rattle.choice_tree.specs.Matching.{Bindings, without_place, with_place}
 use Rattle.choice_tree.specs.Drafts.{Draft, Drafts, as_is, again, no_drafts, draft_and, filled}
 use Rattle.choice_tree.specs.Drafts.{Proposal, proposals}
-use Rattle.choice_tree.specs.WeightedTrees.{Weighted, Weighteds, Others, plainly, weighted_and}
+use Rattle.choice_tree.specs.WeightedTrees.{Weighted, plainly, weighted_and}
 use Rattle.choice_tree.specs.WeightedTrees.{other_and, lifted}
 use Rattle.choice_tree.specs.Growing.{Growing, is_alternative, alternatives, picked, parts_grown}
-use Rattle.choice_tree.specs.Growing.{node_grown, draft_grown, drafts_grown, members, base_grown}
-use Rattle.choice_tree.specs.Growing.{grown_by, grown, steps, steps_in}
+use Rattle.choice_tree.specs.Growing.{node_grown, draft_grown, drafts_grown, members}
+use Rattle.choice_tree.specs.Growing.{grown, steps, steps_in}
 use Rattle.choice_tree.proofs.Complete.{extra, extra_most}
 use Rattle.choice_tree.proofs.Lists.{Each}
 use Rattle.choice_tree.proofs.Within.{Within, WithinAll, alternatives_within, placed_within}

@@ -1,5 +1,5 @@
 -- Which members a tree has, by its children.
-use Rattle.std.proofs.Common.{◌≡◌, ℕ, zero, suc, Bool, true, false, ◌||◌, ◌&&◌, ◌==◌, nat_le, List, []}
+use Rattle.std.proofs.Common.{◌≡◌, ℕ, suc, Bool, true, false, ◌||◌, ◌&&◌, ◌==◌, nat_le, List, []}
 use Rattle.std.proofs.Common.{◌∷◌, map, drop, length, slice_get, Some, None, refl, sym, ap, ◌∙◌}
 use Rattle.choice_tree.specs.declared.node.Pick.{Pick}
 use Rattle.choice_tree.specs.declared.tree.Other.{Other}

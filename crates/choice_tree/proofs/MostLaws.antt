@@ -1,6 +1,6 @@
 -- The greatest cost, from those of the children.
 use Rattle.std.proofs.Common.{◌≡◌, ℕ, zero, suc, ◌+◌, ◌≤◌, ◌<◌, max, List, [], ◌∷◌, map, drop, length}
-use Rattle.std.proofs.Common.{get_or, Some, None, refl, sym, ap, ◌∙◌, arith}
+use Rattle.std.proofs.Common.{get_or, Some, None, refl, ap, arith}
 use Rattle.choice_tree.specs.declared.node.Pick.{Pick}
 use Rattle.choice_tree.specs.declared.tree.Other.{Other}
 use Rattle.choice_tree.specs.WeightedTrees.{Weighted, Weighteds, plainly, pick, no_weighted}

@@ -4,7 +4,7 @@ use Rattle.std.proofs.Common.{◌&&◌, if◌then◌else◌, List, [], ◌∷◌
 use Rattle.std.proofs.Common.{inl, inr, arith}
 use Rattle.std.specs.Prelude.{◌==◌, nat_le}
 use Rattle.std.proofs.lemmas.Bool.Decides.{nat_tests}
-use Rattle.mpy_tree.specs.Trees.{Kind, Tree, Trees, node, no_trees, tree_and}
+use Rattle.mpy_tree.specs.Trees.{Tree, Trees, node, tree_and}
 use Rattle.choice_tree.specs.Contexts.{line_below}
 use Rattle.choice_tree.specs.Rewriting.{Edit}
 use Rattle.choice_tree.specs.WeightedTrees.{Weighted, Weighteds, Others, plainly, pick, no_weighted}
@@ -16,7 +16,7 @@ use Rattle.choice_tree.specs.Choices.{member_of, Rises, NamesBy}
 use Rattle.choice_tree.specs.Selections.{chosen, plain, plains, other_plains, cost, costs}
 use Rattle.choice_tree.specs.Selections.{other_costs, edits, edits_in, other_edits, count_others}
 use Rattle.choice_tree.specs.Selections.{has_member, any_has_member, other_has_member}
-use Rattle.choice_tree.proofs.Giving.{Parts, Inner, Gives, GivesAll, GivesOther}
+use Rattle.choice_tree.proofs.Giving.{Gives, GivesAll, GivesOther}
 
 -- numbers change no base
 mutual

@@ -1,5 +1,5 @@
 -- The view of a list, by its members.
-use Rattle.std.proofs.Common.{◌≡◌, map, ap, refl}
+use Rattle.std.proofs.Common.{◌≡◌, map, ap}
 use Rattle.choice_tree.specs.declared.tree.WExprs.{WExprs}
 use Rattle.choice_tree.specs.declared.tree.Other.{Other}
 use Rattle.choice_tree.specs.declared.tree.Others.{Others, out-Others}

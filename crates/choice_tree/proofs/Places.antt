@@ -1,6 +1,6 @@
 -- The element at a place of a list of trees.
 use Rattle.std.proofs.Common.{◌≡◌, ℕ, zero, suc, ◌-◌, ◌≤◌, List, [], ◌∷◌, map, length, slice_get}
-use Rattle.std.proofs.Common.{Option, Some, None, option_map, refl, sym, ap, ◌∙◌, arith}
+use Rattle.std.proofs.Common.{Option, Some, None, option_map, sym, ap, ◌∙◌, arith}
 use Rattle.choice_tree.specs.declared.tree.Other.{Other}
 use Rattle.choice_tree.specs.WeightedTrees.{Weighted, Weighteds, listed, other_trees}
 use Rattle.choice_tree.specs.WeightedViews.{weighted_of, weighteds, members, member_seen}

@@ -1,15 +1,14 @@
 -- The parts of a plain tree, as lists.
-use Rattle.std.proofs.Common.{◌≡◌, ℕ, zero, suc, ◌+◌, ◌<◌, ◌≤◌, List, [], ◌∷◌, map, length, get_or}
+use Rattle.std.proofs.Common.{◌≡◌, ℕ, zero, suc, ◌<◌, ◌≤◌, List, [], ◌∷◌, map, length, get_or}
 use Rattle.std.proofs.Common.{Some, None, refl, sym, ap, ◌∙◌, arith}
 use Rattle.mpy_tree.specs.declared.tree.Expr.{Expr}
 use Rattle.mpy_tree.specs.View.{term_of, terms}
-use Rattle.mpy_tree.specs.Trees.{Tree, Trees, no_trees, tree_and}
+use Rattle.mpy_tree.specs.Trees.{tree_and}
 use Rattle.mpy_tree.specs.Shapes.{shape, shapes}
 use Rattle.choice_tree.specs.declared.tree.WExpr.{WExpr}
 use Rattle.choice_tree.specs.declared.tree.WExprs.{WExprs}
 use Rattle.choice_tree.specs.declared.tree.Other.{Other}
 use Rattle.choice_tree.specs.declared.tree.Others.{Others, out-Others}
-use Rattle.choice_tree.specs.WeightedTrees.{Weighted}
 use Rattle.choice_tree.specs.WeightedViews.{weighted_of, weighteds, weighteds_of, members}
 use Rattle.choice_tree.specs.WeightedViews.{member_seen, others_of}
 use Rattle.choice_tree.specs.Selections.{plain, plains, other_plains, other_at}

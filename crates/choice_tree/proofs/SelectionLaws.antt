@@ -1,19 +1,16 @@
 -- The selections of a program's weighted tree are its rewritings.
-use Rattle.std.proofs.Common.{◌≡◌, ℕ, ◌+◌, ◌≤◌, List, [], refl, arith}
+use Rattle.std.proofs.Common.{List, refl, arith}
 use Rattle.mpy_tree.specs.Syntax.{Routine}
-use Rattle.mpy_tree.specs.Trees.{Tree}
 use Rattle.mpy_tree.specs.Shapes.{program_shape}
 use Rattle.choice_tree.specs.Templates.{KeepPrimes}
 use Rattle.choice_tree.specs.Contexts.{Setting, elsewhere, outermost}
-use Rattle.choice_tree.specs.Rewriting.{Edit, Rewrites}
-use Rattle.choice_tree.specs.WeightedTrees.{Weighted}
+use Rattle.choice_tree.specs.Rewriting.{Rewrites}
 use Rattle.choice_tree.specs.Growing.{grown, steps, weighted_program}
 use Rattle.choice_tree.specs.Choices.{member_of}
-use Rattle.choice_tree.specs.declared.selection.Choice.{Choice}
-use Rattle.choice_tree.specs.Selections.{plain, cost, edits, Fits, MadeBySelections}
+use Rattle.choice_tree.specs.Selections.{MadeBySelections}
 use Rattle.choice_tree.proofs.Sound.{grown_sound}
 use Rattle.choice_tree.proofs.Complete.{complete}
-use Rattle.choice_tree.proofs.Numbers.{Agrees, Selected, choice_given, selected}
+use Rattle.choice_tree.proofs.Numbers.{choice_given, selected}
 
 pub made_by_selections : (g : Setting) (s : List Routine) → KeepPrimes g.rules
     → MadeBySelections (weighted_program g s)

@@ -1,25 +1,25 @@
 -- What the weighted tree of a term gives, the rules make of it.
-use Rattle.std.proofs.Common.{◌≡◌, ◌⊎◌, ℕ, zero, suc, ◌+◌, Bool, true, false, if◌then◌else◌, List}
-use Rattle.std.proofs.Common.{[], ◌∷◌, ◌++◌, Option, refl, sym, ap, ◌∙◌, inl, inr}
+use Rattle.std.proofs.Common.{◌≡◌, ℕ, zero, suc, ◌+◌, Bool, true, false, if◌then◌else◌, List}
+use Rattle.std.proofs.Common.{[], ◌∷◌, Option, refl, ap, ◌∙◌, inl, inr}
 use Rattle.mpy_tree.specs.Trees.{Kind, Tree, Trees, node, no_trees, tree_and}
 use Rattle.choice_tree.specs.Templates.{Correction}
 use Rattle.choice_tree.specs.declared.rules.Place.{Place}
 use Rattle.choice_tree.specs.Typing.{Scope, type_of, same_type, copy_of}
-use Rattle.choice_tree.specs.Contexts.{Setting, Site, elsewhere, at_return, at_assign, at_if}
-use Rattle.choice_tree.specs.Contexts.{at_while, at_for, Context, site_below, line_below, below}
+use Rattle.choice_tree.specs.Contexts.{Setting, Site, elsewhere}
+use Rattle.choice_tree.specs.Contexts.{Context, site_below, line_below, below}
 use Rattle.choice_tree.specs.Contexts.{inside, copies}
 use Rattle.choice_tree.specs.Matching.{Bindings, without_place, with_place}
 use Rattle.choice_tree.specs.Drafts.{Draft, Drafts, as_is, again, no_drafts, draft_and, filled}
-use Rattle.choice_tree.specs.Drafts.{filled_all, Proposal, proposals, proposals_from}
+use Rattle.choice_tree.specs.Drafts.{Proposal, proposals, proposals_from}
 use Rattle.choice_tree.specs.Rewriting.{Edit, In, written, written_all, edit, Rewrites, RewritesAll}
 use Rattle.choice_tree.specs.Rewriting.{Finishes, FinishesAll, kept, copied, replaced, replaced_at}
 use Rattle.choice_tree.specs.Rewriting.{none, each, made, made_a_copy, rewritten, finished, and_all}
-use Rattle.choice_tree.specs.WeightedTrees.{Weighted, Weighteds, Others, plainly, base_of, bases_of}
+use Rattle.choice_tree.specs.WeightedTrees.{plainly, base_of, bases_of}
 use Rattle.choice_tree.specs.WeightedTrees.{lifted}
 use Rattle.choice_tree.specs.Growing.{Growing, is_alternative, alternatives, picked, parts_grown}
 use Rattle.choice_tree.specs.Growing.{node_grown, draft_grown, drafts_grown, members, grown_by}
 use Rattle.choice_tree.specs.Growing.{grown}
-use Rattle.choice_tree.proofs.Giving.{Parts, Inner, Gives, GivesAll, GivesOther, lifted_gives}
+use Rattle.choice_tree.proofs.Giving.{Gives, GivesAll, GivesOther, lifted_gives}
 use Rattle.choice_tree.proofs.Giving.{base_lifted, picked_gives, base_picked}
 use Rattle.choice_tree.proofs.Lists.{in_filtered}
 use Rattle.choice_tree.proofs.Types.{type_finished}

@@ -1,6 +1,6 @@
 -- Rewriting keeps types.
-use Rattle.std.proofs.Common.{◌≡◌, ℕ, Bool, true, false, ◌&&◌, List, [], ◌∷◌, Option, Some, None}
-use Rattle.std.proofs.Common.{refl, sym, ap, ◌∙◌}
+use Rattle.std.proofs.Common.{◌≡◌, ℕ, Bool, true, ◌&&◌, List, [], ◌∷◌, Option, Some}
+use Rattle.std.proofs.Common.{refl, ap}
 use Rattle.mpy_tree.specs.declared.typing.Ty.{Ty}
 use Rattle.mpy_tree.specs.declared.typing.Ty.TheVariants as ty
 use Rattle.mpy_tree.specs.Rules as rules
@@ -8,9 +8,9 @@ use Rattle.mpy_tree.specs.Trees as kind
 use Rattle.mpy_tree.specs.Trees.{Kind, Tree, Trees, node, no_trees, tree_and}
 use Rattle.choice_tree.specs.Typing.{Scope, type_of, types_of, same_type, is_name}
 use Rattle.choice_tree.specs.Typing.{is_list_name, copy_of, node_type, sliced}
-use Rattle.choice_tree.specs.Contexts.{Setting, Site, elsewhere, Context, below, inside, is_copied}
+use Rattle.choice_tree.specs.Contexts.{Setting, Site, Context, is_copied}
 use Rattle.choice_tree.specs.Contexts.{copies, scope_below}
-use Rattle.choice_tree.specs.Drafts.{Draft, Drafts, as_is, again, no_drafts, draft_and, filled}
+use Rattle.choice_tree.specs.Drafts.{Draft, Drafts, as_is, filled}
 use Rattle.choice_tree.specs.Drafts.{filled_all}
 use Rattle.choice_tree.specs.Rewriting.{Edit, Rewrites, RewritesAll, Finishes, FinishesAll, kept}
 use Rattle.choice_tree.specs.Rewriting.{copied, replaced, replaced_at, none, each, made}

@@ -1,7 +1,7 @@
 -- The parts of an alternative that are rewritten again are smaller than the term that it replaces.
-use Rattle.std.proofs.Common.{◌≡◌, ℕ, zero, suc, ◌+◌, ◌≤◌, max, Bool, true, false, ◌||◌}
+use Rattle.std.proofs.Common.{◌≡◌, ℕ, suc, ◌≤◌, Bool, true, false, ◌||◌}
 use Rattle.std.proofs.Common.{if◌then◌else◌, List, [], ◌∷◌, ◌++◌, map, Option, Some, None, refl}
-use Rattle.std.proofs.Common.{sym, ap, ◌∙◌, arith}
+use Rattle.std.proofs.Common.{arith}
 use Rattle.std.specs.Prelude.{flat_map}
 use Rattle.mpy_tree.specs.Trees as kind
 use Rattle.mpy_tree.specs.Trees.{Kind, Tree, Trees, node, no_trees, tree_and, leaf}
@@ -13,15 +13,15 @@ use Rattle.choice_tree.specs.declared.rules.Meta.{Meta}
 use Rattle.choice_tree.specs.declared.rules.Place.{Place}
 use Rattle.choice_tree.specs.declared.rules.Place.TheVariants as P
 use Rattle.choice_tree.specs.Typing.{Scope}
-use Rattle.choice_tree.specs.Contexts.{Site, elsewhere, at_return, at_assign, at_if, at_while}
+use Rattle.choice_tree.specs.Contexts.{Site, at_return, at_assign, at_if, at_while}
 use Rattle.choice_tree.specs.Contexts.{at_for}
-use Rattle.choice_tree.specs.Matching.{Bound, a_term, an_operator, Binding, Bindings, bind}
+use Rattle.choice_tree.specs.Matching.{Bound, a_term, an_operator, Bindings}
 use Rattle.choice_tree.specs.Matching.{together, only_if, bind_if, node_matches, matches}
 use Rattle.choice_tree.specs.Matching.{matches_all, takes, without_place, with_place}
 use Rattle.choice_tree.specs.Drafts.{Draft, Drafts, as_is, again, no_drafts, draft_and, draft_of}
 use Rattle.choice_tree.specs.Drafts.{drafts_of, same_meta, term_in, bound_term, node_resolutions}
 use Rattle.choice_tree.specs.Drafts.{node_drafts, local_draft, locals_like, resolutions}
-use Rattle.choice_tree.specs.Drafts.{resolutions_all, resolutions_of_each, Proposal, proposal}
+use Rattle.choice_tree.specs.Drafts.{resolutions_all, resolutions_of_each, proposal}
 use Rattle.choice_tree.specs.Drafts.{resolved, proposals_from, proposals}
 use Rattle.choice_tree.specs.Growing.{steps, steps_in}
 use Rattle.choice_tree.proofs.Lists.{Each, each_append, each_map, each_flat_map, each_any}

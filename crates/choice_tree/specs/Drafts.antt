@@ -10,7 +10,7 @@ use Rattle.choice_tree.specs.Templates.{Correction}
 use Rattle.choice_tree.specs.declared.rules.Meta.{Meta}
 use Rattle.choice_tree.specs.declared.rules.Place.{Place}
 use Rattle.choice_tree.specs.Typing.{Scope, locals_of, type_of, same_type}
-use Rattle.choice_tree.specs.Matching.{Bound, a_term, an_operator, Binding, Bindings, together}
+use Rattle.choice_tree.specs.Matching.{Bound, a_term, an_operator, Bindings, together}
 use Rattle.choice_tree.specs.Matching.{matches}
 
 -- a term in which some parts are to be rewritten again

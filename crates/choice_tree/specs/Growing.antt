@@ -1,6 +1,6 @@
 -- The weighted tree of all rewritings: the trees that the rules make of a term, with a pick where
 -- there is an alternative.
-use Rattle.std.specs.Prelude.{ℕ, zero, suc, ◌+◌, max, Bool, if◌then◌else◌, List, [], ◌∷◌, filter}
+use Rattle.std.specs.Prelude.{ℕ, zero, suc, max, Bool, if◌then◌else◌, List, [], ◌∷◌, filter}
 use Rattle.std.specs.Prelude.{Option}
 use Rattle.mpy_tree.specs.Syntax.{Routine}
 use Rattle.mpy_tree.specs.Trees.{Kind, Tree, Trees, node, no_trees, tree_and}

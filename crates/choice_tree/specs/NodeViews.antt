@@ -1,5 +1,5 @@
 -- What the code's references to nodes are as mathematics.
-use Rattle.std.specs.Prelude.{ℕ, List, map, Option, Some, None}
+use Rattle.std.specs.Prelude.{ℕ, map, Option, Some, None}
 use denote.Ref.{Bor}
 use Rattle.choice_tree.specs.declared.node.Node.{Node}
 use Rattle.choice_tree.specs.declared.node.Node.TheVariants as node

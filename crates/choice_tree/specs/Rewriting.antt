@@ -1,10 +1,10 @@
 -- Which programs the rules make of a program, at which cost, and by which edits.
-use Rattle.std.specs.Prelude.{◌≡◌, ◌⊎◌, ℕ, suc, ◌+◌, Bool, true, false, if◌then◌else◌, List}
+use Rattle.std.specs.Prelude.{◌≡◌, ◌⊎◌, ℕ, suc, ◌+◌, true, false, if◌then◌else◌, List}
 use Rattle.std.specs.Prelude.{[], ◌∷◌, ◌++◌}
 use Rattle.mpy_tree.specs.Syntax.{Routine}
 use Rattle.mpy_tree.specs.Trees.{Kind, Tree, Trees, node, no_trees, tree_and}
 use Rattle.mpy_tree.specs.Shapes.{program_shape}
-use Rattle.choice_tree.specs.Typing.{Scope, type_of, same_type, copy_of}
+use Rattle.choice_tree.specs.Typing.{type_of, same_type, copy_of}
 use Rattle.choice_tree.specs.Contexts.{Setting, Site, elsewhere, Context, site_below, line_below}
 use Rattle.choice_tree.specs.Contexts.{below, inside, copies, outermost}
 use Rattle.choice_tree.specs.Matching.{without_place, with_place}

@@ -1,5 +1,5 @@
 -- What the code's rules are as mathematics: one step for each kind of node.
-use Rattle.std.specs.Prelude.{ℕ, Bool, true, false, List, [], ◌∷◌, map, Option, Some, None}
+use Rattle.std.specs.Prelude.{List, [], ◌∷◌, map, Option, Some, None}
 use Rattle.choice_tree.specs.declared.rules.PExpr.{PExpr}
 use Rattle.choice_tree.specs.declared.rules.PExprs.{PExprs}
 use Rattle.choice_tree.specs.declared.rules.PExpr.TheOpen as F

@@ -1,10 +1,10 @@
 -- What a selection makes of a weighted tree.
 use Rattle.std.specs.Prelude.{◌≡◌, ℕ, zero, suc, ◌+◌, ◌*◌, min, max, Bool, true, false, ◌==◌, ◌||◌}
-use Rattle.std.specs.Prelude.{◌&&◌, nat_le, List, [], ◌∷◌, ◌++◌, Option, None, Some, slice_get}
+use Rattle.std.specs.Prelude.{◌&&◌, nat_le, List, [], ◌∷◌, ◌++◌, Option, None, slice_get}
 use Rattle.std.specs.Option.{unwrap_or}
 use Rattle.choice_tree.specs.declared.selection.Choice.{Choice}
 use Rattle.choice_tree.specs.Choices.{member_of, Rises, NamesBy}
-use Rattle.mpy_tree.specs.Trees.{Kind, Tree, Trees, node, no_trees, tree_and}
+use Rattle.mpy_tree.specs.Trees.{Tree, Trees, node, no_trees, tree_and}
 use Rattle.choice_tree.specs.Contexts.{line_below}
 use Rattle.choice_tree.specs.Rewriting.{Edit}
 use Rattle.choice_tree.specs.WeightedTrees.{Weighted, Weighteds, Others, plainly, pick}

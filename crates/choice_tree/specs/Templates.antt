@@ -1,6 +1,6 @@
 -- The two sides of a correction rule. The rules are those of the error models of Singh, Gulwani and
 -- Solar-Lezama (PLDI 2013), in the concrete syntax of this project.
-use Rattle.std.specs.Prelude.{◌≡◌, ⊤, ◌||◌, ℕ, Bool, true, false, List, [], ◌∷◌, Option}
+use Rattle.std.specs.Prelude.{◌≡◌, ⊤, ◌||◌, ℕ, Bool, false, List, [], ◌∷◌, Option}
 use Rattle.mpy_tree.specs.declared.operators.ArithOp.{ArithOp}
 use Rattle.mpy_tree.specs.declared.operators.CmpOp.{CmpOp}
 use Rattle.mpy_tree.specs.Trees.{Kind}

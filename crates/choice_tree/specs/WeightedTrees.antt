@@ -1,5 +1,5 @@
 -- Weighted trees: trees in which a pick stands for any one of its members.
-use Rattle.std.specs.Prelude.{ℕ, suc, ◌+◌, true, false, if◌then◌else◌, List, [], ◌∷◌}
+use Rattle.std.specs.Prelude.{ℕ, suc, ◌+◌, if◌then◌else◌, List, [], ◌∷◌}
 use Rattle.mpy_tree.specs.Trees.{Kind, Tree, Trees, node, no_trees, tree_and}
 use Rattle.choice_tree.specs.Matching.{is_expression}
 use Rattle.choice_tree.specs.Rewriting.{Edit}

@@ -1,5 +1,5 @@
 -- What the code's weighted trees are as mathematics: one step for each kind of node.
-use Rattle.std.specs.Prelude.{ℕ, Bool, true, false, List, [], ◌∷◌, map, Option, Some, None}
+use Rattle.std.specs.Prelude.{ℕ, Bool, true, false, List, [], ◌∷◌, Option, Some, None}
 use Rattle.choice_tree.specs.declared.tree.WExpr.{WExpr}
 use Rattle.choice_tree.specs.declared.tree.WExprs.{WExprs}
 use Rattle.choice_tree.specs.declared.tree.Other.{Other}

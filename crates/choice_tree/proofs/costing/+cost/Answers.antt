@@ -1,11 +1,11 @@
-use Rattle.std.proofs.Common.{◌≡◌, ℕ, ◌+◌, ◌-◌, ◌<◌, suc, arith, ap, ◌∙◌, sym, Some, None, drop, length}
+use Rattle.std.proofs.Common.{◌≡◌, ◌+◌, arith, ap, ◌∙◌, sym, Some, None, drop}
 use Rattle.choice_tree.specs.Choices.{member_of}
 use Rattle.choice_tree.specs.Selections.{cost}
 use Rattle.choice_tree.specs.Costs.{capped, sum_of}
 use Rattle.choice_tree.specs.WeightedTrees.{children}
 use Rattle.choice_tree.specs.NodeViews.{node_of}
 use Rattle.choice_tree.proofs.CostLaws.{pick_cost}
-use Rattle.choice_tree.proofs.Walking.{child_smaller, base_smaller, other_smaller, is_place}
+use Rattle.choice_tree.proofs.Walking.{child_smaller, other_smaller, is_place}
 use Rattle.choice_tree.proofs.Walking.{sum_next, no_next, parts_cost}
 use Rattle.choice_tree.proofs.costing.+cost.Goals as goal
 

@@ -1,4 +1,4 @@
-use Rattle.std.proofs.Common.{arith, ◌<◌}
+use Rattle.std.proofs.Common.{arith}
 use Rattle.choice_tree.specs.Choices.{member_of}
 use Rattle.choice_tree.specs.StatementViews.{weighted_prog}
 use Rattle.choice_tree.proofs.CostLaws.{cost_within}

@@ -1,4 +1,4 @@
-use Rattle.std.proofs.Common.{◌≡◌, ℕ, ◌+◌, ◌-◌, ◌*◌, ◌<◌, ◌≤◌, arith, ap, ◌∙◌, sym, drop, length, min}
+use Rattle.std.proofs.Common.{◌≡◌, ◌+◌, ◌*◌, ◌≤◌, arith, ap, ◌∙◌, sym, drop}
 use Rattle.std.proofs.Math.Nat.{mul-one, one-le-mul}
 use Rattle.choice_tree.specs.Selections.{choices, stopped}
 use Rattle.choice_tree.specs.Costs.{product_of}

@@ -1,10 +1,10 @@
-use Rattle.std.proofs.Common.{◌≡◌, ℕ, ◌+◌, ◌-◌, ◌*◌, ◌<◌, max, map, arith, ap, ◌∙◌, sym, drop, length}
+use Rattle.std.proofs.Common.{◌≡◌, ◌+◌, max, map, arith, ap, ◌∙◌, sym, drop}
 use Rattle.choice_tree.specs.Selections.{most_cost, other_most_cost}
 use Rattle.choice_tree.specs.Costs.{capped, sum_of}
 use Rattle.choice_tree.specs.WeightedTrees.{children}
-use Rattle.choice_tree.specs.WeightedViews.{weighted_of, members, member_seen}
+use Rattle.choice_tree.specs.WeightedViews.{members, member_seen}
 use Rattle.choice_tree.specs.NodeViews.{node_of}
-use Rattle.choice_tree.proofs.MostLaws.{most_of_parts, most_of_pick, inside_pick, most_next}
+use Rattle.choice_tree.proofs.MostLaws.{most_of_parts, most_of_pick, most_next}
 use Rattle.choice_tree.proofs.MostLaws.{member_smaller}
 use Rattle.choice_tree.proofs.Walking.{child_smaller, is_place, sum_next, no_next}
 use Rattle.choice_tree.proofs.counting.+most_cost.Goals as goal

@@ -1,4 +1,4 @@
-use Rattle.std.proofs.Common.{arith, ◌<◌}
+use Rattle.std.proofs.Common.{arith}
 use Rattle.choice_tree.specs.StatementViews.{weighted_prog}
 use Rattle.choice_tree.proofs.MostLaws.{most_within}
 use Rattle.choice_tree.proofs.counting.most_cost.Goals as goal

@@ -1,4 +1,4 @@
-use Rattle.std.proofs.Common.{◌≡◌, ◌+◌, ◌-◌, ◌*◌, ◌<◌, ◌||◌, arith, ap, ◌∙◌, sym, length}
+use Rattle.std.proofs.Common.{◌+◌, ◌||◌, arith, ap, ◌∙◌, sym}
 use Rattle.choice_tree.specs.Selections.{has_member, any_of}
 use Rattle.choice_tree.specs.WeightedTrees.{children}
 use Rattle.choice_tree.specs.NodeViews.{node_of}

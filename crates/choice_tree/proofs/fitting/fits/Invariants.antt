@@ -1,4 +1,4 @@
-use Rattle.std.proofs.Common.{◌≡◌, ◌≤◌, ◌^◌, drop}
+use Rattle.std.proofs.Common.{◌≡◌, drop}
 use Rattle.choice_tree.specs.Selections.{fits, fits_from}
 use Rattle.choice_tree.specs.StatementViews.{weighted_prog}
 use Rattle.choice_tree.proofs.fitting.fits.Given as goal

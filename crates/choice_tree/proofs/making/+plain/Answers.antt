@@ -1,4 +1,4 @@
-use Rattle.std.proofs.Common.{rules, ◌≡◌, ℕ, ◌+◌, ◌-◌, suc, arith, ap, ◌∙◌, sym, take, map, Some}
+use Rattle.std.proofs.Common.{◌-◌, arith, ap, ◌∙◌, sym, Some}
 use Rattle.std.proofs.lemmas.Grind.{common_steps}
 use Rattle.mpy_tree.specs.Shapes.{shapes}
 use Rattle.choice_tree.specs.Choices.{member_of}

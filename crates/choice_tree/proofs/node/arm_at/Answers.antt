@@ -1,5 +1,5 @@
-use Rattle.std.proofs.Common.{◌-◌, length, ap, ◌∙◌, None, slice_get}
-use Rattle.choice_tree.specs.WeightedTrees.{no_weighted, weighted_and}
+use Rattle.std.proofs.Common.{◌∙◌}
+use Rattle.choice_tree.specs.WeightedTrees.{no_weighted}
 use Rattle.choice_tree.specs.WeightedViews.{one}
 use Rattle.choice_tree.specs.StatementViews.{weighted_arm, weighted_body, weighted_else}
 use Rattle.choice_tree.proofs.Places.{arm_there, behind_arms}

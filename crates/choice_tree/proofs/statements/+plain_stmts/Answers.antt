@@ -1,12 +1,7 @@
-use Rattle.std.proofs.Common.{rules, ◌≡◌, arith}
+use Rattle.std.proofs.Common.{arith}
 use Rattle.std.proofs.lemmas.Grind.{common_steps}
-use Rattle.mpy_tree.specs.View.{branches_of, block_or_none}
-use Rattle.mpy_tree.specs.Shapes.{arms_shapes, last_shapes}
-use Rattle.mpy_tree.specs.Trees as kind
-use Rattle.mpy_tree.specs.Trees.{node}
+use Rattle.mpy_tree.specs.View.{branches_of}
 use Rattle.choice_tree.specs.Choices.{member_of}
-use Rattle.choice_tree.specs.Selections.{arms_plain, plains}
-use Rattle.choice_tree.specs.StatementViews.{weighted_arms, weighted_else}
 use Rattle.choice_tree.proofs.StatementParts.{body_plain, arms_made, if_plain}
 use Rattle.choice_tree.proofs.statements.+plain_stmts.Goals as goal
 
