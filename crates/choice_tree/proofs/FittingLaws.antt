@@ -1,4 +1,5 @@
 -- Which members a tree has, by its children.
+use Rattle.std.proofs.Common.{arith, ◌≤◌}
 use Rattle.std.proofs.Common.{◌≡◌, ℕ, suc, Bool, true, false, ◌||◌, ◌&&◌, ◌==◌, nat_le, List, []}
 use Rattle.std.proofs.Common.{◌∷◌, map, drop, length, slice_get, Some, None, refl, sym, ap, ◌∙◌}
 use Rattle.choice_tree.specs.declared.node.Pick.{Pick}
@@ -8,8 +9,12 @@ use Rattle.choice_tree.specs.WeightedTrees.{weighted_and, no_others, other_and, 
 use Rattle.choice_tree.specs.WeightedTrees.{other_trees}
 use Rattle.choice_tree.specs.WeightedViews.{members, member_seen}
 use Rattle.choice_tree.specs.Selections.{has_member, any_has_member, other_has_member, any_of}
+use Rattle.choice_tree.specs.Selections.{fits_from}
+use Rattle.std.proofs.lemmas.Bool.{leb-true, le-leb}
 use Rattle.choice_tree.specs.Selections.{count_others}
 use Rattle.choice_tree.specs.NodeViews.{own_pick, pick_of}
+use Rattle.choice_tree.specs.declared.selection.Choice.{Choice}
+use Rattle.choice_tree.specs.Choices.{Rises, NamesBy}
 use Rattle.choice_tree.proofs.Walking.{next_of, no_next}
 
 pub any_next : (f : Weighted → Bool) (xs : List Weighted) (i j : ℕ) (x : Weighted)
@@ -61,3 +66,27 @@ pick_has p i (pick number base os) q h =
     rw (n, c, any_others p i os)
     (or_nested ((number == p) && nat_le i (count_others os)) (has_member base p i)
     (other_has_member os p i))
+
+all_of : (a b c d : Bool) → a && b && c && d ≡ true
+    → (a ≡ true) × (b ≡ true) × (c ≡ true) × (d ≡ true)
+all_of true true true true h = (refl, refl, refl, refl)
+all_of true true true false h = cc
+all_of true true false d h = cc
+all_of true false c d h = cc
+all_of false b c d h = cc
+
+pub fitting : (w : Weighted) (from : ℕ) (s : List Choice) → fits_from w from s ≡ true
+    → Rises from s × NamesBy (has_member w) s
+fitting w from [] h = (tt, tt)
+fitting w from (c ∷ rest) h =
+    let a =
+        all_of (nat_le from c.pick) (nat_le 1 c.member) (has_member w c.pick c.member)
+        (fits_from w (suc c.pick) rest) h in
+    let r = fitting w (suc c.pick) rest a.3 in
+    ((leb-true from c.pick a.0, r.0), (leb-true 1 c.member a.1, a.2, r.1))
+
+pub fits_so : (w : Weighted) (from : ℕ) (s : List Choice) → Rises from s
+    → NamesBy (has_member w) s → fits_from w from s ≡ true
+fits_so w from [] r n = refl
+fits_so w from (c ∷ rest) r n =
+    rw (le-leb from c.pick r.0, le-leb 1 c.member n.0, n.1, fits_so w (suc c.pick) rest r.1 n.2) refl

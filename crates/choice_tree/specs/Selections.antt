@@ -94,18 +94,16 @@ abbrev pub any_of : (Weighted → Bool) → List Weighted → Bool
 any_of f [] = false
 any_of f (w ∷ ws) = f w || any_of f ws
 
--- the selection fits the tree: as a fact, and as a test
+-- the selection fits the tree
 abbrev pub Fits : Weighted → List Choice → Type 0
 Fits w s = Rises 0 s × NamesBy (has_member w) s
 
+-- the same as a test
 abbrev pub fits_from : Weighted → ℕ → List Choice → Bool
 fits_from w from [] = true
 fits_from w from (c ∷ rest) =
     nat_le from c.pick && nat_le 1 c.member && has_member w c.pick c.member
     && fits_from w (suc c.pick) rest
-
-abbrev pub fits : Weighted → List Choice → Bool
-fits w s = fits_from w 0 s
 
 -- the greatest cost
 abbrev mutual

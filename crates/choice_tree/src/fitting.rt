@@ -1,6 +1,6 @@
 //! Whether a selection fits a tree.
-ghost use Rattle.std.specs.Prelude.{◌≡◌, ◌==◌, ◌&&◌, nat_le, length};
-ghost use Rattle.choice_tree.specs.Selections.{fits, has_member, any_of};
+ghost use Rattle.std.specs.Prelude.{◌≡◌, ◌↔◌, true, ◌==◌, ◌&&◌, nat_le, length};
+ghost use Rattle.choice_tree.specs.Selections.{Fits, fits_from, has_member, any_of};
 ghost use Rattle.choice_tree.specs.WeightedTrees.{children};
 ghost use Rattle.choice_tree.specs.NodeViews.{node_of};
 ghost use Rattle.choice_tree.specs.StatementViews.{weighted_prog};
@@ -12,7 +12,14 @@ use crate::tree::WProg;
 /// Whether the picks of a selection rise, and each pair names a pick of the tree and one of its
 /// members besides the base.
 pub fn fits(w: &WProg, s: &Selection) -> bool
-    ensures { result ≡ fits (weighted_prog w.now) s.now }
+    ensures { (result ≡ true) ↔ Fits (weighted_prog w.now) s.now }
+{
+    all_fit(w, s)
+}
+
+// The same, as a test of one pair after the other.
+fn all_fit(w: &WProg, s: &Selection) -> bool
+    ensures { result ≡ fits_from (weighted_prog w.now) 0 s.now }
 {
     let mut from = 0u64;
     for choice in s.items() {

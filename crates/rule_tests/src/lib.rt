@@ -1,0 +1,7 @@
+//! Tests of the crates of rules and their rewritings.
+#![tactic(auto)]
+
+#[cfg(test)]
+mod selections;
+#[cfg(test)]
+mod trees;
