@@ -12,7 +12,7 @@ use Rattle.choice_tree.specs.declared.node.Pick.{Pick}
 use Rattle.choice_tree.specs.NodeViews.{own_pick, pick_of}
 use Rattle.choice_tree.proofs.Opening.{member_is}
 
-chosen_within : (i base n : ℕ) (xs : List ℕ) (most : ℕ) → base ≤ most
+pub chosen_within : (i base n : ℕ) (xs : List ℕ) (most : ℕ) → base ≤ most
     → ((k d : ℕ) → k < length xs → get_or xs k d ≤ most) → chosen i base xs ≤ most
 chosen_within zero base n xs most h all = h
 chosen_within (suc i) base n [] most h all = h

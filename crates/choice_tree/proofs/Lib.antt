@@ -4,6 +4,7 @@ pub mod CountLaws
 pub mod Enough
 pub mod FittingLaws
 pub mod Giving
+pub mod GreatestCost
 pub mod Lists
 pub mod MostLaws
 pub mod Numbers
@@ -11,6 +12,7 @@ pub mod Opening
 pub mod Places
 pub mod PlainParts
 pub mod SelectionLaws
+pub mod ShapeTypes
 pub mod Sound
 pub mod StatementParts
 pub mod Types

@@ -1,5 +1,6 @@
 -- What a selection makes of a weighted tree.
-use Rattle.std.specs.Prelude.{◌≡◌, ℕ, zero, suc, ◌+◌, ◌*◌, min, max, Bool, true, false, ◌==◌, ◌||◌}
+use Rattle.std.specs.Prelude.{◌≡◌, ◌≤◌, ℕ, zero, suc, ◌+◌, ◌*◌, min, max, Bool, true, false, ◌==◌}
+use Rattle.std.specs.Prelude.{◌||◌}
 use Rattle.std.specs.Prelude.{◌&&◌, nat_le, List, [], ◌∷◌, ◌++◌, Option, None, slice_get}
 use Rattle.std.specs.Option.{unwrap_or}
 use Rattle.choice_tree.specs.declared.selection.Choice.{Choice}
@@ -152,3 +153,8 @@ pub record MadeBySelections (w : Weighted) (IsMade : Tree → ℕ → List Edit 
       → IsMade (plain (member_of s) w) (cost (member_of s) w) (edits (member_of s) w 0)
   pub selected : (t : Tree) (n : ℕ) (es : List Edit) → IsMade t n es
       → (s : List Choice) × Fits w s × IsGivenBy s w t n es
+
+-- No selection costs more, and one that fits costs as much.
+pub record IsGreatestCost (w : Weighted) : Type 0 where
+  pub below : (s : List Choice) → cost (member_of s) w ≤ most_cost w
+  pub reached : (s : List Choice) × Fits w s × (cost (member_of s) w ≡ most_cost w)

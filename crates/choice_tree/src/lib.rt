@@ -15,7 +15,9 @@ mod tree;
 pub use costing::cost;
 pub use counting::{choices, most_cost};
 pub use fitting::fits;
-pub use laws::selections_are_rewritings;
+pub use laws::{
+    greatest_cost_is_reached, selections_are_rewritings, trees_have_the_types_of_terms,
+};
 pub use node::{Node, Pick};
 pub use making::plain_expr;
 pub use rules::{
