@@ -176,12 +176,16 @@ def bounds_lines(rng):
         yield 'param %s %s' % (a_name(rng), form)
 
 
+def spaced(rng, line):
+    words = re.sub(' ', lambda _: rng.choice((' ', ' ', '  ', '\t')), line)
+    return rng.choice(('', '', ' ', '\t')) + words + rng.choice(('', '', ' ', ' # so', '#'))
+
+
 def in_a_layout(rng, lines):
     if rng.random() < 0.5:
         for _ in range(rng.randrange(4)):
             lines.insert(rng.randint(0, len(lines)), rng.choice(('', ' ', '\t', '# so', '  # of')))
-        lines = [rng.choice(('', '', ' ', '\t')) + re.sub(' ', lambda _: rng.choice((' ', ' ', '  ', '\t')), line)
-                 + rng.choice(('', '', ' ', ' # so', '#')) if "'" not in line and '"' not in line else line for line in lines]
+        lines = [line if "'" in line or '"' in line else spaced(rng, line) for line in lines]
     end = rng.choice(('\n', '\n', '\n', '\r\n'))
     return (end.join(lines) + rng.choice((end, end, '', end * 2))).encode()
 
@@ -193,10 +197,15 @@ OTHER_WORDS = ('0', '1', '2', '3', '8', '9', '16', '17', '32', '33', '-1', '-0',
                '#', '\u00e9', '1x', 'x1', '')
 
 
+def whole_bounds(rng):
+    return in_a_layout(rng, list(bounds_lines(rng)))
+
+
+EDGES = (0, 1, 2, 3, 8, 9, 16, 17, 32, 33, -1, -4, -5, 127, 128, -128, -129, 32767, 32768, -32768, -32769)
+
+
 def at_an_edge(rng, number):
-    edges = ('0', '1', '2', '3', '8', '9', '16', '17', '32', '33', '-1', '-4', '-5', '127', '128', '-128', '-129', '32767', '32768',
-             '-32768', '-32769', str(int(number) + 1), str(int(number) - 1))
-    return rng.choice(edges)
+    return str(rng.choice(EDGES + (int(number) + 1, int(number) - 1)))
 
 
 def near_bounds(rng):
@@ -216,7 +225,8 @@ def near_bounds(rng):
         if rng.random() < 0.5:
             del lines[rng.randrange(len(lines))]
     elif kind == 4:
-        lines += ['param %s %s' % (a_name(rng), rng.choice(('bool', 'bool', 'int 0..1', 'int 2..1'))) for _ in range(rng.choice((1, 4, 5)))]
+        forms = ('bool', 'bool', 'int 0..1', 'int 2..1')
+        lines += ['param %s %s' % (a_name(rng), rng.choice(forms)) for _ in range(rng.choice((1, 4, 5)))]
     text = in_a_layout(rng, lines)
     return spoiled_bytes(rng, text) if kind == 5 else text
 

@@ -41,8 +41,9 @@ class Model:
         import printer
         import share
         import tree
-        self.read_bounds, self.read_prog, self.print_case, self.fault = bounds.read_bounds, parser.read_prog, printer.case, tree.Fault
-        self.cases, self.typing, self.share = cases, names_types, share
+        self.read_bounds, self.read_prog, self.fault = bounds.read_bounds, parser.read_prog, tree.Fault
+        self.cases, self.print_case = cases, printer.case
+        self.typing, self.share = names_types, share
 
     def bounds(self, raw):
         try:
@@ -50,9 +51,11 @@ class Model:
         except self.fault as fault:
             return None, 'refused %s %d' % (fault.cause, fault.line)
         limits = b.limits
-        params = [','.join([p[0]] + [n.encode().hex() if isinstance(n, str) else str(n) for n in p[1:]]) for p in b.params]
         said = ['bounds', limits.width, limits.turns, limits.depth, limits.cap, b.entry.encode().hex(), b.entry_line, b.count()]
-        return b, ' '.join(map(str, said + params))
+        return b, ' '.join(map(str, said + [self.param(p) for p in b.params]))
+
+    def param(self, param):
+        return ','.join(it.encode().hex() if isinstance(it, str) and at else str(it) for at, it in enumerate(param))
 
     def conflict(self, p, b, fault):
         """The first two types of the first slot, where it has several."""
@@ -74,7 +77,8 @@ class Model:
             conflict = self.conflict(p, b, fault) if fault.cause == 'TypeFault' else None
             return conflict or '%s %s' % (said, said)
         numbers = {f[1]: at for at, f in enumerate(p)}
-        facts = ['%d%s.%s' % (numbers[f], '' if x is None else '.' + x.encode().hex(), types.of(f, x)) for f, x in types.facts]
+        slots = [(f, x, '' if x is None else '.' + x.encode().hex()) for f, x in types.facts]
+        facts = ['%d%s.%s' % (numbers[f], shown, types.of(f, x)) for f, x, shown in slots]
         return ' '.join(['typed'] + facts + ['read', str(len(facts))])
 
     def case(self, raw, b):
@@ -123,7 +127,7 @@ def ask_of(asked, kind, seed, number):
     rng = random.Random('%s/%d/%d' % (kind, seed, number))
     is_spoiled = number % 2 == 1
     if kind == 'bounds':
-        raw = random_sources.near_bounds(rng) if is_spoiled else random_sources.in_a_layout(rng, list(random_sources.bounds_lines(rng)))
+        raw = random_sources.near_bounds(rng) if is_spoiled else random_sources.whole_bounds(rng)
         b = asked.bounds(number, raw)
         if number % 10 == 0:
             asked.inputs(rng, number, b)

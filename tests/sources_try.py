@@ -315,7 +315,8 @@ class Harness:
         self.input = os.path.join(folder, 'input.txt')
         self.crate = os.path.join(folder, 'crates/sources_try')
         for name in CRATES:
-            shutil.copytree(os.path.join('crates', name), os.path.join(folder, 'crates', name), ignore=shutil.ignore_patterns('out'))
+            to = os.path.join(folder, 'crates', name)
+            shutil.copytree(os.path.join('crates', name), to, ignore=shutil.ignore_patterns('out'))
         os.makedirs(os.path.join(self.crate, 'src'))
         with open('crates.txt') as listed, open(os.path.join(folder, 'crates.txt'), 'w') as out:
             out.writelines(line for line in listed if line.split(':')[0] in CRATES)
