@@ -14,7 +14,8 @@ import os
 import subprocess
 import sys
 import tempfile
-import time
+
+from least_time import least_time
 
 RUNS = 3
 
@@ -84,15 +85,6 @@ def f(s):
 )
 
 
-def least(call):
-    times = []
-    for _ in range(RUNS):
-        before = time.perf_counter()
-        call()
-        times.append(time.perf_counter() - before)
-    return min(times)
-
-
 def by_program(program, folder, sources):
     for name, text in sources.items():
         with open(os.path.join(folder, name), 'w') as file:
@@ -102,7 +94,7 @@ def by_program(program, folder, sources):
         ran = subprocess.run([program, 'grade'] + list(sources) + ['cert.txt', '200000'], cwd=folder, capture_output=True)
         if (ran.returncode, ran.stdout) != (0, b'correct\n'):
             sys.exit('%s ended with status %d and wrote %r' % (program, ran.returncode, ran.stdout[:300]))
-    return least(run)
+    return least_time(run, RUNS)
 
 
 def by_model(path, sources):
@@ -113,7 +105,7 @@ def by_model(path, sources):
     def run():
         if grade.Grader(grade.read_task(raws, 4)).solve().cost != 0:
             sys.exit('the programs differ for the model')
-    return least(run)
+    return least_time(run, RUNS)
 
 
 def function(text):
@@ -131,7 +123,7 @@ def by_python(reference, submission, inputs):
             copies = [[it[:] if isinstance(it, list) else it for it in values] for _ in range(2)]
             if one(*copies[0]) != other(*copies[1]):
                 sys.exit('the programs differ for CPython on %r' % (values,))
-    return least(run)
+    return least_time(run, RUNS)
 
 
 def main():

@@ -13,7 +13,8 @@ import os
 import subprocess
 import sys
 import tempfile
-import time
+
+from least_time import least_time
 
 RUNS = 15
 MOST = 65536
@@ -53,13 +54,8 @@ REFUSED = (
 )
 
 
-def least(call):
-    times = []
-    for _ in range(RUNS):
-        before = time.perf_counter()
-        call()
-        times.append(time.perf_counter() - before)
-    return min(times) * 1000
+def milliseconds(call):
+    return least_time(call, RUNS) * 1000
 
 
 def timed(program, folder, text):
@@ -70,7 +66,7 @@ def timed(program, folder, text):
 
     def run():
         out[:] = [subprocess.run([program, 'text.py'], cwd=folder, stdout=subprocess.PIPE)]
-    took = least(run)
+    took = milliseconds(run)
     return took, out[0].stdout, out[0].returncode
 
 
@@ -87,7 +83,7 @@ def main():
             took, out, status = timed(program, folder, text)
             if status != 0 or ast.dump(ast.parse(out)) != ast.dump(ast.parse(text)):
                 sys.exit('%s printed another program, or none: status %d, %r' % (program, status, out[:200]))
-            model = least(lambda: ast.unparse(ast.parse(text)))
+            model = milliseconds(lambda: ast.unparse(ast.parse(text)))
             print('%8d %12.2f %12.2f %8.2f' % (len(text), took, model, took / model))
         for name, text in REFUSED:
             took, out, status = timed(program, folder, text)

@@ -7,9 +7,10 @@ KIND is `run` for random programs of every form on random inputs, `grade` for ra
 `formulas` for formulas that are corrected by rules, and for words and files with something wrong. MODEL is the path of
 the model's command line; its modules lie beside it. Each request is made from the kind, the seed and its own number, so
 `--first NUMBER` with COUNT 1 repeats one. The model says of each answer whether it is one of those that are allowed,
-since which failing input is shown, and which of several cheapest corrections, is open. Printed are the counts of the
-answers, and each difference with its files; the exit status is 1 where there is one. With `--try` the program isn't a
-built one: `rt try` runs its sources, which is slow and serves a few requests.
+since which failing input is shown, and which of several cheapest corrections, is open. Some requests stand at the edge
+of a limit, and are also to be answered as their side is made for. Printed are the counts of the answers and of both
+sides of each limit, and each difference with its files; the exit status is 1 where there is one. With `--try` the
+program isn't a built one: `rt try` runs its sources, which is slow and serves a few requests.
 """
 import argparse
 import collections
@@ -22,6 +23,7 @@ import tempfile
 
 import formula_requests
 import program_requests
+from edge_requests import EdgeRequest
 
 KINDS = {'run': program_requests.a_run, 'grade': program_requests.a_pair, 'formulas': formula_requests.a_request}
 CRATE = os.path.join(os.path.dirname(os.path.realpath(__file__)), '../crates/grader_cli')
@@ -135,6 +137,19 @@ def kind_of(status, output):
     return 'status %d' % status
 
 
+def told_otherwise(request, output):
+    """What is wrong with the answer to a request at an edge, if it isn't the one of its side."""
+    if not isinstance(request, EdgeRequest) or request.is_met(output):
+        return None
+    return '%s, %s the limit: wanted %s' % (request.limit, 'past' if request.is_past else 'within', request.wanted)
+
+
+def show_sides(sides):
+    """Both sides of each limit."""
+    for limit in sorted({limit for limit, _ in sides}):
+        print('%7d within and %d past the limit: %s' % (sides[limit, False], sides[limit, True], limit.replace('_', ' ')))
+
+
 def show(number, request, status, output, fault):
     print('request %d: %s' % (number, fault))
     print('  words: %s' % ' '.join(map(repr, request.words)))
@@ -146,13 +161,15 @@ def show(number, request, status, output, fault):
 
 def compare(program, model, asked):
     """How many answers differ."""
-    kinds, untold, differing = collections.Counter(), 0, 0
+    kinds, sides, untold, differing = collections.Counter(), collections.Counter(), 0, 0
     numbers = range(asked.first, asked.first + asked.count)
     requests = [the_request(asked.kind, asked.seed, number) for number in numbers]
     for number, (request, status, output, fault) in zip(numbers, program.answers(requests)):
         kinds[kind_of(status, output)] += 1
+        if isinstance(request, EdgeRequest):
+            sides[request.limit, request.is_past] += 1
         try:
-            fault = fault or model.fault_of(request, status, output)
+            fault = fault or told_otherwise(request, output) or model.fault_of(request, status, output)
         except model.grade.CannotTell:
             untold += 1
         if fault:
@@ -160,6 +177,7 @@ def compare(program, model, asked):
             show(number, request, status, output, fault)
     for kind, count in sorted(kinds.items()):
         print('%7d  %s' % (count, kind))
+    show_sides(sides)
     print('%d requests, %d of which the model cannot tell, %d differ' % (len(numbers), untold, differing))
     return differing
 

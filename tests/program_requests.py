@@ -1,4 +1,5 @@
 """Random requests of `run` and of `grade` for programs of every form; `compare.py` takes them from here."""
+from edge_requests import an_edge_of_grade, an_edge_of_run
 from formula_requests import spoiled
 from random_programs import TYPES, Bounds, Programs, changed
 from request import WORDS, Request
@@ -17,7 +18,9 @@ def a_foreign_value(rng):
 
 
 def a_run(rng):
-    """A program on one input."""
+    """A program on one input, or one time in ten an edge of a limit."""
+    if rng.random() < 0.1:
+        return an_edge_of_run(rng)
     bounds = Bounds(rng, 10 ** 6)
     values = [bounds.value(param) for param in bounds.params]
     files = {'b.txt': bounds.text().encode(), 'p.py': a_program(rng, bounds, rng.choice(TYPES)).encode()}
@@ -51,7 +54,9 @@ def a_submission(rng, bounds, result, reference):
 
 
 def a_pair(rng):
-    """A submission beside a reference; more than half are changes of the reference."""
+    """A submission beside a reference; more than half are changes of the reference. A few are at the edge of a limit."""
+    if rng.random() < 0.004:
+        return an_edge_of_grade(rng)
     bounds = Bounds(rng, MOST_INPUTS if rng.random() < 0.99 else 10 ** 9)
     result = rng.choice(TYPES)
     reference = a_program(rng, bounds, result, rng.random() < 0.8)

@@ -1,16 +1,18 @@
 -- When the parts of gates decide what two bits both are.
 use Rattle.std.specs.Prelude.{◌≡◌, ◌≢◌, ◌⊎◌, ℕ, length, Bool, true, false, Some, None}
-use Rattle.std.specs.Prelude.{if◌then◌else◌, not, ◌&&◌, List, [], ◌∷◌, ◌++◌}
+use Rattle.std.specs.Prelude.{if◌then◌else◌, not, ◌&&◌, List, [], ◌∷◌, ◌++◌, slice_get}
 use Rattle.bit_graph.specs.declared.gate.Source.TheVariants.{Constant}
 use Rattle.bit_graph.specs.declared.choices.Choice.{Choice}
 use Rattle.bit_graph.specs.declared.choices.Choice.TheVariants.{Is, Both, NotBoth, Alike, Join}
 use Rattle.bit_graph.specs.declared.gate.Reduced.{Reduced}
 use Rattle.bit_graph.specs.declared.gate.Reduced.TheVariants.{Bit, New}
+use Rattle.bit_graph.specs.declared.gate.Source.{Source}
 use Rattle.bit_graph.specs.declared.gate.GraphBit.{GraphBit}
 use Rattle.bit_graph.specs.declared.gate.Gate.{Gate}
 use Rattle.bit_words.specs.Bits.{differ}
-use Rattle.bit_graph.specs.Gates.{Gates, IsBelow, IsGateAt, Owns, bit_reads, gate_reads}
-use Rattle.bit_graph.specs.Gates.{gate_of, is_positive_bit, opposite_bit, parts_of, source_of}
+use Rattle.bit_graph.specs.Gates.{Gates, IsBelow, IsGateAt, Owns, Precedes, bit_reads, gate_reads}
+use Rattle.bit_graph.specs.Gates.{gate_of, is_positive_bit, opposite_bit, parts_of, positive_bit}
+use Rattle.bit_graph.specs.Gates.{reading, source_of}
 
 abbrev pub AreSame : GraphBit → GraphBit → Type 0
 AreSame a b = (source_of a ≡ source_of b) × (is_positive_bit a ≡ is_positive_bit b)
@@ -78,7 +80,7 @@ pub record IsShortened (g : Gates) (a b r : GraphBit) : Type 0 where
       → (AreNever g a (opposite_bit x.left) → ⊥) → (AreNever g a (opposite_bit x.right) → ⊥) → r ≡ b
 
 -- a gate that no rule saves: of the second bit as the first one shortens it, and of the first one
--- as that shortens it
+-- as that shortens it, with the lower source on the left
 pub record IsNeeded (g : Gates) (a b : GraphBit) (x : Gate) : Type 0 where
   pub whole : NeedsGate g a b
   pub right : GraphBit
@@ -87,11 +89,67 @@ pub record IsNeeded (g : Gates) (a b : GraphBit) (x : Gate) : Type 0 where
   pub left_short : IsShortened g right a left
   pub short : NeedsGate g left right
   pub joins : (x ≡ gate_of left right) ⊎ (x ≡ gate_of right left)
+  pub ordered : Precedes (source_of x.left) (source_of x.right)
 
 -- gates stay as they are, or gain one that no rule saves
 abbrev pub GainsNeeded : Gates → GraphBit → GraphBit → List Gate → Type 0
 GainsNeeded g a b new = (new ≡ g.gates)
     ⊎ ((x : Gate) × (new ≡ g.gates ++ x ∷ []) × IsNeeded g a b x)
+
+-- a gate that two bits need isn't there
+pub record IsMissing (g : Gates) (a b : GraphBit) : Type 0 where
+  pub gate : Gate
+  pub needed : IsNeeded g a b gate
+  pub absent : (k : ℕ) → slice_get g.gates k ≢ Some gate
+
+-- a bit of a later graph reads as two bits of an earlier one together
+abbrev pub IsBoth : Gates → GraphBit → GraphBit → Gates → GraphBit → Type 0
+IsBoth old a b new r = (vs : List Bool)
+    → reading new vs r ≡ (reading old vs a && reading old vs b)
+
+-- of the gates of an exclusive or the last isn't there: that of the opposites of "both" and
+-- "neither"
+pub record LacksLast (g : Gates) (a b : GraphBit) : Type 0 where
+  pub both : GraphBit
+  pub neither : GraphBit
+  pub both_is : IsBoth g a b g both
+  pub neither_is : IsBoth g (opposite_bit a) (opposite_bit b) g neither
+  pub last : IsMissing g (opposite_bit both) (opposite_bit neither)
+
+-- a gate of an exclusive or isn't there
+abbrev pub LacksXor : Gates → GraphBit → GraphBit → Type 0
+LacksXor g a b = IsMissing g a b
+    ⊎ (IsMissing g (opposite_bit a) (opposite_bit b) ⊎ LacksLast g a b)
+
+-- neither form of the exclusive or of two sources is there: that of the two, and that of the one
+-- and the other's opposite
+abbrev pub NeedsXor : Gates → Source → Source → Type 0
+NeedsXor g a b = LacksXor g (positive_bit a) (positive_bit b)
+    × LacksXor g (positive_bit a) (opposite_bit (positive_bit b))
+
+-- gates gained by the conjunctions of two pairs and then that of the opposites of both, each where
+-- no rule saves it
+pub record AreOfThree (old : Gates) (a b c d : GraphBit) (new : Gates) : Type 0 where
+  pub first : Gates
+  pub second : Gates
+  pub one : GraphBit
+  pub other : GraphBit
+  pub one_is : IsBoth old a b first one
+  pub other_is : IsBoth first c d second other
+  pub gains_one : GainsNeeded old a b first.gates
+  pub gains_other : GainsNeeded first c d second.gates
+  pub gains_last : GainsNeeded second (opposite_bit one) (opposite_bit other) new.gates
+
+-- an exclusive or leaves the graph as it was where one of its forms is there, and else makes that
+-- of the bits as they are
+abbrev pub GainsXor : Gates → GraphBit → GraphBit → Gates → Type 0
+GainsXor old a b new = (new ≡ old)
+    ⊎ (NeedsXor old (source_of a) (source_of b)
+    × AreOfThree old a b (opposite_bit a) (opposite_bit b) new)
+
+-- one bit where a test holds, and another where it doesn't, by three gates
+abbrev pub GainsJoin : Gates → GraphBit → GraphBit → GraphBit → Gates → Type 0
+GainsJoin old c a b new = AreOfThree old c a (opposite_bit c) b new
 
 -- an arm of a choice that needs no choice: a constant, the test or its opposite
 abbrev pub IsSettled : GraphBit → GraphBit → Type 0
@@ -103,6 +161,12 @@ pub record NeedsChoice (c a b : GraphBit) : Type 0 where
   pub arms : source_of a ≢ source_of b
   pub first : IsSettled c a → ⊥
   pub second : IsSettled c b → ⊥
+
+-- no rule makes less of a choice than an exclusive or
+pub record IsOpposedChoice (c a b : GraphBit) : Type 0 where
+  pub test : source_of c ≢ Constant
+  pub arms : AreOpposite a b
+  pub open_arms : IsSettled c a → ⊥
 
 -- what a form of a choice reads as
 abbrev pub choice_reads : List Bool → List Bool → Choice → Bool

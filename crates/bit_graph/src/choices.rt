@@ -1,14 +1,18 @@
-//! Which choices need less than three gates.
+//! Which choices need less than three gates, and one by three.
 
-ghost use Rattle.std.specs.Prelude.{◌≡◌, ◌≢◌, ◌≤◌, ◌⊎◌, ℕ, Bool, List, true, not, IfSome, IfNone};
-ghost use Rattle.std.specs.Prelude.{if◌then◌else◌};
-ghost use Rattle.bit_graph.specs.Gates.{bit_reads, is_positive_bit, opposite_bit, source_of};
-ghost use Rattle.bit_graph.specs.Gates.{IsBelow};
-ghost use Rattle.bit_graph.specs.Rules.{AreSame, IsChoiceBelow, IsSettled, NeedsChoice};
-ghost use Rattle.bit_graph.specs.Rules.{choice_reads, most_gates};
+ghost use Rattle.std.specs.Prelude.{◌≡◌, ◌≢◌, ◌+◌, ◌≤◌, ◌⊎◌, ℕ, Bool, List, true, false, not};
+ghost use Rattle.std.specs.Prelude.{if◌then◌else◌, IfSome, IfNone, IfOk, OnOk, length};
+ghost use Rattle.bit_words.specs.Logic.{Extends};
+ghost use Rattle.bit_graph.specs.Gates.{IsBelow, Owns, bit_reads, is_positive_bit, opposite_bit};
+ghost use Rattle.bit_graph.specs.Gates.{reading, source_of};
+ghost use Rattle.bit_graph.specs.Rules.{AreSame, GainsJoin, IsChoiceBelow, IsOpposedChoice};
+ghost use Rattle.bit_graph.specs.Rules.{IsSettled, NeedsChoice, choice_reads, most_gates};
 
 use crate::gate::{GraphBit, Source};
+use crate::graph::Graph;
 use crate::rules::are_same;
+use bit_words::NoMemory;
+use bit_words::logic::Logic;
 
 /// A form of one of two bits by a test.
 #[derive(Clone, Copy)]
@@ -58,7 +62,6 @@ fn settled_choice(test: GraphBit, reads: bool, other: GraphBit) -> Choice
     ensures below { (variables made : ℕ) → IsBelow variables made (source_of test)
         → IsBelow variables made (source_of other) → IsChoiceBelow variables made result }
     ensures few { most_gates result ≤ 1 }
-    ensures no_join { (t y n : GraphBit) → result ≢ Choice.Join t y n }
 {
     if reads {
         Choice::NotBoth(opposite(test), opposite(other))
@@ -81,8 +84,10 @@ pub fn choice_of(c: GraphBit, yes: GraphBit, no: GraphBit) -> Choice
         → result ≡ Choice.Is (if is_positive_bit c then yes else no) }
     ensures equal_arms { source_of c ≢ Source.Constant → AreSame yes no → result ≡ Choice.Is yes }
     ensures settled { IsSettled c yes ⊎ IsSettled c no → most_gates result ≤ 1 }
-    ensures join { (t y n : GraphBit) → result ≡ Choice.Join t y n
-        → NeedsChoice c yes no × (is_positive_bit t ≡ true) }
+    ensures opposite_arms { IsOpposedChoice c yes no → result ≡ Choice.Alike c yes }
+    ensures join { NeedsChoice c yes no → is_positive_bit c ≡ true → result ≡ Choice.Join c yes no }
+    ensures turned { NeedsChoice c yes no → is_positive_bit c ≡ false
+        → result ≡ Choice.Join (opposite_bit c) no yes }
 {
     if c.source == Source::Constant {
         return Choice::Is(if c.positive { yes } else { no });
@@ -103,5 +108,31 @@ pub fn choice_of(c: GraphBit, yes: GraphBit, no: GraphBit) -> Choice
         Choice::Join(c, yes, no)
     } else {
         Choice::Join(opposite(c), no, yes)
+    }
+}
+
+impl Graph {
+    /// One of two bits by a test, by three gates.
+    pub(crate) fn join(
+        &mut self,
+        c: GraphBit,
+        yes: GraphBit,
+        no: GraphBit,
+    ) -> Result<GraphBit, NoMemory>
+        requires test { Owns self.old c }
+        requires yes { Owns self.old yes }
+        requires no { Owns self.old no }
+        ensures extends { Extends Owns reading (λ g. g.variables) self.old self.new }
+        ensures owned { IfOk result (λ r. Owns self.new r) }
+        ensures value { IfOk result (λ r. (vs : List Bool) →
+            reading self.new vs r
+            ≡ (if reading self.old vs c then reading self.old vs yes else reading self.old vs no)) }
+        ensures few { length self.new.gates ≤ length self.old.gates + 3 }
+        ensures gains { OnOk result (GainsJoin self.old c yes no self.new) }
+    {
+        let first = self.and(c, yes)?;
+        let second = self.and(self.not(c), no)?;
+        let neither = self.and(self.not(first), self.not(second))?;
+        Ok(self.not(neither))
     }
 }

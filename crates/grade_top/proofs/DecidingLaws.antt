@@ -49,9 +49,6 @@ graded_given ts k read small ends = record {
       };
 }
 
-pub task_refused : (ts : List (List ℕ)) (q : Refusal) → (task_step ts).refuses q → (graded_step ts).refuses q
-task_refused ts q h = inl h
-
 -- RUN
 
 -- what a run reads: bounds, and a program

@@ -1,10 +1,10 @@
 mod Claims
 mod ComparingLaws
-mod Decimals
 mod DecidingLaws
+mod Decimals
 mod Endings
+mod KnownLengths
 mod Leasts
 pub mod OneOutcome
 mod ReadingLaws
-mod SevenItems
 mod VerdictLaws

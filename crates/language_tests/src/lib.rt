@@ -18,3 +18,5 @@ mod reading;
 mod runs;
 #[cfg(test)]
 mod tokens;
+#[cfg(test)]
+mod typing;

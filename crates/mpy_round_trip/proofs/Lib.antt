@@ -1,5 +1,7 @@
 pub mod ParenthesesLaw
+pub mod ProperForms
 pub mod ProperParts
+pub mod ProperTrees
 pub mod Scraps
 pub mod printing
 pub mod lexing

@@ -6,7 +6,8 @@ use Rattle.mpy_tree.specs.Syntax.{Term, Terms, MaybeTerm, no_terms, term_and, no
 use Rattle.mpy_tree.specs.Syntax as ast
 use Rattle.mpy_tree.specs.Sites.{nodes, all_nodes, end_nodes}
 use Rattle.mpy_lexer.specs.TextLiterals.{is_printable}
-use Rattle.mpy_round_trip.specs.Proper.{IsName, IsProperNode, IsProperTerm, IsProperEnd}
+use Rattle.mpy_round_trip.specs.Proper.{IsName}
+use Rattle.mpy_round_trip.proofs.ProperForms.{IsProperNode, IsProperTerm, IsProperEnd}
 
 abbrev mutual
   pub HasProperParts : Term → Type 0
@@ -68,7 +69,7 @@ mutual
   parts_of_all no_terms p = tt
   parts_of_all (term_and e es) p = let both = split (nodes e) (all_nodes es) p in (parts_of e both.0, parts_of_all es both.1)
 
-  parts_of_end : (e : MaybeTerm) → IsProperEnd e → EndHasProperParts e
+  pub parts_of_end : (e : MaybeTerm) → IsProperEnd e → EndHasProperParts e
   parts_of_end no_term p = tt
   parts_of_end (a_term e) p = parts_of e p
 
@@ -98,6 +99,6 @@ mutual
   of_all_parts no_terms p = All-nil IsProperNode
   of_all_parts (term_and e es) p = All-append IsProperNode (nodes e) (all_nodes es) (of_parts e p.0) (of_all_parts es p.1)
 
-  of_end_parts : (e : MaybeTerm) → EndHasProperParts e → IsProperEnd e
+  pub of_end_parts : (e : MaybeTerm) → EndHasProperParts e → IsProperEnd e
   of_end_parts no_term p = All-nil IsProperNode
   of_end_parts (a_term e) p = of_parts e p

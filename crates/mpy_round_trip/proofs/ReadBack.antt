@@ -10,6 +10,7 @@ use Rattle.mpy_lexer.specs.PhysicalLines.{rows}
 use Rattle.mpy_limits.specs.Limits.{limit_lines}
 use Rattle.mpy_parser.specs.Programs.{HasLines, Reads, HasNoLongLine, IsProgram}
 use Rattle.mpy_round_trip.specs.Proper.{IsProper}
+use Rattle.mpy_round_trip.proofs.ProperTrees.{forms_of_program}
 use Rattle.mpy_round_trip.proofs.Scraps.{text_of_lines}
 use Rattle.mpy_round_trip.proofs.printing.ProgramLines.{printed_lines}
 use Rattle.mpy_round_trip.proofs.printing.ProgramText.{lines_text}
@@ -31,7 +32,7 @@ lines_of rs = logical_lines [] (rows Program (text_of_lines (printed_lines rs)))
 has_lines : (rs : List Routine) → IsProper rs → HasLines (program_text rs) (lines_of rs)
 has_lines rs p =
     let same = sym (lines_text rs) in
-    let fine = printed_fine rs p in
+    let fine = printed_fine rs (forms_of_program rs p) in
     record {
       no_byte_fault = ap (λ bytes. byte_fault (rows Program bytes)) same ∙ no_byte_fault (printed_lines rs) fine;
       no_token_fault = ap (λ bytes. token_fault (rows Program bytes)) same ∙ no_token_fault (printed_lines rs) fine;
@@ -40,7 +41,7 @@ has_lines rs p =
 
 pub read_back : (rs : List Routine) → IsProper rs → IsReadBack rs
 read_back rs p =
-    let r = printed_nesting rs p 1 (lines_of rs) (lines_of_printed (printed_lines rs) (printed_fine rs p)) in
+    let r = printed_nesting rs (forms_of_program rs p) 1 (lines_of rs) (lines_of_printed (printed_lines rs) (printed_fine rs (forms_of_program rs p))) in
     record {
       routines = r.routines;
       reads = record { lines = lines_of rs; items = r.items; lexed = has_lines rs p; spelled = r.spelled; nested = r.nested };

@@ -3,89 +3,67 @@ use Rattle.std.specs.Prelude.{◌≡◌, ℕ, ◌≤◌, Bool, true, false, List
 use Rattle.std.specs.List.{list_all}
 use Rattle.mpy_tree.specs.declared.operators.ArithOp.{ArithOp}
 use Rattle.mpy_tree.specs.declared.operators.ArithOp.TheVariants.{Power}
-use Rattle.mpy_tree.specs.Syntax.{Term, MaybeTerm, at}
-use Rattle.mpy_tree.specs.Syntax.{Action, Block, end, step, MaybeBlock, no_block, a_block, arm}
-use Rattle.mpy_tree.specs.Syntax.{Branches, no_arms, arm_and, Routine}
-use Rattle.mpy_tree.specs.Syntax as ast
-use Rattle.mpy_tree.specs.Sites.{nodes, end_nodes}
+use Rattle.mpy_tree.specs.Syntax.{Routine}
+use Rattle.mpy_tree.specs.Trees as kind
+use Rattle.mpy_tree.specs.Trees.{Kind, Tree, Trees, node, no_trees, tree_and}
+use Rattle.mpy_tree.specs.Shapes.{program_shape}
 use Rattle.mpy_lexer.specs.declared.forms.Form.TheVariants.{Program}
-use Rattle.mpy_lexer.specs.declared.forms.Kind.TheVariants as kind
+use Rattle.mpy_lexer.specs.declared.forms.Kind.TheVariants as token
 use Rattle.mpy_lexer.specs.TokenForms.{has_form}
 use Rattle.mpy_lexer.specs.TextLiterals.{is_printable}
-use Rattle.mpy_parser.specs.Nesting.{MayStand}
 
 -- a name token, so no reserved word
 abbrev pub IsName : List ℕ → Type 0
-IsName x = has_form Program kind.Name x ≡ true
-
--- a node with a name has a name token, its number is at most 2147483647, and its text is printable
-abbrev pub IsProperNode : Term → Type 0
-IsProperNode (ast.Int n) = n ≤ 2147483647
-IsProperNode (ast.Text cs) = list_all is_printable cs ≡ true
-IsProperNode (ast.Name x) = IsName x
-IsProperNode (ast.Call f es) = IsName f
-IsProperNode _ = Unit {0}
-
-abbrev pub IsProperTerm : Term → Type 0
-IsProperTerm e = All IsProperNode (nodes e)
-
-abbrev pub IsProperEnd : MaybeTerm → Type 0
-IsProperEnd e = All IsProperNode (end_nodes e)
+IsName x = has_form Program token.Name x ≡ true
 
 -- the operators that an augmented assignment may have
 abbrev pub MayAugment : ArithOp → Type 0
 MayAugment Power = ⊥
 MayAugment _ = Unit {0}
 
-abbrev pub HasStatement : Block → Type 0
-HasStatement end = ⊥
-HasStatement (step s rest) = Unit {0}
+abbrev pub HasParts : Trees → Type 0
+HasParts no_trees = ⊥
+HasParts (tree_and t ts) = Unit {0}
 
-abbrev pub HasArm : Branches → Type 0
-HasArm no_arms = ⊥
-HasArm (arm_and b rest) = Unit {0}
+abbrev pub BeginsWithArm : Trees → Type 0
+BeginsWithArm (tree_and (node (kind.Arm line) us) ts) = Unit {0}
+BeginsWithArm _ = ⊥
 
--- No body and no list of arms is empty, and `break` and `continue` stand in loops; `loop` says
--- whether the block stands in one.
+-- What a node of a kind with these parts must keep: a name is a name token, a number at most
+-- 2147483647, a text printable; no body and no list of arms is empty, and `break` and `continue`
+-- stand in a loop, as `loop` says.
+abbrev pub IsProperNode : Bool → Kind → Trees → Type 0
+IsProperNode loop (kind.Int n) ts = n ≤ 2147483647
+IsProperNode loop (kind.Text cs) ts = list_all is_printable cs ≡ true
+IsProperNode loop (kind.Name x) ts = IsName x
+IsProperNode loop (kind.Call f) ts = IsName f
+IsProperNode loop (kind.Assign line x) ts = IsName x
+IsProperNode loop (kind.Augment line x op) ts = IsName x × MayAugment op
+IsProperNode loop (kind.Put line x) ts = IsName x
+IsProperNode loop (kind.AugmentAt line x op) ts = IsName x × MayAugment op
+IsProperNode loop (kind.Append line x) ts = IsName x
+IsProperNode loop (kind.Break line) ts = loop ≡ true
+IsProperNode loop (kind.Continue line) ts = loop ≡ true
+IsProperNode loop (kind.If line) ts = BeginsWithArm ts
+IsProperNode loop (kind.For line x) ts = IsName x
+IsProperNode loop kind.Block ts = HasParts ts
+IsProperNode loop (kind.Function line f params) ts = IsName f × All IsName params
+IsProperNode loop _ ts = Unit {0}
+
+-- whether the parts of a node stand in a loop
+abbrev pub in_loop : Bool → Kind → Bool
+in_loop loop (kind.While line) = true
+in_loop loop (kind.For line x) = true
+in_loop loop _ = loop
+
+-- a tree of which each node is proper
 abbrev mutual
-  pub IsProperBlock : Bool → Block → Type 0
-  IsProperBlock loop end = Unit {0}
-  IsProperBlock loop (step (at line act) rest) = IsProperAction loop act × IsProperBlock loop rest
+  pub IsProperTree : Bool → Tree → Type 0
+  IsProperTree loop (node k ts) = IsProperNode loop k ts × AreProperTrees (in_loop loop k) ts
 
-  pub IsProperAction : Bool → Action → Type 0
-  IsProperAction loop (ast.Assign x e) = IsName x × IsProperTerm e
-  IsProperAction loop (ast.Augment x op e) = IsName x × MayAugment op × IsProperTerm e
-  IsProperAction loop (ast.Put x i e) = IsName x × IsProperTerm i × IsProperTerm e
-  IsProperAction loop (ast.AugmentAt x i op e) =
-      IsName x × IsProperTerm i × MayAugment op × IsProperTerm e
-  IsProperAction loop (ast.Append x e) = IsName x × IsProperTerm e
-  IsProperAction loop (ast.Return e) = IsProperEnd e
-  IsProperAction loop ast.Pass = Unit {0}
-  IsProperAction loop ast.Break = MayStand loop ast.Break
-  IsProperAction loop ast.Continue = MayStand loop ast.Continue
-  IsProperAction loop (ast.If arms last) =
-      HasArm arms × AreProperArms loop arms × IsProperElse loop last
-  IsProperAction loop (ast.While e body) =
-      IsProperTerm e × (HasStatement body × IsProperBlock true body)
-  IsProperAction loop (ast.For x e body) =
-      IsName x × IsProperTerm e × (HasStatement body × IsProperBlock true body)
-
-  pub AreProperArms : Bool → Branches → Type 0
-  AreProperArms loop no_arms = Unit {0}
-  AreProperArms loop (arm_and (arm line e body) rest) =
-      IsProperTerm e × (HasStatement body × IsProperBlock loop body) × AreProperArms loop rest
-
-  pub IsProperElse : Bool → MaybeBlock → Type 0
-  IsProperElse loop no_block = Unit {0}
-  IsProperElse loop (a_block body) = HasStatement body × IsProperBlock loop body
-
-abbrev pub IsProperBody : Bool → Block → Type 0
-IsProperBody loop body = HasStatement body × IsProperBlock loop body
-
-pub record IsProperRoutine (r : Routine) : Type 0 where
-  pub name : IsName r.name
-  pub params : All IsName r.params
-  pub body : IsProperBody false r.body
+  pub AreProperTrees : Bool → Trees → Type 0
+  AreProperTrees loop no_trees = Unit {0}
+  AreProperTrees loop (tree_and t ts) = IsProperTree loop t × AreProperTrees loop ts
 
 abbrev pub IsProper : List Routine → Type 0
-IsProper rs = All IsProperRoutine rs
+IsProper rs = IsProperTree false (program_shape rs)

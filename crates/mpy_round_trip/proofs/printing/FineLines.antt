@@ -11,7 +11,8 @@ use Rattle.mpy_lexer.specs.declared.forms.Kind.TheVariants as kind
 use Rattle.mpy_lexer.specs.Words.{is_reserved, mark_len}
 use Rattle.mpy_lexer.specs.TextLiterals.{is_printable}
 use Rattle.std.specs.List.{list_all}
-use Rattle.mpy_round_trip.specs.Proper.{IsName, IsProperTerm, IsProperBlock, IsProperAction, AreProperArms, IsProperElse, IsProperRoutine, IsProper, MayAugment}
+use Rattle.mpy_round_trip.specs.Proper.{IsName, MayAugment}
+use Rattle.mpy_round_trip.proofs.ProperForms.{IsProperTerm, IsProperBlock, IsProperAction, AreProperArms, IsProperElse, IsProperRoutine, AreProper}
 use Rattle.mpy_round_trip.proofs.Scraps.{Scrap, gap, word, Printed, next_byte, AreApart, IsFine, empty, token as begins_with}
 use Rattle.mpy_round_trip.proofs.printing.ProgramLines.{name, mark, reserved, term_scraps, name_scraps, header_scraps, printed, block_lines, action_lines, arms_lines, else_lines, routine_lines, printed_lines}
 use Rattle.mpy_round_trip.proofs.printing.BracketBalance.{IsBalanced, space, and_then, token, in_round, in_square, augmenting, term_balanced, names_balanced, all_balanced, nothing}
@@ -156,7 +157,7 @@ routine_fine r ps p h = line_and (block_lines 1 r.body ps) (definition_fine r.na
 empty_line_fine : IsFine (printed 0 [])
 empty_line_fine = record { begins = empty; apart = tt; balanced = all_balanced nothing }
 
-pub printed_fine : (rs : List Routine) → IsProper rs → All IsFine (printed_lines rs)
+pub printed_fine : (rs : List Routine) → AreProper rs → All IsFine (printed_lines rs)
 printed_fine [] p = All-nil IsFine
 printed_fine (r ∷ []) p = routine_fine r [] (All-head IsProperRoutine r [] p) (All-nil IsFine)
 printed_fine (r ∷ s ∷ rest) p = routine_fine r (printed 0 [] ∷ printed_lines (s ∷ rest)) (All-head IsProperRoutine r (s ∷ rest) p) (line_and (printed_lines (s ∷ rest)) empty_line_fine (printed_fine (s ∷ rest) (All-tail IsProperRoutine r (s ∷ rest) p)))

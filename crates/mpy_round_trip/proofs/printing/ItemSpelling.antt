@@ -15,7 +15,8 @@ use Rattle.mpy_expressions.specs.Terminals.{word_of, terminal_by}
 use Rattle.mpy_expressions.specs.Programs.{programs}
 use Rattle.mpy_expressions.specs.Grammar.{Spells}
 use Rattle.mpy_parser.specs.Items.{Opening, function, headed, simple, augmented, assign, augment, put, augment_at, append, give, name_list, SpellsHeader, SpellsItem, a_function, open_body, a_statement, a_header}
-use Rattle.mpy_round_trip.specs.Proper.{IsProperTerm, MayAugment}
+use Rattle.mpy_round_trip.specs.Proper.{MayAugment}
+use Rattle.mpy_round_trip.proofs.ProperForms.{IsProperTerm}
 use Rattle.mpy_round_trip.proofs.Scraps.{gap}
 use Rattle.mpy_round_trip.proofs.printing.ProgramLines.{name, mark, reserved, term_scraps, name_scraps}
 use Rattle.mpy_round_trip.proofs.printing.TermSpelling.{terminals_in, HasTerminals, whole}

@@ -11,7 +11,7 @@ use Rattle.mpy_expressions.specs.Terminals.{word_of}
 use Rattle.mpy_parser.specs.Items.{function, when, else_when, otherwise, while, for_each, LineItem, simple, headed, SpellsItem, a_statement, a_header, give_nothing, pass, leave, again, an_if, a_while, a_for, open_body, an_elif as elif_header, an_else as else_header}
 use Rattle.mpy_parser.specs.Nesting.{ItemLine, item_line, MayStand, IsBlock, IsBody, AreArms, AreRoutines, no_lines, a_simple, a_loop, an_each, a_test, below, no_more, an_elif, an_else, no_routines, a_routine, routine}
 use Rattle.mpy_parser.specs.Programs.{AreItems}
-use Rattle.mpy_round_trip.specs.Proper.{IsProperBlock, IsProperAction, AreProperArms, IsProperElse, IsProperRoutine, IsProper, HasStatement}
+use Rattle.mpy_round_trip.proofs.ProperForms.{IsProperBlock, IsProperAction, AreProperArms, IsProperElse, IsProperRoutine, AreProper, HasStatement}
 use Rattle.mpy_round_trip.proofs.Scraps.{Scrap, Printed, AreLinesOf, an_empty_line, a_line, no_lines as no_lines_of}
 use Rattle.mpy_round_trip.proofs.printing.ProgramLines.{printed, block_lines, action_lines, arms_lines, else_lines, routine_lines, printed_lines}
 use Rattle.mpy_round_trip.proofs.printing.TermSpelling.{terminals_in, terminals_of_tokens}
@@ -232,7 +232,7 @@ all_taken n ls no_lines_of = tt
 behind_empty : (n d : ℕ) (ps : List Printed) (ls : List Line) → AreLinesOf n (printed d [] ∷ ps) ls → AreLinesOf (n + 1) ps ls
 behind_empty n d ps ls (an_empty_line h) = h
 
-pub printed_nesting : (rs : List Routine) → IsProper rs → (n : ℕ) (ls : List Line) → AreLinesOf n (printed_lines rs) ls → AreReadAs rs ls
+pub printed_nesting : (rs : List Routine) → AreProper rs → (n : ℕ) (ls : List Line) → AreLinesOf n (printed_lines rs) ls → AreReadAs rs ls
 printed_nesting [] p n ls h = record { items = []; routines = []; spelled = all_taken n ls h; nested = no_routines; same = refl }
 printed_nesting (r ∷ []) p n ls h =
     let o = one_routine r [] n ls (All-head IsProperRoutine r [] p) h in

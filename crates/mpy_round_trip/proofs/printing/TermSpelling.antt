@@ -21,7 +21,7 @@ use Rattle.mpy_tree.specs.Levels.{above, rank, left_level, right_level}
 use Rattle.mpy_expressions.specs.Joints.{arith_word}
 use Rattle.mpy_expressions.specs.Programs.{programs}
 use Rattle.mpy_expressions.specs.Grammar.{Spells, SpellsEnd, SpellsAll, conditional, disjunction, conjunction, negation, compared, arithmetic, minus, index, slice, number, quoted, truth, call, items, parenthesized, higher, missing, given, none, one, more, comparison, truth_word, name as a_name}
-use Rattle.mpy_round_trip.specs.Proper.{IsProperTerm}
+use Rattle.mpy_round_trip.proofs.ProperForms.{IsProperTerm}
 use Rattle.mpy_round_trip.proofs.ProperParts.{HasProperParts, HaveProperParts, EndHasProperParts, parts_of}
 use Rattle.mpy_round_trip.proofs.Scraps.{Scrap, gap, word as piece, scrap_of, words_in}
 use Rattle.mpy_round_trip.proofs.printing.ProgramLines.{mark, part_scraps, compare_scraps, term_scraps, list_scraps, rest_scraps, end_scraps}

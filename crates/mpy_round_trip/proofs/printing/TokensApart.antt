@@ -18,7 +18,8 @@ use Rattle.mpy_lexer.specs.Bytes.{is_name_start, is_name_byte}
 use Rattle.mpy_lexer.specs.Words.{is_reserved, mark_len}
 use Rattle.mpy_lexer.specs.TokenForms.{is_name}
 use Rattle.mpy_lexer.specs.TextLiterals.{is_printable}
-use Rattle.mpy_round_trip.specs.Proper.{IsName, IsProperTerm, MayAugment}
+use Rattle.mpy_round_trip.specs.Proper.{IsName, MayAugment}
+use Rattle.mpy_round_trip.proofs.ProperForms.{IsProperTerm}
 use Rattle.mpy_round_trip.proofs.ProperParts.{HasProperParts, HaveProperParts, EndHasProperParts, parts_of}
 use Rattle.mpy_round_trip.proofs.Scraps.{Scrap, gap, word, next_byte, ends_before, AreApart}
 use Rattle.mpy_round_trip.proofs.printing.ProgramLines.{name, mark, reserved, part_scraps, compare_scraps, term_scraps, list_scraps, rest_scraps, end_scraps}

@@ -5,8 +5,9 @@ use Rattle.mpy_tree.specs.Syntax.{Action, Block, Branches, MaybeBlock, Routine}
 use Rattle.mpy_lexer.specs.declared.forms.Form.TheVariants.{Program}
 use Rattle.mpy_lexer.specs.Spans.{IsLineOf, LinesAreOfTheirSource}
 use Rattle.mpy_parser.specs.Nesting.{ItemLine, IsBlock, IsBody, AreArms, AreRoutines, no_lines, a_simple, a_loop, an_each, a_test, behind_colon, below, no_more, an_elif, an_else, no_routines, a_routine, routine}
-use Rattle.mpy_round_trip.specs.Proper.{HasStatement, IsProperBlock, IsProperBody, AreProperArms, IsProperElse, IsProperRoutine, IsProper}
+use Rattle.mpy_round_trip.proofs.ProperForms.{HasStatement, IsProperBlock, IsProperBody, AreProperArms, IsProperElse, IsProperRoutine, AreProper}
 use Rattle.mpy_round_trip.specs.ReadingProper.{ReadsProper}
+use Rattle.mpy_round_trip.proofs.ProperTrees.{trees_of_program}
 use Rattle.mpy_round_trip.proofs.reading.ProperItems.{IsProperBehind, AreProperItems, proper_items}
 
 parts : (xs ys : List ItemLine) → AreProperItems (xs ++ ys) → AreProperItems xs × AreProperItems ys
@@ -44,11 +45,11 @@ mutual
       ((p.0.0, proper_body i p.0.1 both.0, more.0), more.1)
   proper_arms (an_else i) p = (tt, proper_body i p.0.1 p.1)
 
-proper_routines : {is : List ItemLine} {rs : List Routine} → AreRoutines is rs → AreProperItems is → IsProper rs
+proper_routines : {is : List ItemLine} {rs : List Routine} → AreRoutines is rs → AreProperItems is → AreProper rs
 proper_routines no_routines p = All-nil IsProperRoutine
 proper_routines (a_routine {line} {f} {params} {inner = inner} {rest} {body} {rs} i d) p =
     let both = parts inner rest p.1 in
     All-cons IsProperRoutine (routine line f params body) rs (record { name = p.0.0.0; params = p.0.0.1; body = proper_body i p.0.1 both.0 }) (proper_routines d both.1)
 
 pub reads_proper : LinesAreOfTheirSource → ReadsProper
-reads_proper of_source bytes rs r = proper_routines r.nested (proper_items bytes r.lines r.items (subst (All (IsLineOf Program bytes)) r.lexed.lines (of_source Program bytes)) r.spelled)
+reads_proper of_source bytes rs r = trees_of_program rs (proper_routines r.nested (proper_items bytes r.lines r.items (subst (All (IsLineOf Program bytes)) r.lexed.lines (of_source Program bytes)) r.spelled))

@@ -14,7 +14,8 @@ use Rattle.mpy_expressions.specs.declared.terminals.Terminal.TheVariants as term
 use Rattle.mpy_parser.specs.Items.{Opening, function, when, else_when, otherwise, while, for_each, LineItem, simple, headed, augmented, SpellsSimple, assign, augment, put, augment_at, append, give_nothing, give, pass, leave, again, name_list, SpellsHeader, a_function, an_if, an_elif, an_else, a_while, a_for, SpellsBody, open_body, one_statement, SpellsItem, a_statement, a_header}
 use Rattle.mpy_parser.specs.Nesting.{ItemLine, MayStand}
 use Rattle.mpy_parser.specs.Programs.{AreItems}
-use Rattle.mpy_round_trip.specs.Proper.{IsName, IsProperNode, IsProperTerm, MayAugment, IsProperAction}
+use Rattle.mpy_round_trip.specs.Proper.{IsName, MayAugment}
+use Rattle.mpy_round_trip.proofs.ProperForms.{IsProperNode, IsProperTerm, IsProperAction}
 use Rattle.mpy_round_trip.proofs.reading.ProperTerminals.{AreProperTerminals, halves, around, proper_terminals}
 use Rattle.mpy_round_trip.proofs.reading.ProperTerms.{proper_term}
 

@@ -9,7 +9,7 @@ use Rattle.mpy_expressions.specs.declared.terminals.Terminal.TheVariants as term
 use Rattle.mpy_expressions.specs.Joints.{arith_word}
 use Rattle.mpy_expressions.specs.Programs.{programs}
 use Rattle.mpy_expressions.specs.Grammar.{Spells, SpellsEnd, SpellsAll, conditional, disjunction, conjunction, negation, compared, arithmetic, minus, index, slice, number, quoted, truth, name, hole, set, operated, likened, call, items, parenthesized, higher, missing, given, none, one, more, comparison}
-use Rattle.mpy_round_trip.specs.Proper.{IsProperTerm}
+use Rattle.mpy_round_trip.proofs.ProperForms.{IsProperTerm}
 use Rattle.mpy_round_trip.proofs.ProperParts.{HasProperParts, HaveProperParts, EndHasProperParts, of_parts}
 use Rattle.mpy_round_trip.proofs.reading.ProperTerminals.{AreProperTerminals, halves, around}
 

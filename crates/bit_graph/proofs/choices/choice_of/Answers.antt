@@ -1,7 +1,7 @@
 use Rattle.std.proofs.Common.{◌∙◌, subst, sym}
 use Rattle.bit_graph.specs.declared.gate.GraphBit.{GraphBit}
 use Rattle.bit_graph.specs.Gates.{IsBelow, bit_reads, source_of}
-use Rattle.bit_graph.proofs.Conjunctions.{settled_first, settled_second}
+use Rattle.bit_graph.proofs.ConjunctionLaws.{settled_first, settled_second}
 use Rattle.bit_graph.proofs.choices.choice_of.Goals as goal
 
 pub returns-in-Some-clause-value : goal.returns-in-Some-clause-value

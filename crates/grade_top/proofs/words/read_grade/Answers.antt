@@ -1,7 +1,7 @@
 -- The seven words are those of the request.
 use Rattle.std.proofs.Common.{rules, ◌≡◌, length, arith, sym, ◌∙◌}
 use Rattle.std.specs.String.{string_bytes}
-use Rattle.grade_top.proofs.SevenItems.{seven_items}
+use Rattle.grade_top.proofs.KnownLengths.{seven_items}
 use Rattle.grade_top.proofs.words.read_grade.Goals as goal
 
 pub returns-clause-found : goal.returns-clause-found

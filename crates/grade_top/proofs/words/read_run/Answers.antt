@@ -1,7 +1,7 @@
 -- The words are those of a run.
 use Rattle.std.proofs.Common.{rules}
 use Rattle.std.specs.String.{string_bytes}
-use Rattle.grade_top.proofs.SevenItems.{few_mapped, three_and_more}
+use Rattle.grade_top.proofs.KnownLengths.{few_mapped, three_and_more}
 use Rattle.grade_top.proofs.words.read_run.Goals as goal
 
 pub returns-clause-found : goal.returns-clause-found

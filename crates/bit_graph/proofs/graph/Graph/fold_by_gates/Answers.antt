@@ -1,4 +1,4 @@
-use Rattle.bit_graph.proofs.Conjunctions.{owned_if}
+use Rattle.bit_graph.proofs.ConjunctionLaws.{owned_if}
 use Rattle.bit_graph.proofs.graph.Graph.fold_by_gates.Goals as goal
 
 pub returns-clause-owned : goal.returns-clause-owned

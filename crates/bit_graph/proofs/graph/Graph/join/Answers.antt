@@ -1,6 +1,6 @@
 use Rattle.std.proofs.Common.{◌∙◌}
 use Rattle.bit_graph.specs.Gates.{reading}
-use Rattle.bit_graph.proofs.Conjunctions.{join_is}
+use Rattle.bit_graph.proofs.ConjunctionLaws.{join_is}
 use Rattle.bit_graph.proofs.graph.Graph.join.Goals as goal
 
 pub returns-clause-value : goal.returns-clause-value

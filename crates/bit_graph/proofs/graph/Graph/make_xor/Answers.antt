@@ -1,6 +1,6 @@
 use Rattle.std.proofs.Common.{◌∙◌}
 use Rattle.bit_graph.specs.Gates.{reading}
-use Rattle.bit_graph.proofs.Conjunctions.{xor_is}
+use Rattle.bit_graph.proofs.ConjunctionLaws.{xor_is}
 use Rattle.bit_graph.proofs.graph.Graph.make_xor.Goals as goal
 
 pub returns-clause-value : goal.returns-clause-value

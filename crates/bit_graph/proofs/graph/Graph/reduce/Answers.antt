@@ -1,7 +1,7 @@
 use Rattle.std.proofs.Common.{◌≡◌, ◌∙◌, length, [], subst}
 use Rattle.bit_graph.specs.Rules.{IsNeeded}
 use Rattle.bit_graph.specs.Gates.{reading, values_after}
-use Rattle.bit_graph.proofs.Conjunctions.{replaced}
+use Rattle.bit_graph.proofs.ConjunctionLaws.{replaced}
 use Rattle.bit_graph.proofs.graph.Graph.reduce.Goals as goal
 
 pub returns-in-Some-simplify-clause-value : goal.returns-in-Some-simplify-clause-value
@@ -32,4 +32,5 @@ returns-clause-needed c x e =
       left_short = c.shorten-left.ensures.exact;
       short = c.in_default-simplify.ensures.open;
       joins = c.in_order.ensures.joins;
+      ordered = c.in_order.ensures.ordered;
     })

@@ -1,6 +1,6 @@
 use Rattle.std.proofs.Common.{◌≡◌, ◌∙◌, ap, refl, sym, not, []}
 use Rattle.bit_graph.specs.Gates.{reading, source_reads, source_of, values_after}
-use Rattle.bit_graph.proofs.Conjunctions.{left_over, right_over, shortened_left, shortened_right, shortened_whole}
+use Rattle.bit_graph.proofs.ConjunctionLaws.{left_over, right_over, shortened_left, shortened_right, shortened_whole}
 use Rattle.bit_graph.proofs.graph.Graph.shorten.Goals as goal
 
 pub returns-then-is_never-clause-value : goal.returns-then-is_never-clause-value

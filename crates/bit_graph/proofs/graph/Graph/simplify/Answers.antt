@@ -1,6 +1,6 @@
 use Rattle.std.proofs.Common.{◌∙◌}
 use Rattle.bit_graph.specs.Gates.{reading}
-use Rattle.bit_graph.proofs.Conjunctions.{and_turned}
+use Rattle.bit_graph.proofs.ConjunctionLaws.{and_turned}
 use Rattle.bit_graph.proofs.graph.Graph.simplify.Goals as goal
 
 pub returns-in-Some-clause-owned : goal.returns-in-Some-clause-owned

@@ -1,3 +1,5 @@
+use Rattle.std.proofs.Common.{◌≡◌, subst}
+use Rattle.bit_graph.specs.Rules.{GainsXor}
 use Rattle.bit_graph.proofs.graph.GraphLogic.choose.Goals as goal
 
 pub and-requires-clause-left : goal.and-requires-clause-left
@@ -29,3 +31,12 @@ join-requires-clause-no c = record { below = (c.in-Join.ensures.below _ _ c.requ
 
 pub returns-in-Is-clause-owned : goal.returns-in-Is-clause-owned
 returns-in-Is-clause-owned c = record { below = c.in-Is.ensures.below _ _ c.requires.test.below c.requires.yes.below c.requires.no.below }
+
+pub returns-in_ok-one-in-Alike-clause-opposite_arms : goal.returns-in_ok-one-in-Alike-clause-opposite_arms
+returns-in_ok-one-in-Alike-clause-opposite_arms c h =
+    let e = c.in-Alike.ensures.opposite_arms h in
+    let test : c.in-Alike.a ≡ c.args.c = cc in
+    let arm : c.in-Alike.b ≡ c.args.yes = cc in
+    let g = c.args.self.now in
+    let new = c.xor.new.self in
+    subst (λ x. GainsXor g x c.args.yes new) test (subst (λ y. GainsXor g c.in-Alike.a y new) arm c.in_ok-one-in-Alike.ensures.gains)

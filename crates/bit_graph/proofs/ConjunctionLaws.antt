@@ -1,7 +1,7 @@
 -- What two bits both are.
 use Rattle.std.proofs.Common.{◌≡◌, Bool, true, false, not, ◌&&◌, Option, Some, None, ℕ, length, refl, sym, ap, ◌∙◌, subst}
 use Rattle.bit_graph.specs.declared.gate.GraphBit.{GraphBit}
-use Rattle.std.specs.Prelude.{IfSome, if◌then◌else◌}
+use Rattle.std.specs.Prelude.{IfNone, IfSome, Result, Ok, Err, OnOk, if◌then◌else◌}
 use Rattle.bit_words.specs.Bits.{differ}
 use Rattle.bit_graph.specs.declared.gate.Gate.{Gate}
 use Rattle.bit_graph.specs.Gates.{Gates, IsBelow, Owns, source_of, is_positive_bit, opposite_bit, parts_of}
@@ -30,6 +30,15 @@ pub owned_if : (g : Gates) (a b : GraphBit) (o : Option GraphBit) → IfSome o (
     → Owns g a → Owns g b → IfSome o (λ r. Owns g r)
 owned_if g a b None h p q = h
 owned_if g a b (Some r) h p q = record { below = h g.variables (length g.gates) p.below q.below }
+
+-- what holds at any rate holds where there is no bit
+pub if_none : (o : Option GraphBit) (P : Type 0) → P → IfNone o P
+if_none None P h = h
+if_none (Some r) P h = tt
+
+pub on_ok : {E : Type 0} (o : Result GraphBit E) (P Q : Type 0) → (P → Q) → OnOk o P → OnOk o Q
+on_ok (Ok r) P Q f h = f h
+on_ok (Err e) P Q f h = tt
 
 -- an exclusive or by three conjunctions, and a choice
 pub xor_is : (a b : Bool) → (not (a && b) && not (not a && not b)) ≡ differ a b
