@@ -47,10 +47,10 @@ pub stop_step : (a b r : ℕ) → 1 ≤ a → 1 ≤ r
 stop_step a b r one some =
     let first = stop_left (a * stopped b) r some in
     let swap : (a * stopped b) * r ≡ stopped b * (a * r) =
-        ap (λ n. n * r) (mul_comm a (stopped b)) ∙ mul_assoc (stopped b) a r in
+    ap (λ n. n * r) (mul_comm a (stopped b)) ∙ mul_assoc (stopped b) a r in
     let second = stop_left b (a * r) (one-le-mul one some) in
     let back : b * (a * r) ≡ a * (b * r) =
-        sym (mul_assoc b a r) ∙ ap (λ n. n * r) (mul_comm b a) ∙ mul_assoc a b r in
+    sym (mul_assoc b a r) ∙ ap (λ n. n * r) (mul_comm b a) ∙ mul_assoc a b r in
     first ∙ ap stopped swap ∙ second ∙ ap stopped back
 
 mutual
@@ -92,7 +92,7 @@ pick_choices (pick number base os) q h =
     let same : pick_of q ≡ record { number = number; base = base; others = os } = cc in
     let a : members (map member_seen q.others.now) ≡ os = ap (λ r. r.others) same in
     let c : length q.others.now ≡ count_others os =
-        sym (counted q.others.now) ∙ ap count_others a in
+    sym (counted q.others.now) ∙ ap count_others a in
     let ws = base ∷ other_trees os in
     stop_left (suc (length q.others.now)) (product_of choices ws) (some_product ws)
     ∙ ap stopped (λ i. suc (c i) * (choices base * in_others os i))

@@ -62,7 +62,7 @@ pick_has p i (pick number base os) q h =
     let n : q.number ≡ number = ap (λ r. r.number) same in
     let a : members (map member_seen q.others.now) ≡ os = ap (λ r. r.others) same in
     let c : length q.others.now ≡ count_others os =
-        sym (counted q.others.now) ∙ ap count_others a in
+    sym (counted q.others.now) ∙ ap count_others a in
     rw (n, c, any_others p i os)
     (or_nested ((number == p) && nat_le i (count_others os)) (has_member base p i)
     (other_has_member os p i))
@@ -80,8 +80,8 @@ pub fitting : (w : Weighted) (from : ℕ) (s : List Choice) → fits_from w from
 fitting w from [] h = (tt, tt)
 fitting w from (c ∷ rest) h =
     let a =
-        all_of (nat_le from c.pick) (nat_le 1 c.member) (has_member w c.pick c.member)
-        (fits_from w (suc c.pick) rest) h in
+    all_of (nat_le from c.pick) (nat_le 1 c.member) (has_member w c.pick c.member)
+    (fits_from w (suc c.pick) rest) h in
     let r = fitting w (suc c.pick) rest a.3 in
     ((leb-true from c.pick a.0, r.0), (leb-true 1 c.member a.1, a.2, r.1))
 

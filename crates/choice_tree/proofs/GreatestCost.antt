@@ -142,10 +142,14 @@ mutual
       let f = found w line in
       let r = found_all ws line in
       let parts : Parts =
-          record {
-            tree = f.tree; trees = r.trees; cost = most_cost w; costs = most_costs ws;
-            edits = f.edits; more = r.edits;
-          } in
+      record {
+        tree = f.tree;
+        trees = r.trees;
+        cost = most_cost w;
+        costs = most_costs ws;
+        edits = f.edits;
+        more = r.edits;
+      } in
       record {
         trees = tree_and f.tree r.trees;
         edits = f.edits ++ r.edits;

@@ -49,7 +49,7 @@ same_statements m (s ∷ ss) [] h = cc
 same_statements m (s ∷ ss) (w ∷ ws) h =
     let first : statement_shape (statement_of s) ≡ plain m (weighted_stmt w) = cc in
     let rest : map (λ e. statement_shape (statement_of e)) ss
-        ≡ map (λ w. plain m (weighted_stmt w)) ws = cc in
+    ≡ map (λ w. plain m (weighted_stmt w)) ws = cc in
     λ i. tree_and (first i) (same_statements m ss ws rest i)
 
 made_is : (items : Vec Stmt Global)
@@ -60,7 +60,7 @@ made_is items =
 
 body_is : (b : WStmts)
     → weighted_body b ≡ plainly kind.Block
-        (weighteds (map weighted_stmt (out-WStmts b).items.items))
+    (weighteds (map weighted_stmt (out-WStmts b).items.items))
 body_is b =
     fold_out-WStmts (ℕ → Weighted) Weighted (List Weighted) Weighted Weighted wact_step warm_step
     warms_step wstmt_step wstmts_step b
@@ -85,7 +85,7 @@ same_arms m (a ∷ xs) [] ts h = cc
 same_arms m (a ∷ xs) (w ∷ ws) ts h =
     let first : arm_shape (branch_of a) ≡ plain m (weighted_arm w) = cc in
     let rest : map (λ a. arm_shape (branch_of a)) xs
-        ≡ map (λ w. plain m (weighted_arm w)) ws = cc in
+    ≡ map (λ w. plain m (weighted_arm w)) ws = cc in
     λ i. tree_and (first i) (same_arms m xs ws ts rest i)
 
 made_arms : (items : Vec Arm Global)
@@ -163,5 +163,5 @@ functions_plain m (f ∷ fs) [] h = cc
 functions_plain m (f ∷ fs) (w ∷ ws) h =
     let first : routine_shape (routine_of f) ≡ plain m (weighted_func w) = cc in
     let rest : map (λ f. routine_shape (routine_of f)) fs
-        ≡ map (λ w. plain m (weighted_func w)) ws = cc in
+    ≡ map (λ w. plain m (weighted_func w)) ws = cc in
     λ i. tree_and (first i) (functions_plain m fs ws rest i)

@@ -79,7 +79,7 @@ tree_in [] i o h = cc
 tree_in (x ∷ os) zero o h =
     let e : o ≡ x = cc in
     let t : nodes (weighted_of x.tree) ≡ nodes (member_seen x).tree =
-        ap nodes (sym (tree_of_member x)) in
+    ap nodes (sym (tree_of_member x)) in
     rw e (omega (arith, t))
 tree_in (x ∷ os) (suc i) o h = let r = tree_in os i o h in omega arith
 

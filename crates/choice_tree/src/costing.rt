@@ -28,7 +28,9 @@ fn capped_cost(node: Node<'_>, s: &Selection) -> u32
         None => parts_cost(node, s),
         Some(pick) => match pick.other(s) {
             None => capped_cost(Node::Expr(pick.base), s),
-            Some(other) => other.cost.saturating_add(capped_cost(Node::Expr(&other.tree), s)),
+            Some(other) => other
+                .cost
+                .saturating_add(capped_cost(Node::Expr(&other.tree), s)),
         },
     }
 }

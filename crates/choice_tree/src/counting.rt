@@ -36,7 +36,9 @@ fn stopped_choices(node: Node<'_>) -> u64
 fn members_of(pick: Pick<'_>) -> u64
     ensures { result ≡ stopped (suc (length pick.entry.others.now)) }
 {
-    (pick.others.len() as u64).saturating_add(1).min(MOST_CHOICES)
+    (pick.others.len() as u64)
+        .saturating_add(1)
+        .min(MOST_CHOICES)
 }
 
 // A number of choices, and those of all children.
@@ -51,7 +53,9 @@ fn part_choices(node: Node<'_>, first: u64) -> u64
     'parts: loop {
         match node.child(i) {
             None => return total,
-            Some(part) => total = total.saturating_mul(stopped_choices(part)).min(MOST_CHOICES),
+            Some(part) => total = total
+                .saturating_mul(stopped_choices(part))
+                .min(MOST_CHOICES),
         }
         i += 1;
     }
@@ -100,7 +104,9 @@ fn pick_most(pick: Pick<'_>) -> u32
 {
     let mut most = capped_most(Node::Expr(pick.base));
     for other in pick.others {
-        let cost = other.cost.saturating_add(capped_most(Node::Expr(&other.tree)));
+        let cost = other
+            .cost
+            .saturating_add(capped_most(Node::Expr(&other.tree)));
         most = most.max(cost);
     }
     most

@@ -42,7 +42,11 @@ fn has_member(node: Node<'_>, choice: Choice) -> bool
     match node.pick() {
         None => part_has_member(node, choice),
         Some(pick) => {
-            if own_member(pick, choice) { true } else { part_has_member(node, choice) }
+            if own_member(pick, choice) {
+                true
+            } else {
+                part_has_member(node, choice)
+            }
         }
     }
 }

@@ -20,12 +20,10 @@ pub fn selections_are_rewritings()
 /// The type of the tree of a term is that of the term, by the rules of typing.
 pub fn trees_have_the_types_of_terms()
     ensures { (σ : Scope) (t : Term) → type_of σ (shape t) ≡ type_in σ.slots σ.program σ.number t }
-{
-}
+{}
 
 /// In the weighted tree of a program no selection costs more than the greatest cost, and one that
 /// fits costs as much.
 pub fn greatest_cost_is_reached()
     ensures { (g : Setting) (s : List Routine) → IsGreatestCost (weighted_program g s) }
-{
-}
+{}

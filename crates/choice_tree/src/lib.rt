@@ -5,8 +5,8 @@ mod costing;
 mod counting;
 mod fitting;
 mod laws;
-mod node;
 mod making;
+mod node;
 mod rules;
 mod selection;
 mod statements;
@@ -18,8 +18,8 @@ pub use fitting::fits;
 pub use laws::{
     greatest_cost_is_reached, selections_are_rewritings, trees_have_the_types_of_terms,
 };
-pub use node::{Node, Pick};
 pub use making::plain_expr;
+pub use node::{Node, Pick};
 pub use rules::{
     ArithOps, CmpOps, Meta, PArith, PCmp, PExpr, PExprs, Pattern, Place, Right, Rule, Rules,
 };

@@ -1,11 +1,14 @@
 //! Nodes of weighted programs, of whatever sort: a walk sees its children, and no sort of them.
-ghost use Rattle.std.specs.Prelude.{◌≡◌, ◌≤◌, ◌<◌, ◌^◌, IsSome, ◌∷◌, [], ℕ, map, slice_get, option_map};
+ghost use Rattle.std.specs.Prelude.{◌≡◌, ◌≤◌, ◌<◌, ◌^◌, IsSome, ◌∷◌, [], ℕ, map, slice_get};
+ghost use Rattle.std.specs.Prelude.{option_map};
 ghost use Rattle.choice_tree.specs.WeightedTrees.{children, listed, other_trees, no_weighted};
 ghost use Rattle.choice_tree.specs.Choices.{member_of};
 ghost use Rattle.choice_tree.specs.Selections.{other_at};
 ghost use Rattle.choice_tree.specs.NodeViews.{node_of, expr_of, pick_of, own_pick};
-ghost use Rattle.choice_tree.specs.WeightedViews.{weighted_of, weighteds, end_and, members, member_seen};
-ghost use Rattle.choice_tree.specs.StatementViews.{weighted_act, weighted_arm, weighted_body, weighted_else};
+ghost use Rattle.choice_tree.specs.WeightedViews.{weighted_of, weighteds, end_and, members};
+ghost use Rattle.choice_tree.specs.WeightedViews.{member_seen};
+ghost use Rattle.choice_tree.specs.StatementViews.{weighted_act, weighted_arm, weighted_body};
+ghost use Rattle.choice_tree.specs.StatementViews.{weighted_else};
 ghost use Rattle.choice_tree.specs.StatementViews.{weighted_func, weighted_stmt, arms_before};
 
 use crate::selection::Selection;
@@ -231,7 +234,11 @@ fn expr_pick(e: &WExpr) -> Option<Pick<'_>>
     ensures { option_map pick_of result ≡ own_pick (weighted_of e.now) }
 {
     match e {
-        WExpr::Pick { number, base, others } => Some(Pick {
+        WExpr::Pick {
+            number,
+            base,
+            others,
+        } => Some(Pick {
             number: *number,
             base,
             others: others.items.as_slice(),
@@ -251,8 +258,8 @@ fn no_pick<'a>(act: &'a WAct, line: u32) -> Option<Pick<'a>>
 
 // The child of a statement at a place.
 fn stmt_child<'a>(act: &'a WAct, i: u128) -> Option<Node<'a>>
-    ensures tree { (line : ℕ) → option_map node_of result ≡ slice_get (children (weighted_act act.now
-        line)) i }
+    ensures tree { (line : ℕ) → option_map node_of result ≡ slice_get (children (weighted_act
+        act.now line)) i }
     ensures near { IsSome result → i ≤ 2 ^ 64 }
 {
     match act {
@@ -287,5 +294,9 @@ fn expr_or_body<'a>(e: &'a WExpr, body: &'a WStmts, i: u128) -> Option<Node<'a>>
         weighted_body body.now ∷ []) i }
     ensures near { IsSome result → i ≤ 2 ^ 64 }
 {
-    if i == 0 { Some(Node::Expr(e)) } else { body_child(body, i - 1) }
+    if i == 0 {
+        Some(Node::Expr(e))
+    } else {
+        body_child(body, i - 1)
+    }
 }

@@ -31,7 +31,9 @@ pub fn plain(alloc: Global, w: &WProg, s: &Selection) -> Result<Prog, NoMemory>
     for func in &w.funcs.items {
         items.push(plain_func(alloc, func, s)?)?;
     }
-    Ok(Prog { funcs: Funcs { items } })
+    Ok(Prog {
+        funcs: Funcs { items },
+    })
 }
 
 // That of a function.
@@ -42,7 +44,12 @@ fn plain_func(alloc: Global, w: &WFunc, s: &Selection) -> Result<Func, NoMemory>
     let name = w.name.copy()?;
     let params = w.params.copy()?;
     let body = plain_stmts(alloc, &w.body, s)?;
-    Ok(Func { line: w.line, name, params, body })
+    Ok(Func {
+        line: w.line,
+        name,
+        params,
+        body,
+    })
 }
 
 // That of a body.
@@ -112,8 +119,8 @@ fn plain_act(alloc: Global, act: &WAct, line: u32, s: &Selection) -> Result<Act,
 // Those of the arms of an `if`.
 #[cycle(plain_stmts)]
 fn plain_arms(alloc: Global, arms: &WArms, s: &Selection) -> Result<Arms, NoMemory>
-    ensures { IfOk result (λ r. (ts : Trees) → arms_shapes (branches_of r) ts ≡ arms_plain (member_of s.now)
-        (weighted_arms arms.now) ts) }
+    ensures { IfOk result (λ r. (ts : Trees) → arms_shapes (branches_of r) ts ≡ arms_plain
+        (member_of s.now) (weighted_arms arms.now) ts) }
 {
     let mut items = Vec::new(alloc);
     for arm in &arms.items {
@@ -129,7 +136,11 @@ fn plain_arm(alloc: Global, arm: &WArm, s: &Selection) -> Result<Arm, NoMemory>
         arm.now)) }
 {
     let (test, body) = plain_with_body(alloc, &arm.body, &arm.test, s)?;
-    Ok(Arm { line: arm.line, test, body })
+    Ok(Arm {
+        line: arm.line,
+        test,
+        body,
+    })
 }
 
 // That of the body behind the arms, which may be missing.

@@ -13,36 +13,36 @@ part_choices-returns-in-None t c =
     let none = no_next (children (node_of c.args.node)) c.parts.i c.in-None.ensures.tree in
     let few = c.parts.invariant.few in
     let left : stopped (c.parts.total * product_of choices
-        (drop c.parts.i (children (node_of c.args.node)))) ≡ c.parts.total =
-        rw (none, mul-one c.parts.total) (omega (arith, few)) in
+    (drop c.parts.i (children (node_of c.args.node)))) ≡ c.parts.total =
+    rw (none, mul-one c.parts.total) (omega (arith, few)) in
     sym (c.parts.invariant.whole ∙ left)
 
 pub part_choices-stopped_choices-requires : goal.part_choices-stopped_choices-requires
 part_choices-stopped_choices-requires t c =
     let less =
-        child_smaller (node_of c.args.node) (node_of c.in-Some.part) c.parts.i
-        c.in-Some.ensures.tree in
+    child_smaller (node_of c.args.node) (node_of c.in-Some.part) c.parts.i
+    c.in-Some.ensures.tree in
     (omega (arith, less), tt)
 
 pub part_choices-parts-smaller : goal.part_choices-parts-smaller
 part_choices-parts-smaller t c =
     let below =
-        is_place (children (node_of c.args.node)) c.parts.i (node_of c.in-Some.part)
-        c.in-Some.ensures.tree in
+    is_place (children (node_of c.args.node)) c.parts.i (node_of c.in-Some.part)
+    c.in-Some.ensures.tree in
     omega (arith, below)
 
 pub part_choices-parts-preserved : goal.part_choices-parts-preserved
 part_choices-parts-preserved t c =
     let x = choices (node_of c.in-Some.part) in
     let same : c.parts.total * c.stopped_choices.result ≡ c.parts.total * stopped x =
-        ap (λ n. c.parts.total * n) c.stopped_choices.ensures in
+    ap (λ n. c.parts.total * n) c.stopped_choices.ensures in
     let made : c.min-total.result ≡ stopped (c.parts.total * stopped x) = omega (arith, same) in
     let one = some_choices (node_of c.in-Some.part) in
     let part : 1 ≤ stopped x = omega (arith, one) in
     let whole : 1 ≤ c.parts.total * stopped x = one-le-mul c.parts.invariant.some part in
     let next =
-        next_choices c.parts.total c.parts.i (c.parts.i + 1) (children (node_of c.args.node))
-        (node_of c.in-Some.part) c.parts.invariant.some (omega arith) c.in-Some.ensures.tree in
+    next_choices c.parts.total c.parts.i (c.parts.i + 1) (children (node_of c.args.node))
+    (node_of c.in-Some.part) c.parts.invariant.some (omega arith) c.in-Some.ensures.tree in
     record {
       whole = rw made (c.parts.invariant.whole ∙ next);
       some = rw made (omega (arith, whole));

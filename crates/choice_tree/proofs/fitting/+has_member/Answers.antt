@@ -35,8 +35,8 @@ part_has_member-returns-in-None t c =
 pub part_has_member-has_member-requires : goal.part_has_member-has_member-requires
 part_has_member-has_member-requires t c =
     let less =
-        child_smaller (node_of c.args.node) (node_of c.in-Some.part) c.parts.i
-        c.in-Some.ensures.tree in
+    child_smaller (node_of c.args.node) (node_of c.in-Some.part) c.parts.i
+    c.in-Some.ensures.tree in
     (omega (arith, less), tt)
 
 pub part_has_member-returns-then-has_member : goal.part_has_member-returns-then-has_member
@@ -49,8 +49,8 @@ part_has_member-returns-then-has_member t c =
 pub part_has_member-parts-smaller : goal.part_has_member-parts-smaller
 part_has_member-parts-smaller t c =
     let below =
-        is_place (children (node_of c.args.node)) c.parts.i (node_of c.in-Some.part)
-        c.in-Some.ensures.tree in
+    is_place (children (node_of c.args.node)) c.parts.i (node_of c.in-Some.part)
+    c.in-Some.ensures.tree in
     omega (arith, below)
 
 pub part_has_member-parts-preserved : goal.part_has_member-parts-preserved
