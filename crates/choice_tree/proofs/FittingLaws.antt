@@ -1,5 +1,4 @@
 -- Which members a tree has, by its children.
-use Rattle.std.proofs.Common.{arith, ◌≤◌}
 use Rattle.std.proofs.Common.{◌≡◌, ℕ, suc, Bool, true, false, ◌||◌, ◌&&◌, ◌==◌, nat_le, List, []}
 use Rattle.std.proofs.Common.{◌∷◌, map, drop, length, slice_get, Some, None, refl, sym, ap, ◌∙◌}
 use Rattle.choice_tree.specs.declared.node.Pick.{Pick}
@@ -89,4 +88,5 @@ pub fits_so : (w : Weighted) (from : ℕ) (s : List Choice) → Rises from s
     → NamesBy (has_member w) s → fits_from w from s ≡ true
 fits_so w from [] r n = refl
 fits_so w from (c ∷ rest) r n =
-    rw (le-leb from c.pick r.0, le-leb 1 c.member n.0, n.1, fits_so w (suc c.pick) rest r.1 n.2) refl
+    rw (le-leb from c.pick r.0, le-leb 1 c.member n.0, n.1, fits_so w (suc c.pick) rest r.1 n.2)
+    refl

@@ -1,10 +1,9 @@
 -- No selection costs more than the greatest cost, and one that fits costs that.
 use Rattle.std.proofs.Common.{◌≡◌, ℕ, zero, suc, ◌+◌, ◌≤◌, ◌<◌, max, List, [], ◌∷◌, ◌++◌, length}
-use Rattle.std.proofs.Common.{get_or, refl, sym, ap, ◌∙◌, arith, ◌⊎◌, inl, inr}
+use Rattle.std.proofs.Common.{get_or, refl, sym, ◌∙◌, arith, ◌⊎◌, inl, inr}
 use Rattle.mpy_tree.specs.Syntax.{Routine}
 use Rattle.mpy_tree.specs.Trees.{Tree, Trees, node, no_trees, tree_and}
 use Rattle.mpy_tree.specs.Shapes.{program_shape}
-use Rattle.choice_tree.specs.declared.selection.Choice.{Choice}
 use Rattle.choice_tree.specs.Choices.{member_of}
 use Rattle.choice_tree.specs.Contexts.{Setting, elsewhere, outermost, line_below}
 use Rattle.choice_tree.specs.Rewriting.{Edit}
@@ -14,10 +13,10 @@ use Rattle.choice_tree.specs.WeightedTrees.{numbered, numbered_all, numbered_oth
 use Rattle.choice_tree.specs.WeightedTrees.{picks}
 use Rattle.choice_tree.specs.Growing.{grown, steps, weighted_program}
 use Rattle.choice_tree.specs.Selections.{cost, costs, other_costs, most_cost, most_costs}
-use Rattle.choice_tree.specs.Selections.{other_most_cost, Fits, IsGreatestCost}
+use Rattle.choice_tree.specs.Selections.{other_most_cost, IsGreatestCost}
 use Rattle.choice_tree.proofs.CostLaws.{chosen_within}
 use Rattle.choice_tree.proofs.Giving.{Gives, GivesAll, GivesOther, Parts, Inner}
-use Rattle.choice_tree.proofs.Numbers.{Selected, selected}
+use Rattle.choice_tree.proofs.Numbers.{selected}
 
 mutual
   pub cost_below : (m : ℕ → ℕ) (w : Weighted) → cost m w ≤ most_cost w

@@ -1,6 +1,7 @@
 pub mod Complete
 pub mod CostLaws
 pub mod CountLaws
+pub mod EditLaws
 pub mod Enough
 pub mod FittingLaws
 pub mod Giving

@@ -1,5 +1,6 @@
 -- The greatest cost, from those of the children.
-use Rattle.std.proofs.Common.{◌≡◌, ℕ, zero, suc, ◌+◌, ◌≤◌, ◌<◌, max, List, [], ◌∷◌, map, drop, length}
+use Rattle.std.proofs.Common.{◌≡◌, ℕ, zero, suc, ◌+◌, ◌≤◌, ◌<◌, max, List, [], ◌∷◌, map, drop}
+use Rattle.std.proofs.Common.{length}
 use Rattle.std.proofs.Common.{get_or, Some, None, refl, ap, arith}
 use Rattle.choice_tree.specs.declared.node.Pick.{Pick}
 use Rattle.choice_tree.specs.declared.tree.Other.{Other}

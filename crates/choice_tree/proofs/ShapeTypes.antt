@@ -1,6 +1,6 @@
 -- The type of a term's tree is the term's.
-use Rattle.std.proofs.Common.{◌≡◌, ℕ, Bool, true, false, ◌&&◌, List, [], ◌∷◌, ◌++◌, Option, Some}
-use Rattle.std.proofs.Common.{None, if◌then◌else◌, refl, sym, ap, ◌∙◌}
+use Rattle.std.proofs.Common.{◌≡◌, Bool, true, false, ◌&&◌, [], ◌∷◌, Option, Some}
+use Rattle.std.proofs.Common.{None, if◌then◌else◌, refl, ap, ◌∙◌}
 use Rattle.mpy_tree.specs.declared.typing.Ty.{Ty}
 use Rattle.mpy_tree.specs.declared.typing.Ty.TheVariants as ty
 use Rattle.mpy_tree.specs.declared.typing.Slot.TheVariants as slot
@@ -14,7 +14,7 @@ use Rattle.mpy_tree.specs.Rules.{negative_type, arith_type, compare_type, both_a
 use Rattle.mpy_tree.specs.Rules.{index_type, slice_type, call_type}
 use Rattle.mpy_tree.specs.Shapes.{shape, shapes, shape_and}
 use Rattle.mpy_tree.specs.Trees.{Trees, no_trees}
-use Rattle.choice_tree.specs.Typing.{Scope, type_of, types_of, of_one, of_two, of_three, sliced}
+use Rattle.choice_tree.specs.Typing.{Scope, type_of, types_of, of_two, of_three}
 
 chosen_type : (o r s : Option Ty)
     → of_three (λ yes test no. choice_type yes no) (o ∷ r ∷ s ∷ [])

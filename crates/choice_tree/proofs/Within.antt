@@ -156,7 +156,8 @@ mutual
   pub resolutions_within : (p : Template) (σ : Scope) (β : Bindings) (n : ℕ)
       → (has_prime p ≡ true → Below n β) → Each (Within n) (resolutions σ β p)
   resolutions_within (made k no_templates) σ β n h =
-      each_map (λ j. Unit {0}) (Within n) (λ j. as_is j no_drafts) (node_resolutions β k) (λ j s. tt)
+      each_map (λ j. Unit {0}) (Within n) (λ j. as_is j no_drafts) (node_resolutions β k)
+      (λ j s. tt)
       (each_any (λ j. Unit {0}) (node_resolutions β k) (λ j. tt))
   resolutions_within (made k (template_and p ps)) σ β n h =
       each_flat_map (Within n) (Within n)

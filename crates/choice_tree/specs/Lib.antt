@@ -2,6 +2,7 @@ pub mod Choices
 pub mod Contexts
 pub mod Costs
 pub mod Drafts
+pub mod EditViews
 pub mod Growing
 pub mod Matching
 pub mod NodeViews

@@ -70,6 +70,22 @@ abbrev mutual
   other_edits m (other_and rule c w os) line old =
       (edit_by line rule old (plain m w) ∷ edits m w line) ∷ other_edits m os line old
 
+-- the picks of these edits
+abbrev mutual
+  pub edited_picks : (ℕ → ℕ) → Weighted → List ℕ
+  edited_picks m (plainly k ws) = picks_in m ws
+  edited_picks m (pick number base os) =
+      chosen (m number) (edited_picks m base) (other_picks m os number)
+
+  pub picks_in : (ℕ → ℕ) → Weighteds → List ℕ
+  picks_in m no_weighted = []
+  picks_in m (weighted_and w ws) = edited_picks m w ++ picks_in m ws
+
+  pub other_picks : (ℕ → ℕ) → Others → ℕ → List (List ℕ)
+  other_picks m no_others number = []
+  other_picks m (other_and rule c w os) number =
+      (number ∷ edited_picks m w) ∷ other_picks m os number
+
 abbrev pub count_others : Others → ℕ
 count_others no_others = 0
 count_others (other_and rule c w os) = suc (count_others os)

@@ -3,6 +3,8 @@
 
 mod costing;
 mod counting;
+mod edit;
+mod editing;
 mod fitting;
 mod laws;
 mod making;
@@ -14,6 +16,8 @@ mod tree;
 
 pub use costing::cost;
 pub use counting::{choices, most_cost};
+pub use edit::{Edit, Edits};
+pub use editing::edits;
 pub use fitting::fits;
 pub use laws::{
     greatest_cost_is_reached, selections_are_rewritings, trees_have_the_types_of_terms,

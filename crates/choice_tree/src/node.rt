@@ -4,6 +4,7 @@ ghost use Rattle.std.specs.Prelude.{option_map};
 ghost use Rattle.choice_tree.specs.WeightedTrees.{children, listed, other_trees, no_weighted};
 ghost use Rattle.choice_tree.specs.Choices.{member_of};
 ghost use Rattle.choice_tree.specs.Selections.{other_at};
+ghost use Rattle.choice_tree.specs.EditViews.{parts_line};
 ghost use Rattle.choice_tree.specs.NodeViews.{node_of, expr_of, pick_of, own_pick};
 ghost use Rattle.choice_tree.specs.WeightedViews.{weighted_of, weighteds, end_and, members};
 ghost use Rattle.choice_tree.specs.WeightedViews.{member_seen};
@@ -67,6 +68,18 @@ impl<'a> Node<'a> {
             Node::Body(body) => stmt_at(body.items.as_slice(), i),
             Node::Func(func) => body_child(&func.body, i),
             Node::Prog(prog) => func_at(prog.funcs.items.as_slice(), i),
+        }
+    }
+
+    /// The line on which its parts stand, if it stands on this one.
+    pub fn line_below(self, line: u32) -> u32
+        ensures { result ≡ parts_line (node_of self.entry) line }
+    {
+        match self {
+            Node::Expr(e) => same_line(e, line),
+            Node::Stmt(stmt) => stmt_line(&stmt.act, stmt.line, line),
+            Node::Arm(arm) => arm.line,
+            Node::Body(_) | Node::Func(_) | Node::Prog(_) => line,
         }
     }
 
@@ -298,5 +311,32 @@ fn expr_or_body<'a>(e: &'a WExpr, body: &'a WStmts, i: u128) -> Option<Node<'a>>
         Some(Node::Expr(e))
     } else {
         body_child(body, i - 1)
+    }
+}
+
+// The parts of an expression stand on its line.
+fn same_line(e: &WExpr, line: u32) -> u32
+    ensures { result ≡ parts_line (weighted_of e.now) line }
+{
+    match e {
+        WExpr::Int(_) => line,
+        _ => line,
+    }
+}
+
+// The line of the parts of a statement on the line `own`; those of an `if` have lines of their own.
+fn stmt_line(act: &WAct, own: u32, line: u32) -> u32
+    ensures { result ≡ parts_line (weighted_act act.now own) line }
+{
+    match act {
+        WAct::Pass | WAct::Break | WAct::Continue | WAct::If(_, _) => line,
+        WAct::Assign(_, _)
+        | WAct::Augment(_, _, _)
+        | WAct::Put(_, _, _)
+        | WAct::AugmentAt(_, _, _, _)
+        | WAct::Append(_, _)
+        | WAct::Return(_)
+        | WAct::While(_, _)
+        | WAct::For(_, _, _) => own,
     }
 }

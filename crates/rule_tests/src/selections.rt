@@ -1,8 +1,8 @@
 //! What selections of a weighted tree give.
 
 use crate::trees::three_rules;
-use choice_tree::{Choice, Selection, choices, cost, fits, most_cost, plain};
-use mpy_printer::print_prog;
+use choice_tree::{Choice, Selection, choices, cost, edits, fits, most_cost, plain};
+use mpy_printer::{print_expr, print_prog};
 use std::alloc::Global;
 use std::test::Fail;
 
@@ -60,6 +60,34 @@ fn others_do_not_fit(rt: HostRuntime) -> Result<(), Fail> {
     let tree = three_rules(alloc)?;
     for pairs in &OTHERS {
         assert!(rt; !fits(&tree, &selection(alloc, *pairs)?), "at {pairs:?}");
+    }
+    Ok(())
+}
+
+/// Selections with their replacements: pick, line, rule, what was there and what is.
+const REPLACED: [(&[(u32, u32)], &[&str]); 4] = [
+    (&[], &[]),
+    (&[(0, 1), (1, 1)], &["0 2 0 x: x + 2"]),
+    (&[(1, 1)], &["1 2 2 x: x + 1"]),
+    (&[(0, 2), (2, 1)], &["0 2 1 x: x + 1 + 1", "2 2 2 x: x + 1"]),
+];
+
+#[test]
+fn edits_are_told_in_order(rt: HostRuntime) -> Result<(), Fail> {
+    let alloc = rt.alloc();
+    let tree = three_rules(alloc)?;
+    for (pairs, wanted) in &REPLACED {
+        let found = edits(alloc, &tree, &selection(alloc, *pairs)?)?;
+        assert!(rt; found.items.len() == wanted.len(), "at {pairs:?}");
+        for (edit, text) in found.items.iter().zip(wanted.iter()) {
+            let old = String::from_utf8(print_expr(alloc, &edit.old)?)?;
+            let new = String::from_utf8(print_expr(alloc, &edit.new)?)?;
+            let pick = edit.pick;
+            let line = edit.line;
+            let rule = edit.rule;
+            let told = format!(in alloc; "{pick} {line} {rule} {old}: {new}")?;
+            assert!(rt; told.as_str() == *text, "at {pairs:?}");
+        }
     }
     Ok(())
 }

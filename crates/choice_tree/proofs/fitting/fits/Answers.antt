@@ -1,4 +1,4 @@
-use Rattle.std.proofs.Common.{◌≡◌, sym, ◌∙◌}
+use Rattle.std.proofs.Common.{sym, ◌∙◌}
 use Rattle.choice_tree.specs.StatementViews.{weighted_prog}
 use Rattle.choice_tree.proofs.FittingLaws.{fitting, fits_so}
 use Rattle.choice_tree.proofs.fitting.fits.Goals as goal
