@@ -2,6 +2,8 @@
 #![tactic(auto)]
 
 #[cfg(test)]
+mod matching;
+#[cfg(test)]
 mod selections;
 #[cfg(test)]
 mod trees;

@@ -1,0 +1,2 @@
+pub mod MatchViews
+pub mod Parts
