@@ -1,5 +1,6 @@
 //! The parts of an expression, by their place.
-ghost use Rattle.std.specs.Prelude.{◌≡◌, ◌+◌, ◌<◌, ◌^◌, IsSome, ◌∷◌, [], map, slice_get, option_map};
+ghost use Rattle.std.specs.Prelude.{◌≡◌, ◌+◌, ◌<◌, ◌^◌, IsSome, ◌∷◌, [], map, slice_get};
+ghost use Rattle.std.specs.Prelude.{option_map};
 ghost use Rattle.mpy_tree.specs.View.{term_of, terms, end_by};
 ghost use Rattle.mpy_tree.specs.Shapes.{shape, shapes, shape_and};
 ghost use Rattle.mpy_tree.specs.Trees.{no_trees};
@@ -47,7 +48,8 @@ fn one_part(a: &Expr, i: usize) -> Option<&Expr>
 }
 
 fn one_of_two<'a>(a: &'a Expr, b: &'a Expr, i: usize) -> Option<&'a Expr>
-    ensures part { option_map seen result ≡ slice_get (shape (term_of a.now) ∷ shape (term_of b.now) ∷
+    ensures part { option_map seen result ≡ slice_get (shape (term_of a.now) ∷ shape (term_of
+        b.now) ∷
         []) i }
     ensures near { IsSome result → i + 1 < 2 ^ 64 }
 {

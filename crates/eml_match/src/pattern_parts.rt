@@ -1,5 +1,6 @@
 //! The parts of a side of a rule, by their place.
-ghost use Rattle.std.specs.Prelude.{◌≡◌, ◌+◌, ◌<◌, ◌^◌, IsSome, ◌∷◌, [], map, slice_get, option_map};
+ghost use Rattle.std.specs.Prelude.{◌≡◌, ◌+◌, ◌<◌, ◌^◌, IsSome, ◌∷◌, [], map, slice_get};
+ghost use Rattle.std.specs.Prelude.{option_map};
 ghost use Rattle.choice_tree.specs.RuleViews.{template_of, templates, template_end};
 ghost use Rattle.choice_tree.specs.Templates.{no_templates};
 ghost use Rattle.eml_match.specs.Parts.{template_parts, template_list, template_seen};
@@ -9,7 +10,8 @@ use choice_tree::PExpr;
 
 /// The part of a node of a side at a place, in the order in which they are written.
 pub fn pattern_part(e: &PExpr, i: usize) -> Option<&PExpr>
-    ensures part { option_map template_seen result ≡ slice_get (template_parts (template_of e.now)) i }
+    ensures part { option_map template_seen result ≡ slice_get (template_parts (template_of e.now))
+        i }
     ensures near { IsSome result → i + 1 < 2 ^ 64 }
 {
     match e {
@@ -53,7 +55,8 @@ fn one_part(a: &PExpr, i: usize) -> Option<&PExpr>
 }
 
 fn one_of_two<'a>(a: &'a PExpr, b: &'a PExpr, i: usize) -> Option<&'a PExpr>
-    ensures part { option_map template_seen result ≡ slice_get (template_of a.now ∷ template_of b.now ∷
+    ensures part { option_map template_seen result ≡ slice_get (template_of a.now ∷ template_of
+        b.now ∷
         []) i }
     ensures near { IsSome result → i + 1 < 2 ^ 64 }
 {
