@@ -1,2 +1,4 @@
 pub mod MatchViews
+pub mod MatchedRules
 pub mod Parts
+pub mod Resolutions

@@ -50,15 +50,15 @@ pub fn match_head<'a>(
     }
 }
 
-// No bindings, if that holds.
-fn none_if<'a>(alloc: Global, holds: bool) -> Option<Vec<Binding<'a>>>
+/// No bindings, if that holds.
+pub fn none_if<'a>(alloc: Global, holds: bool) -> Option<Vec<Binding<'a>>>
     ensures { bindings_found result ≡ only_if holds }
 {
     if holds { Some(Vec::new(alloc)) } else { None }
 }
 
-// The one binding of a metavariable.
-fn one_binding<'a>(
+/// The one binding of a metavariable.
+pub fn one_binding<'a>(
     alloc: Global,
     meta: Meta,
     bound: Bound<'a>,

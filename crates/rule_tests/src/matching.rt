@@ -1,7 +1,7 @@
 //! What left sides match.
 
-use choice_tree::{Meta, PArith, PExpr};
-use eml_match::{Bound, match_expr};
+use choice_tree::{Meta, PArith, PExpr, Pattern, Place, Right, Rule, Rules};
+use eml_match::{Bound, Site, match_expr, matched_rules};
 use mpy_printer::print_expr;
 use mpy_tree::{ArithOp, Expr, Name};
 use std::alloc::Global;
@@ -54,5 +54,53 @@ fn others_do_not_match(rt: HostRuntime) -> Result<(), Fail> {
     let truth = term(alloc, ArithOp::Mul, Expr::Bool(true))?;
     assert!(rt; match_expr(alloc, &pattern(alloc)?, &truth)?.is_none());
     assert!(rt; match_expr(alloc, &pattern(alloc)?, &Expr::Int(7))?.is_none());
+    Ok(())
+}
+
+/// The rule `r: $a0 $o $n => 1` with this place on its two sides.
+fn rule(alloc: Global, place: Place) -> Result<Rule, Fail> {
+    let left = Pattern {
+        place,
+        term: pattern(alloc)?,
+    };
+    let right = Right {
+        place,
+        term: PExpr::Int(1),
+    };
+    let name = Name::from_vec(Vec::from_slice(alloc, b"r")?);
+    Ok(Rule {
+        line: 1,
+        name,
+        cost: 1,
+        left,
+        right,
+        say: None,
+    })
+}
+
+#[test]
+fn rules_are_tried_at_their_places(rt: HostRuntime) -> Result<(), Fail> {
+    let alloc = rt.alloc();
+    let mut items = Vec::new(alloc);
+    items.push(rule(alloc, Place::Return)?)?;
+    items.push(rule(alloc, Place::Anywhere)?)?;
+    items.push(rule(alloc, Place::Assign(meta(b'v', None)))?)?;
+    let rules = Rules { items };
+    let e = term(alloc, ArithOp::Mul, Expr::Int(7))?;
+    let v = Name::from_vec(Vec::from_slice(alloc, b"v")?);
+    let sites = [
+        (Site::Return, 0, 3),
+        (Site::Elsewhere, 1, 3),
+        (Site::Assign(&v), 2, 4),
+    ];
+    for (site, number, bound) in &sites {
+        let found = matched_rules(alloc, &rules, *site, &e)?;
+        assert!(rt; found.len() == 1, "at {number}");
+        for m in &found {
+            assert!(rt; m.rule == *number, "at {number}");
+            assert!(rt; m.bindings.len() == *bound, "at {number}");
+        }
+    }
+    assert!(rt; matched_rules(alloc, &rules, Site::If, &e)?.is_empty());
     Ok(())
 }
