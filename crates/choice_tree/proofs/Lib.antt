@@ -19,3 +19,4 @@ pub mod StatementParts
 pub mod Types
 pub mod Walking
 pub mod Within
+mod WorkedExamples
