@@ -58,7 +58,13 @@ tree_by rules e =
 abbrev rule : Place → ℕ → Template → Template → Correction
 rule p cost left right =
     record {
-      line = 1; name = []; cost = cost; place = p; left = left; right_place = p; right = right;
+      line = 1;
+      name = [];
+      cost = cost;
+      place = p;
+      left = left;
+      right_place = p;
+      right = right;
       say = None;
     }
 
