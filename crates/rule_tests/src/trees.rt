@@ -5,12 +5,10 @@ use mpy_tree::{ArithOp, Name, Names};
 use std::alloc::Global;
 use std::test::Fail;
 
-/// A list of these.
-fn listed<T: Drop>(alloc: Global, items: [T; 1]) -> Result<Vec<T>, Fail> {
+/// A list of one.
+fn listed<T: Drop>(alloc: Global, item: T) -> Result<Vec<T>, Fail> {
     let mut list = Vec::new(alloc);
-    for item in items {
-        list.push(item)?;
-    }
+    list.push(item)?;
     Ok(list)
 }
 
@@ -39,7 +37,7 @@ fn x_or_more(alloc: Global, number: u32) -> Result<WExpr, Fail> {
     let base = Box::new(alloc, x(alloc)?)?;
     let other = member(2, 1, plus(alloc, x(alloc)?, 1)?);
     let others = Others {
-        items: listed(alloc, [other])?,
+        items: listed(alloc, other)?,
     };
     Ok(WExpr::Pick {
         number,
@@ -55,9 +53,9 @@ fn returning(alloc: Global, e: WExpr) -> Result<WProg, Fail> {
         act: WAct::Return(Some(e)),
     };
     let body = WStmts {
-        items: listed(alloc, [stmt])?,
+        items: listed(alloc, stmt)?,
     };
-    let params = Names::from_vec(listed(alloc, [name(alloc, b"x")?])?);
+    let params = Names::from_vec(listed(alloc, name(alloc, b"x")?)?);
     let func = WFunc {
         line: 1,
         name: name(alloc, b"f")?,
@@ -66,7 +64,7 @@ fn returning(alloc: Global, e: WExpr) -> Result<WProg, Fail> {
     };
     Ok(WProg {
         funcs: WFuncs {
-            items: listed(alloc, [func])?,
+            items: listed(alloc, func)?,
         },
     })
 }
