@@ -1,21 +1,21 @@
 //! What selections of a weighted tree give.
 
 use crate::trees::three_rules;
-use choice_tree::{Choice, Selection, choices, cost, edits, fits, most_cost, plain};
+use choice_tree::{Choice, Selection, choices, edits, fits, plain};
 use mpy_printer::{print_expr, print_prog};
 use std::alloc::Global;
 use std::test::Fail;
 
-/// Selections, as pairs of a pick and a member, with what is returned, and the cost.
-const FITTING: [(&[(u32, u32)], &str, u32); 8] = [
-    (&[], "x", 0),
-    (&[(1, 1)], "x + 1", 1),
-    (&[(0, 1)], "x + 2", 3),
-    (&[(0, 2)], "x + 1", 1),
-    (&[(0, 2), (2, 1)], "x + 1 + 1", 2),
-    (&[(0, 1), (1, 1), (2, 1)], "x + 2", 3),
-    (&[(0, 2), (1, 1)], "x + 1", 1),
-    (&[(2, 1)], "x", 0),
+/// Selections, as pairs of a pick and a member, with what is returned.
+const FITTING: [(&[(u32, u32)], &str); 8] = [
+    (&[], "x"),
+    (&[(1, 1)], "x + 1"),
+    (&[(0, 1)], "x + 2"),
+    (&[(0, 2)], "x + 1"),
+    (&[(0, 2), (2, 1)], "x + 1 + 1"),
+    (&[(0, 1), (1, 1), (2, 1)], "x + 2"),
+    (&[(0, 2), (1, 1)], "x + 1"),
+    (&[(2, 1)], "x"),
 ];
 
 /// Selections that don't fit: no such pick, no such member, the base, picks that don't rise.
@@ -43,12 +43,11 @@ fn selection(alloc: Global, pairs: &[(u32, u32)]) -> Result<Selection, Fail> {
 fn selections_give_programs(rt: HostRuntime) -> Result<(), Fail> {
     let alloc = rt.alloc();
     let tree = three_rules(alloc)?;
-    for (pairs, returned, price) in &FITTING {
+    for (pairs, returned) in &FITTING {
         let s = selection(alloc, *pairs)?;
         let wanted = format!(in alloc; "def f(x):\n    return {returned}\n")?;
         let text = print_prog(alloc, &plain(alloc, &tree, &s)?)?;
         assert!(rt; text.as_slice() == wanted.as_bytes(), "at {pairs:?}");
-        assert!(rt; cost(&tree, &s) == *price, "at {pairs:?}");
         assert!(rt; fits(&tree, &s), "at {pairs:?}");
     }
     Ok(())
@@ -95,7 +94,6 @@ fn edits_are_told_in_order(rt: HostRuntime) -> Result<(), Fail> {
 #[test]
 fn trees_are_counted(rt: HostRuntime) -> Result<(), Fail> {
     let tree = three_rules(rt.alloc())?;
-    assert!(rt; most_cost(&tree) == 3);
     assert!(rt; choices(&tree) == 12);
     Ok(())
 }
