@@ -5,6 +5,7 @@ use Rattle.mpy_tree.specs.declared.tree.Expr.{Expr}
 use Rattle.mpy_tree.specs.View.{term_of, terms}
 use Rattle.mpy_tree.specs.Trees.{tree_and}
 use Rattle.mpy_tree.specs.Shapes.{shape, shapes}
+use Rattle.choice_tree.specs.Heads.{trees}
 use Rattle.choice_tree.specs.declared.tree.WExpr.{WExpr}
 use Rattle.choice_tree.specs.declared.tree.WExprs.{WExprs}
 use Rattle.choice_tree.specs.declared.tree.Other.{Other}
@@ -55,3 +56,9 @@ pub none_chosen : (m : ℕ → ℕ) (os : Others) (xs : List Other) (k i : ℕ)
     → xs ≡ (out-Others os).items.items → length xs ≤ i → k ≡ suc i
     → other_at k (other_plains m (others_of os)) ≡ None
 none_chosen m os xs k i x h e = rw (e, others_of_is os, ← x) (none_in m xs i h)
+
+-- the trees of a list of expressions
+pub terms_are_trees : (es : List Expr)
+    → shapes (terms (map term_of es)) ≡ trees (map (λ e. shape (term_of e)) es)
+terms_are_trees [] = refl
+terms_are_trees (e ∷ es) = ap (tree_and (shape (term_of e))) (terms_are_trees es)

@@ -4,11 +4,14 @@ pub mod Costs
 pub mod Drafts
 pub mod EditViews
 pub mod Growing
+pub mod Heads
 pub mod Matching
 pub mod NodeViews
 pub mod Rewriting
 pub mod RuleViews
 pub mod Selections
+pub mod SideViews
+pub mod Sides
 pub mod StatementViews
 pub mod Templates
 pub mod Typing

@@ -6,6 +6,8 @@ mod counting;
 mod edit;
 mod editing;
 mod fitting;
+mod forms;
+mod head;
 mod laws;
 mod making;
 mod node;
@@ -19,6 +21,8 @@ pub use counting::{choices, most_cost};
 pub use edit::{Edit, Edits};
 pub use editing::edits;
 pub use fitting::fits;
+pub use forms::{Mark, Operator};
+pub use head::{Head, head_of, plain_node, weighted_node};
 pub use laws::{
     greatest_cost_is_reached, selections_are_rewritings, trees_have_the_types_of_terms,
 };
