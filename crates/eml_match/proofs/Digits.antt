@@ -16,7 +16,7 @@ use Rattle.choice_tree.specs.Matching.{Bindings, Bound, a_term, an_operator}
 use Rattle.choice_tree.specs.Drafts.{Draft, Drafts, again, no_drafts, draft_and, draft_of}
 use Rattle.choice_tree.specs.Drafts.{bound_term, term_in, same_meta, node_resolutions, locals_like}
 use Rattle.choice_tree.specs.Drafts.{local_draft, resolutions, resolutions_all, resolutions_of_each}
-use Rattle.eml_match.specs.Resolutions.{bound_locals, node_draft, count}
+use Rattle.eml_match.specs.Resolutions.{bound_locals, node_draft, locals_for, count}
 use Rattle.eml_match.specs.Resolutions.{count_all, count_each, of_kind, of_bound, of_local}
 use Rattle.eml_match.specs.Resolutions.{resolution, resolution_all, resolution_of}
 
@@ -120,12 +120,14 @@ rest_length kinds rest d =
 
 -- the number of the parts, and their resolution, with or without others behind the first
 all_count : (p : Template) (ps : Templates) (σ : Scope) (β : Bindings)
-    → count_all (template_and p ps) σ β ≡ count p σ β * count_all ps σ β
+    → count_all (template_and p ps) (locals_for σ β) β ≡ count p (locals_for σ β) β * count_all ps
+    (locals_for σ β) β
 all_count p no_templates σ β = grind arith
 all_count p (template_and q ps) σ β = refl
 
 mutual
-  pub counted : (p : Template) (σ : Scope) (β : Bindings) → length (resolutions σ β p) ≡ count p σ β
+  pub counted : (p : Template) (σ : Scope) (β : Bindings) → length (resolutions σ β p) ≡ count p
+      (locals_for σ β) β
   counted (made (exactly k) no_templates) σ β = refl
   counted (made (exactly k) (template_and p ps)) σ β =
       length_flat (node_rest (k ∷ []) (resolutions_all σ β ps))
@@ -145,7 +147,7 @@ mutual
       (bound_locals σ (bound_term β m))
 
   pub counted_all : (ps : Templates) (σ : Scope) (β : Bindings)
-      → length (resolutions_all σ β ps) ≡ count_all ps σ β
+      → length (resolutions_all σ β ps) ≡ count_all ps (locals_for σ β) β
   counted_all no_templates σ β = refl
   counted_all (template_and p ps) σ β =
       length_flat (λ d. map (draft_and d) (resolutions_all σ β ps))
@@ -154,7 +156,7 @@ mutual
       ∙ (λ i. counted p σ β i * counted_all ps σ β i) ∙ sym (all_count p ps σ β)
 
   counted_each : (ps : Templates) (σ : Scope) (β : Bindings)
-      → length (resolutions_of_each σ β ps) ≡ count_each ps σ β
+      → length (resolutions_of_each σ β ps) ≡ count_each ps (locals_for σ β) β
   counted_each no_templates σ β = refl
   counted_each (template_and p ps) σ β =
       length_joined (resolutions σ β p) (resolutions_of_each σ β ps) ∙
@@ -162,20 +164,28 @@ mutual
 
 -- the first part and the others, by the digits of a number
 abbrev all_resolved : (p : Template) (ps : Templates) (σ : Scope) (β : Bindings) (r : ℕ) → Type 0
-all_resolved p ps σ β r = (q j : ℕ) × (r ≡ q * count_all ps σ β + j) × (j < count_all ps σ β)
-    × (resolution_all (template_and p ps) σ β r ≡ draft_and (resolution p σ β q)
-    (resolution_all ps σ β j))
+all_resolved p ps σ β r = (q j : ℕ) × (r ≡ q * count_all ps (locals_for σ β) β + j) × (j <
+    count_all ps (locals_for σ β) β)
+    × (resolution_all (template_and p ps) (locals_for σ β) β r ≡ draft_and (resolution p
+    (locals_for σ β) β q)
+    (resolution_all ps (locals_for σ β) β j))
 
 positive : (a b r : ℕ) → r < a * b → 0 < b
 positive a zero r h = let z : a * 0 ≡ 0 = grind arith in absurd (omega arith)
 positive a (suc b) r h = omega arith
 
 by_digits : (p : Template) (ps : Templates) (σ : Scope) (β : Bindings) (r : ℕ)
-    → r < count_all (template_and p ps) σ β → all_resolved p ps σ β r
+    → r < count_all (template_and p ps) (locals_for σ β) β → all_resolved p ps σ β r
 by_digits p no_templates σ β r h = (r, 0, grind arith, omega arith, refl)
 by_digits p (template_and q ps) σ β r h =
-    let n = count_all (template_and q ps) σ β in
-    (r / n, r % n, sym (div-add-mod' r n), mod_below r n (positive (count p σ β) n r h), refl)
+    let n = count_all (template_and q ps) (locals_for σ β) β in (
+      r / n,
+      r % n,
+      sym (div-add-mod' r n),
+      mod_below r n (positive (count p (locals_for σ β) β) n r
+          h),
+      refl,
+    )
 
 one_kind : (q n j r : ℕ) → r ≡ q * n + j → r ≡ q * (1 * n) + (0 * n + j)
 one_kind q n j r e = e ∙ grind arith
@@ -258,29 +268,32 @@ at_node kinds firsts rest q i j r d ds e h a b =
 
 mutual
   -- the resolution of a number below the count is that element of the list
-  pub resolved_at : (p : Template) (σ : Scope) (β : Bindings) (r : ℕ) → r < count p σ β
-      → IsAt (resolutions σ β p) r (resolution p σ β r)
+  pub resolved_at : (p : Template) (σ : Scope) (β : Bindings) (r : ℕ) → r < count p (locals_for σ
+      β) β
+      → IsAt (resolutions σ β p) r (resolution p (locals_for σ β) β r)
   resolved_at (made (exactly k) no_templates) σ β zero h = refl
   resolved_at (made (exactly k) no_templates) σ β (suc r) h = absurd (omega arith)
   resolved_at (made (exactly k) (template_and p ps)) σ β r h =
       let d = by_digits p ps σ β r h in
       let n = counted_all ps σ β in
-      let below : d.0 < count p σ β =
-      digit_below (count p σ β) d.0 (count_all ps σ β) d.1 r d.2
+      let below : d.0 < count p (locals_for σ β) β =
+      digit_below (count p (locals_for σ β) β) d.0 (count_all ps (locals_for σ β) β) d.1 r d.2
       (let c = all_count p ps σ β in omega arith) in
       rw d.4 (at_node (k ∷ []) (resolutions σ β p) (resolutions_all σ β ps) d.0 0 d.1 r
-      (resolution p σ β d.0) (resolution_all ps σ β d.1)
-      (rw n (one_kind d.0 (count_all ps σ β) d.1 r d.2)) (omega arith)
+      (resolution p (locals_for σ β) β d.0) (resolution_all ps (locals_for σ β) β d.1)
+      (rw n (one_kind d.0 (count_all ps (locals_for σ β) β) d.1 r d.2)) (omega arith)
       (resolved_at p σ β d.0 below) (all_resolved_at ps σ β d.1 d.3))
   resolved_at (made k no_templates) σ β r h = of_kind_at no_drafts (node_resolutions β k) r h
   resolved_at (made k (template_and p ps)) σ β r h =
-      let n = count_all ps σ β in
+      let n = count_all ps (locals_for σ β) β in
       let m = length (node_resolutions β k) in
-      let d = kind_digits (count p σ β) m n r h in
-      let below : r / n / m < count p σ β =
-      digit_below (count p σ β) (r / n / m) (m * n) ((r / n % m) * n + r % n) r d.0 h in
+      let d = kind_digits (count p (locals_for σ β) β) m n r h in
+      let below : r / n / m < count p (locals_for σ β) β =
+      digit_below (count p (locals_for σ β) β) (r / n / m) (m * n) ((r / n % m) * n + r % n) r d.0
+      h in
       at_node (node_resolutions β k) (resolutions σ β p) (resolutions_all σ β ps) (r / n / m)
-      (r / n % m) (r % n) r (resolution p σ β (r / n / m)) (resolution_all ps σ β (r % n))
+      (r / n % m) (r % n) r (resolution p (locals_for σ β) β (r / n / m)) (resolution_all ps
+      (locals_for σ β) β (r % n))
       (rw (counted_all ps σ β) d.0) d.1 (resolved_at p σ β (r / n / m) below)
       (all_resolved_at ps σ β (r % n) d.2)
   resolved_at (hole m) σ β r h = of_hole m.primed (bound_term β m) r (bound_once β m) h
@@ -288,28 +301,32 @@ mutual
   resolved_at (some_local m) σ β r h =
       rw (locals_are σ (bound_term β m)) (of_local_at (bound_locals σ (bound_term β m)) r h)
 
-  pub all_resolved_at : (ps : Templates) (σ : Scope) (β : Bindings) (r : ℕ) → r < count_all ps σ β
-      → IsAt (resolutions_all σ β ps) r (resolution_all ps σ β r)
+  pub all_resolved_at : (ps : Templates) (σ : Scope) (β : Bindings) (r : ℕ) → r < count_all ps
+      (locals_for σ β) β
+      → IsAt (resolutions_all σ β ps) r (resolution_all ps (locals_for σ β) β r)
   all_resolved_at no_templates σ β zero h = refl
   all_resolved_at no_templates σ β (suc r) h = absurd (omega arith)
   all_resolved_at (template_and p ps) σ β r h =
       let d = by_digits p ps σ β r h in
       let n = counted_all ps σ β in
-      let below : d.0 < count p σ β =
-      digit_below (count p σ β) d.0 (count_all ps σ β) d.1 r d.2
+      let below : d.0 < count p (locals_for σ β) β =
+      digit_below (count p (locals_for σ β) β) d.0 (count_all ps (locals_for σ β) β) d.1 r d.2
       (let c = all_count p ps σ β in omega arith) in
-      rw d.4 (at_flat (λ e. map (draft_and e) (resolutions_all σ β ps)) (count_all ps σ β)
+      rw d.4 (at_flat (λ e. map (draft_and e) (resolutions_all σ β ps)) (count_all ps (locals_for σ
+      β) β)
       (λ e. length_mapped (draft_and e) (resolutions_all σ β ps) ∙ n) (resolutions σ β p) d.0
-      d.1 r (resolution p σ β d.0) _ d.2
+      d.1 r (resolution p (locals_for σ β) β d.0) _ d.2
       (resolved_at p σ β d.0 below)
-      (at_map (draft_and (resolution p σ β d.0)) (resolutions_all σ β ps) d.1
-      (resolution_all ps σ β d.1) (all_resolved_at ps σ β d.1 d.3)))
+      (at_map (draft_and (resolution p (locals_for σ β) β d.0)) (resolutions_all σ β ps) d.1
+      (resolution_all ps (locals_for σ β) β d.1) (all_resolved_at ps σ β d.1 d.3)))
 
-  resolved_in : (ps : Templates) (σ : Scope) (β : Bindings) (r : ℕ) → r < count_each ps σ β
-      → IsAt (resolutions_of_each σ β ps) r (resolution_of ps σ β r)
+  resolved_in : (ps : Templates) (σ : Scope) (β : Bindings) (r : ℕ) → r < count_each ps (locals_for
+      σ β) β
+      → IsAt (resolutions_of_each σ β ps) r (resolution_of ps (locals_for σ β) β r)
   resolved_in no_templates σ β r h = absurd (omega arith)
   resolved_in (template_and p ps) σ β r h =
-      in_set (count p σ β) (resolutions σ β p) (resolutions_of_each σ β ps) r (resolution p σ β r)
-      (resolution_of ps σ β (r - count p σ β)) (counted p σ β)
+      in_set (count p (locals_for σ β) β) (resolutions σ β p) (resolutions_of_each σ β ps) r
+      (resolution p (locals_for σ β) β r)
+      (resolution_of ps (locals_for σ β) β (r - count p (locals_for σ β) β)) (counted p σ β)
       (λ below. resolved_at p σ β r below)
-      (λ above. resolved_in ps σ β (r - count p σ β) (omega arith))
+      (λ above. resolved_in ps σ β (r - count p (locals_for σ β) β) (omega arith))

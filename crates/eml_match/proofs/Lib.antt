@@ -1,3 +1,4 @@
 pub mod Digits
+pub mod HeadParts
 pub mod Places
 pub mod Proposing

@@ -75,13 +75,13 @@ pattern_smaller (hole m) q i h = cc
 pattern_smaller (one_of ps) q i h = cc
 pattern_smaller (some_local m) q i h = cc
 
-next_of : {X : Type 0} (xs : List X) (i : ℕ) (x : X) → Some x ≡ slice_get xs i
+pub next_of : {X : Type 0} (xs : List X) (i : ℕ) (x : X) → Some x ≡ slice_get xs i
     → drop i xs ≡ x ∷ drop (suc i) xs
 next_of [] i x h = cc
 next_of (y ∷ xs) zero x h = let e : x ≡ y = cc in rw e refl
 next_of (y ∷ xs) (suc i) x h = next_of xs i x h
 
-no_next : {X : Type 0} (xs : List X) (i : ℕ) → None ≡ slice_get xs i → drop i xs ≡ []
+pub no_next : {X : Type 0} (xs : List X) (i : ℕ) → None ≡ slice_get xs i → drop i xs ≡ []
 no_next [] zero h = refl
 no_next [] (suc i) h = refl
 no_next (y ∷ xs) zero h = cc

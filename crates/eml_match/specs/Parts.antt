@@ -7,7 +7,8 @@ use Rattle.mpy_tree.specs.Trees.{Tree, Trees, node, no_trees, tree_and}
 use Rattle.mpy_tree.specs.Shapes.{shape}
 use Rattle.choice_tree.specs.declared.rules.PExpr.{PExpr}
 use Rattle.choice_tree.specs.RuleViews.{template_of}
-use Rattle.choice_tree.specs.Templates.{Template, Templates, made, no_templates, template_and}
+use Rattle.choice_tree.specs.Templates.{Template, Templates, made, one_of}
+use Rattle.choice_tree.specs.Templates.{no_templates, template_and}
 
 abbrev pub tree_list : Trees → List Tree
 tree_list no_trees = []
@@ -28,6 +29,11 @@ template_list (template_and p ps) = p ∷ template_list ps
 abbrev pub template_parts : Template → List Template
 template_parts (made k ps) = template_list ps
 template_parts _ = []
+
+-- those of a set
+abbrev pub set_elements : Template → List Template
+set_elements (one_of ps) = template_list ps
+set_elements _ = []
 
 abbrev pub template_seen : Bor PExpr → Template
 template_seen p = template_of p.now

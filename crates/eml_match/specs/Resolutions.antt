@@ -3,6 +3,7 @@
 use Rattle.std.specs.Prelude.{ℕ, suc, ◌+◌, ◌*◌, ◌-◌, ◌/◌, ◌%◌, max, nat_lt, Bool, true, false}
 use Rattle.std.specs.Prelude.{if◌then◌else◌, List, [], ◌∷◌, ◌++◌, length, Option, Some, None}
 use Rattle.std.specs.Prelude.{slice_get}
+use Rattle.choice_tree.specs.declared.rules.Meta.{Meta}
 use Rattle.mpy_tree.specs.Trees as kind
 use Rattle.mpy_tree.specs.Trees.{Kind, Tree}
 use Rattle.choice_tree.specs.Templates.{NodeTemplate, exactly, Template, Templates, made, hole}
@@ -21,6 +22,13 @@ abbrev pub bound_locals : Scope → List Tree → List (List ℕ)
 bound_locals σ [] = []
 bound_locals σ (t ∷ ts) = locals_like σ t ++ bound_locals σ ts
 
+-- the locals that ?$m may be, for each metavariable
+abbrev pub Locals : Type 0
+Locals = Meta → List (List ℕ)
+
+abbrev pub locals_for : Scope → Bindings → Locals
+locals_for σ β m = bound_locals σ (bound_term β m)
+
 -- the nodes of an operator set, in order; another node is one
 abbrev pub kind_count : Bindings → NodeTemplate → ℕ
 kind_count β (exactly k) = 1
@@ -32,23 +40,23 @@ kind_at β k r = slice_get (node_resolutions β k) r
 
 -- how many there are
 abbrev mutual
-  pub count : Template → Scope → Bindings → ℕ
-  count (made (exactly k) ps) σ β = count_all ps σ β
-  count (made k no_templates) σ β = kind_count β k
-  count (made k (template_and p ps)) σ β = count p σ β * (kind_count β k * count_all ps σ β)
-  count (hole m) σ β = length (bound_term β m)
-  count (one_of ps) σ β = count_each ps σ β
-  count (some_local m) σ β = length (bound_locals σ (bound_term β m))
+  pub count : Template → Locals → Bindings → ℕ
+  count (made (exactly k) ps) L β = count_all ps L β
+  count (made k no_templates) L β = kind_count β k
+  count (made k (template_and p ps)) L β = count p L β * (kind_count β k * count_all ps L β)
+  count (hole m) L β = length (bound_term β m)
+  count (one_of ps) L β = count_each ps L β
+  count (some_local m) L β = length (L m)
 
-  pub count_all : Templates → Scope → Bindings → ℕ
-  count_all no_templates σ β = 1
-  count_all (template_and p no_templates) σ β = count p σ β
-  count_all (template_and p (template_and q ps)) σ β =
-      count p σ β * count_all (template_and q ps) σ β
+  pub count_all : Templates → Locals → Bindings → ℕ
+  count_all no_templates L β = 1
+  count_all (template_and p no_templates) L β = count p L β
+  count_all (template_and p (template_and q ps)) L β =
+      count p L β * count_all (template_and q ps) L β
 
-  pub count_each : Templates → Scope → Bindings → ℕ
-  count_each no_templates σ β = 0
-  count_each (template_and p ps) σ β = count p σ β + count_each ps σ β
+  pub count_each : Templates → Locals → Bindings → ℕ
+  count_each no_templates L β = 0
+  count_each (template_and p ps) L β = count p L β + count_each ps L β
 
 abbrev pub no_draft : Draft
 no_draft = node_draft no_drafts kind.List
@@ -67,29 +75,29 @@ of_local None = no_draft
 of_local (Some x) = local_draft x
 
 abbrev mutual
-  pub resolution : Template → Scope → Bindings → ℕ → Draft
-  resolution (made (exactly k) ps) σ β r = node_draft (resolution_all ps σ β r) k
-  resolution (made k no_templates) σ β r = of_kind (kind_at β k r) no_drafts
-  resolution (made k (template_and p ps)) σ β r =
-      of_kind (kind_at β k (r / count_all ps σ β % kind_count β k))
-      (draft_and (resolution p σ β (r / count_all ps σ β / kind_count β k))
-      (resolution_all ps σ β (r % count_all ps σ β)))
-  resolution (hole m) σ β r = of_bound m.primed (bound_term β m)
-  resolution (one_of ps) σ β r = resolution_of ps σ β r
-  resolution (some_local m) σ β r = of_local (slice_get (bound_locals σ (bound_term β m)) r)
+  pub resolution : Template → Locals → Bindings → ℕ → Draft
+  resolution (made (exactly k) ps) L β r = node_draft (resolution_all ps L β r) k
+  resolution (made k no_templates) L β r = of_kind (kind_at β k r) no_drafts
+  resolution (made k (template_and p ps)) L β r =
+      of_kind (kind_at β k (r / count_all ps L β % kind_count β k))
+      (draft_and (resolution p L β (r / count_all ps L β / kind_count β k))
+      (resolution_all ps L β (r % count_all ps L β)))
+  resolution (hole m) L β r = of_bound m.primed (bound_term β m)
+  resolution (one_of ps) L β r = resolution_of ps L β r
+  resolution (some_local m) L β r = of_local (slice_get (L m) r)
 
-  pub resolution_all : Templates → Scope → Bindings → ℕ → Drafts
-  resolution_all no_templates σ β r = no_drafts
-  resolution_all (template_and p no_templates) σ β r = draft_and (resolution p σ β r) no_drafts
-  resolution_all (template_and p (template_and q ps)) σ β r =
-      draft_and (resolution p σ β (r / count_all (template_and q ps) σ β))
-      (resolution_all (template_and q ps) σ β (r % count_all (template_and q ps) σ β))
+  pub resolution_all : Templates → Locals → Bindings → ℕ → Drafts
+  resolution_all no_templates L β r = no_drafts
+  resolution_all (template_and p no_templates) L β r = draft_and (resolution p L β r) no_drafts
+  resolution_all (template_and p (template_and q ps)) L β r =
+      draft_and (resolution p L β (r / count_all (template_and q ps) L β))
+      (resolution_all (template_and q ps) L β (r % count_all (template_and q ps) L β))
 
   -- of the elements of a set
-  pub resolution_of : Templates → Scope → Bindings → ℕ → Draft
-  resolution_of no_templates σ β r = no_draft
-  resolution_of (template_and p ps) σ β r =
-      if nat_lt r (count p σ β) then resolution p σ β r else resolution_of ps σ β (r - count p σ β)
+  pub resolution_of : Templates → Locals → Bindings → ℕ → Draft
+  resolution_of no_templates L β r = no_draft
+  resolution_of (template_and p ps) L β r =
+      if nat_lt r (count p L β) then resolution p L β r else resolution_of ps L β (r - count p L β)
 
 -- how deep a side of a rule is
 abbrev mutual

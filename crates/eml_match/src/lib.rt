@@ -6,13 +6,13 @@ mod bindings;
 mod heads;
 mod laws;
 mod matching;
-mod parts;
-mod pattern_parts;
+pub mod parts;
+pub mod pattern_parts;
 mod rules;
 mod sites;
 
 pub use bindings::{Binding, Bound};
-pub use laws::{matching_rules_propose, resolutions_by_number};
+pub use laws::{heads_have_parts, matching_rules_propose, resolutions_by_number};
 pub use matching::match_expr;
 pub use rules::{Matched, matched_rules};
 pub use sites::Site;

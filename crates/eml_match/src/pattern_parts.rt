@@ -3,7 +3,7 @@ ghost use Rattle.std.specs.Prelude.{◌≡◌, ◌+◌, ◌<◌, ◌^◌, IsSome
 ghost use Rattle.std.specs.Prelude.{option_map};
 ghost use Rattle.choice_tree.specs.RuleViews.{template_of, templates, template_end};
 ghost use Rattle.choice_tree.specs.Templates.{no_templates};
-ghost use Rattle.eml_match.specs.Parts.{template_parts, template_list, template_seen};
+ghost use Rattle.eml_match.specs.Parts.{set_elements, template_list, template_parts, template_seen};
 
 use crate::parts::element;
 use choice_tree::PExpr;
@@ -43,6 +43,18 @@ pub fn pattern_part(e: &PExpr, i: usize) -> Option<&PExpr>
                 one_of_ends(from, to, i - 1)
             }
         }
+    }
+}
+
+/// The element of a set at a place.
+pub fn set_element(e: &PExpr, i: usize) -> Option<&PExpr>
+    ensures part { option_map template_seen result ≡ slice_get (set_elements (template_of e.now))
+        i }
+    ensures near { IsSome result → i + 1 < 2 ^ 64 }
+{
+    match e {
+        PExpr::Set(es) => part_at(es.items.as_slice(), i),
+        _ => None,
     }
 }
 
