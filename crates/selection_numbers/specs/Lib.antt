@@ -1,0 +1,2 @@
+pub mod MemberCounts
+pub mod Numbers

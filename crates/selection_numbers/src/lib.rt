@@ -1,0 +1,12 @@
+//! The selections of a weighted tree, each by a number.
+#![tactic(auto)]
+
+mod laws;
+mod member_counts;
+
+pub use laws::selections_have_numbers;
+pub use member_counts::MemberCounts;
+use std::alloc::AllocError;
+
+/// Want of memory, where a call has no other refusal.
+pub type NoMemory = AllocError;
