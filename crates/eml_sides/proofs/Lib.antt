@@ -1,0 +1,4 @@
+pub mod Begun
+pub mod MoreOperators
+pub mod OneByOne
+pub mod SidesRead
