@@ -1,0 +1,9 @@
+pub mod AlternativeLists
+pub mod Counts
+pub mod Depths
+pub mod Digits
+pub mod FittingLocals
+pub mod Instances
+pub mod PartNumbers
+pub mod Resolutions
+pub mod SetResolutions

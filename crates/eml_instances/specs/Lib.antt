@@ -1,0 +1,4 @@
+pub mod Alternatives
+pub mod Resolving
+pub mod Scopes
+pub mod Substitutions
