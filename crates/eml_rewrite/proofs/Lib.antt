@@ -1,0 +1,10 @@
+pub mod Alternatives
+pub mod Appending
+pub mod AsItStands
+pub mod Depths
+pub mod FullyGrown
+pub mod Members
+pub mod Nodes
+pub mod Programs
+pub mod Sizes
+pub mod Trunks

@@ -1,0 +1,6 @@
+pub mod Building
+pub mod Parts
+pub mod Programs
+pub mod Sides
+pub mod Spots
+pub mod Statements

@@ -1,0 +1,18 @@
+//! The weighted tree of a program: all its rewritings by the rules of an error model.
+#![tactic(auto)]
+
+mod copies;
+mod counter;
+mod error;
+mod grow;
+mod laws;
+mod rewriting;
+mod sharing;
+mod side;
+mod spot;
+mod statements;
+mod written;
+
+pub use error::RewriteError;
+pub use laws::rewritten_trees_have_all_rewritings;
+pub use rewriting::rewrite;
