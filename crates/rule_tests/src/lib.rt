@@ -4,6 +4,10 @@
 #[cfg(test)]
 mod matching;
 #[cfg(test)]
+mod numbers;
+#[cfg(test)]
+mod rule_files;
+#[cfg(test)]
 mod selections;
 #[cfg(test)]
 mod trees;
