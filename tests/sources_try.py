@@ -311,18 +311,18 @@ fn main(rt: HostRuntime) -> Result<(), anyhow::Error> {
 class Harness:
     """The program, in a folder of its own. The current folder is the top of the repository."""
 
-    def __init__(self, folder):
+    def __init__(self, folder, crates=CRATES, program=PROGRAM):
         self.input = os.path.join(folder, 'input.txt')
         self.crate = os.path.join(folder, 'crates/sources_try')
-        for name in CRATES:
+        for name in crates:
             to = os.path.join(folder, 'crates', name)
             shutil.copytree(os.path.join('crates', name), to, ignore=shutil.ignore_patterns('out'))
         os.makedirs(os.path.join(self.crate, 'src'))
         with open('crates.txt') as listed, open(os.path.join(folder, 'crates.txt'), 'w') as out:
-            out.writelines(line for line in listed if line.split(':')[0] in CRATES)
-            out.write('sources_try: anyhow %s\n' % ' '.join(CRATES))
+            out.writelines(line for line in listed if line.split(':')[0] in crates)
+            out.write('sources_try: anyhow %s\n' % ' '.join(crates))
         with open(os.path.join(self.crate, 'src/main.rt'), 'w') as out:
-            out.write(PROGRAM)
+            out.write(program)
 
     def answers(self, lines):
         """What the program answers to these lines. What is compiled runs to the end, the interpreter doesn't."""
