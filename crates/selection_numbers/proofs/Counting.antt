@@ -5,12 +5,10 @@ use Rattle.std.proofs.Common.{map, Some, None}
 use Rattle.std.specs.Prelude.{◌==◌, nat_lt, nat_le}
 use Rattle.std.proofs.lemmas.Bool.Decides.{nat_tests}
 use Rattle.std.proofs.Math.Nat.{mul_assoc}
-use Rattle.choice_tree.specs.declared.selection.Choice.{Choice}
 use Rattle.choice_tree.specs.declared.node.Pick.{Pick}
 use Rattle.choice_tree.specs.NodeViews.{own_pick, pick_of}
 use Rattle.choice_tree.specs.WeightedViews.{members, member_seen}
 use Rattle.choice_tree.proofs.FittingLaws.{counted}
-use Rattle.choice_tree.specs.Choices.{NamesBy}
 use Rattle.choice_tree.specs.WeightedTrees.{Weighted, Weighteds, Others, plainly, pick, no_weighted}
 use Rattle.choice_tree.specs.WeightedTrees.{weighted_and, no_others, other_and, numbered}
 use Rattle.choice_tree.specs.WeightedTrees.{numbered_all, numbered_others, picks, picks_in}
@@ -19,9 +17,7 @@ use Rattle.choice_tree.specs.Selections.{count_others, has_member, any_has_membe
 use Rattle.choice_tree.specs.Selections.{other_has_member, choices, choices_in, choices_in_others}
 use Rattle.selection_numbers.specs.MemberCounts.{member_counts, counts_in, counts_in_others}
 use Rattle.selection_numbers.specs.MemberCounts.{counts_of_each}
-use Rattle.selection_numbers.specs.Numbers.{selection_of, AreNumbered}
-use Rattle.selection_numbers.proofs.Digits.{product, AllSome, has_digit, digits_rise, digits_named}
-use Rattle.selection_numbers.proofs.Digits.{numbers_all}
+use Rattle.selection_numbers.proofs.Digits.{product, AllSome, has_digit}
 
 -- as many picks as numbers
 mutual
@@ -66,7 +62,7 @@ has_both ns ms from k p i e =
     has_append ns ms from p i
     ∙ ap (λ n. has_digit ns from p i || has_digit ms (from + n) p i) e
 
-same_count : (os : Others) (from : ℕ) → count_others (numbered_others os from) ≡ count_others os
+pub same_count : (os : Others) (from : ℕ) → count_others (numbered_others os from) ≡ count_others os
 same_count no_others from = refl
 same_count (other_and rule cost w os) from = ap suc (same_count os (from + picks w))
 
@@ -133,7 +129,7 @@ some_append [] ms a b = b
 some_append (n ∷ ns) ms a b = (a.0, some_append ns ms a.1 b)
 
 mutual
-  all_some : (w : Weighted) → AllSome (member_counts w)
+  pub all_some : (w : Weighted) → AllSome (member_counts w)
   all_some (plainly k ws) = some_in ws
   all_some (pick number base os) = (
     omega arith,
@@ -172,28 +168,3 @@ pick_counts (pick number base os) q h =
     let c : length q.others.now ≡ count_others os =
     sym (counted q.others.now) ∙ ap count_others a in
     (λ i. suc (c i) ∷ (member_counts base ++ other_counts os i))
-
-names_same : (has has' : ℕ → ℕ → Bool) (s : List Choice) → ((p i : ℕ) → has p i ≡ has' p i)
-    → NamesBy has s → NamesBy has' s
-names_same has has' [] e h = tt
-names_same has has' (x ∷ xs) e h =
-    (h.0, sym (e x.pick x.member) ∙ h.1, names_same has has' xs e h.2)
-
-pub are_numbered : (w : Weighted) → AreNumbered w
-are_numbered w = record {
-  each_fits = λ j. (
-    digits_rise (member_counts w) 0 j,
-    names_same (has_digit (member_counts w) 0) (has_member (numbered w 0)) (selection_of w j)
-        (has_by_counts w 0) (digits_named (member_counts w) 0 j (all_some w)),
-  );
-  each_has_one = λ s fits.
-      let named = names_same (has_member (numbered w 0)) (has_digit (member_counts w) 0) s
-      (λ p i. sym (has_by_counts w 0 p i)) fits.1 in
-      let r = numbers_all (member_counts w) 0 s (all_some w) fits.0 named in
-      let b = r.below in
-      record {
-        number = r.number;
-        below = rw (product_is w) at b;
-        is = r.is;
-      };
-}

@@ -1,2 +1,4 @@
 pub mod Counting
 pub mod Digits
+pub mod Numbered
+pub mod Picks

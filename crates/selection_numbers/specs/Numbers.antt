@@ -2,7 +2,7 @@
 -- the lowest.
 use Rattle.std.specs.Prelude.{◌≡◌, ℕ, zero, suc, ◌<◌, ◌/◌, ◌%◌, List, [], ◌∷◌}
 use Rattle.choice_tree.specs.declared.selection.Choice.{Choice}
-use Rattle.choice_tree.specs.WeightedTrees.{Weighted, numbered}
+use Rattle.choice_tree.specs.WeightedTrees.{Weighted}
 use Rattle.choice_tree.specs.Selections.{Fits, choices}
 use Rattle.selection_numbers.specs.MemberCounts.{member_counts}
 
@@ -25,8 +25,8 @@ pub record HasNumber (w : Weighted) (s : List Choice) : Type 0 where
   pub below : number < choices w
   pub is : selection_of w number ≡ s
 
--- Each number gives a selection that fits the numbered tree, and each that fits has a number below
--- the number of choices.
+-- Each number gives a selection that fits the tree, and each that fits has a number below the
+-- number of choices.
 pub record AreNumbered (w : Weighted) : Type 0 where
-  pub each_fits : (j : ℕ) → Fits (numbered w 0) (selection_of w j)
-  pub each_has_one : (s : List Choice) → Fits (numbered w 0) s → HasNumber w s
+  pub each_fits : (j : ℕ) → Fits w (selection_of w j)
+  pub each_has_one : (s : List Choice) → Fits w s → HasNumber w s

@@ -1,9 +1,16 @@
-//! The law of numbers of selections.
-ghost use Rattle.choice_tree.specs.WeightedTrees.{Weighted};
+//! The laws of numbers of selections.
+ghost use Rattle.std.specs.Prelude.{◌≤◌, length};
+ghost use Rattle.choice_tree.specs.WeightedTrees.{Weighted, numbered, size};
+ghost use Rattle.selection_numbers.specs.MemberCounts.{member_counts};
 ghost use Rattle.selection_numbers.specs.Numbers.{AreNumbered};
 
-/// Each number gives a selection that fits the numbered tree, and each that fits has a number below
-/// the number of choices.
+/// Where the picks of a tree are numbered in order, each number gives a selection that fits it, and
+/// each that fits has a number below the number of choices.
 pub fn selections_have_numbers()
-    ensures { (w : Weighted) → AreNumbered w }
+    ensures { (u : Weighted) → AreNumbered (numbered u 0) }
+{}
+
+/// There are no more picks than expression nodes.
+pub fn few_picks()
+    ensures { (w : Weighted) → length (member_counts w) ≤ size w }
 {}

@@ -1,5 +1,5 @@
-use Rattle.selection_numbers.proofs.Counting.{are_numbered}
+use Rattle.selection_numbers.proofs.Numbered.{are_numbered}
 use Rattle.selection_numbers.proofs.laws.selections_have_numbers.Goals as goal
 
 pub returns : goal.returns
-returns c = λ w. are_numbered w
+returns c = λ u. are_numbered u
