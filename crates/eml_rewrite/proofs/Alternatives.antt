@@ -1,5 +1,5 @@
 -- What is made where there are alternatives, and where there is none.
-use Rattle.std.proofs.Common.{◌≡◌, ℕ, suc, ◌<◌, List, [], ◌∷◌, map, filter, length, refl, ap, sym}
+use Rattle.std.proofs.Common.{◌≡◌, ℕ, suc, ◌<◌, List, [], ◌∷◌, map, filter, length, ap, sym}
 use Rattle.std.proofs.Common.{subst, ◌∙◌, arith}
 use Rattle.mpy_tree.specs.Trees.{Tree}
 use Rattle.choice_tree.specs.Contexts.{Setting, Site, Context, Sharing, inside, sharing_inside}

@@ -1,7 +1,7 @@
 -- Trees that are built one after another.
-use Rattle.std.proofs.Common.{◌≡◌, ℕ, zero, suc, ◌+◌, ◌<◌, ◌≤◌, List, [], ◌∷◌, ◌++◌, Result, Ok}
+use Rattle.std.proofs.Common.{◌≡◌, ℕ, suc, ◌+◌, List, [], ◌∷◌, ◌++◌, Result, Ok}
 use Rattle.std.proofs.Common.{Err}
-use Rattle.std.proofs.Common.{IsErr, IsErrAnd, Option, Some, None, slice_get, drop, refl, ap, sym}
+use Rattle.std.proofs.Common.{IsErr, IsErrAnd, Some, None, slice_get, drop, refl, ap, sym}
 use Rattle.std.proofs.Common.{◌∙◌, arith}
 use Rattle.choice_tree.specs.WeightedTrees.{Weighted, Weighteds, no_weighted, weighted_and, size}
 use Rattle.choice_tree.specs.WeightedTrees.{sizes, picks, picks_in, numbered, numbered_all}

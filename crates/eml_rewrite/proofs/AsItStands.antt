@@ -5,7 +5,7 @@ use Rattle.choice_tree.specs.Typing.{copy_of}
 use Rattle.choice_tree.specs.Contexts.{Setting, Context, below, copies}
 use Rattle.choice_tree.specs.Drafts.{draft_of, drafts_of, filled, filled_all}
 use Rattle.choice_tree.specs.Rewriting.{written, written_all}
-use Rattle.choice_tree.specs.WeightedTrees.{Weighted, Weighteds, plainly, weighted_and, lifted}
+use Rattle.choice_tree.specs.WeightedTrees.{Weighteds, plainly, weighted_and, lifted}
 use Rattle.choice_tree.specs.WeightedTrees.{lifted_all}
 use Rattle.choice_tree.specs.Growing.{Growing, draft_grown, drafts_grown}
 

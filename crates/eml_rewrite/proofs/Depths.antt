@@ -1,7 +1,7 @@
 -- How deep right sides are.
 use Rattle.std.proofs.Common.{◌≡◌, ℕ, zero, suc, ◌+◌, ◌*◌, ◌<◌, ◌≤◌, max, length, get_or, List, []}
-use Rattle.std.proofs.Common.{◌∷◌, ◌++◌, Option, Some}
-use Rattle.std.proofs.Common.{None, slice_get, refl, ap, inl, inr, arith}
+use Rattle.std.proofs.Common.{◌∷◌, Option, Some}
+use Rattle.std.proofs.Common.{None, slice_get, ap, inl, inr, arith}
 use Rattle.mpy_tree.specs.Trees.{Tree}
 use Rattle.choice_tree.specs.declared.rules.Place.{Place}
 use Rattle.choice_tree.specs.Matching.{Bindings}

@@ -1,8 +1,7 @@
 -- The weighted trees of statements: no rule is tried there.
-use Rattle.std.proofs.Common.{◌≡◌, ℕ, zero, suc, ◌+◌, ◌*◌, ◌<◌, ◌≤◌, Bool, true, false, cond}
+use Rattle.std.proofs.Common.{◌≡◌, ℕ, suc, ◌+◌, ◌<◌, ◌≤◌, Bool, true, false, cond}
 use Rattle.std.proofs.Common.{nat_lt}
-use Rattle.std.proofs.Common.{List, [], ◌∷◌, map, Option, Some, None, Result, Ok, Err, refl, ap}
-use Rattle.std.proofs.Common.{sym}
+use Rattle.std.proofs.Common.{List, [], ◌∷◌, Option, Some, None, Result, Ok, Err, refl, ap}
 use Rattle.std.proofs.Common.{subst, ◌∙◌, arith}
 use Rattle.std.proofs.lemmas.Bool.Decides.{nat_tests}
 use Rattle.std.specs.Prelude.{filter}
@@ -15,16 +14,16 @@ use Rattle.choice_tree.specs.Drafts.{Proposal, proposals}
 use Rattle.choice_tree.specs.Matching.{here, is_expression}
 use Rattle.choice_tree.specs.Templates.{KeepPrimes}
 use Rattle.choice_tree.specs.Typing.{Scope, node_type, same_type, types_of}
-use Rattle.choice_tree.specs.WeightedTrees.{Weighted, Weighteds, plainly, weighted_and, numbered}
-use Rattle.choice_tree.specs.WeightedTrees.{picks, size}
-use Rattle.choice_tree.specs.Growing.{Growing, grown, parts_grown, node_grown, picked, members}
+use Rattle.choice_tree.specs.WeightedTrees.{Weighted, plainly, weighted_and}
+use Rattle.choice_tree.specs.WeightedTrees.{size}
+use Rattle.choice_tree.specs.Growing.{grown, parts_grown, node_grown, picked, members}
 use Rattle.choice_tree.specs.Growing.{alternatives, is_alternative, steps, steps_in}
-use Rattle.choice_tree.proofs.Complete.{extra, extra_most}
+use Rattle.choice_tree.proofs.Complete.{extra_most}
 use Rattle.choice_tree.proofs.Enough.{enough}
 use Rattle.eml_rewrite.specs.declared.counter.Counter.{Counter}
 use Rattle.eml_rewrite.specs.declared.error.RewriteError.{RewriteError}
 use Rattle.eml_rewrite.specs.declared.error.RewriteError.TheVariants as stop
-use Rattle.eml_rewrite.specs.Building.{Built, Took}
+use Rattle.eml_rewrite.specs.Building.{Built}
 use Rattle.eml_rewrite.specs.Statements.{fully_grown, node_over_parts}
 use Rattle.eml_rewrite.proofs.Sizes.{IsTerm, grown_size}
 

@@ -7,4 +7,7 @@ pub mod Members
 pub mod Nodes
 pub mod Programs
 pub mod Sizes
+pub mod SmallCosts
+pub mod Spots
+pub mod TreeCosts
 pub mod Trunks

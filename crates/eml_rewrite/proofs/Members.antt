@@ -1,7 +1,7 @@
 -- The members of a pick, one after another.
 use Rattle.std.proofs.Common.{◌≡◌, ℕ, suc, zero, ◌+◌, ◌<◌, ◌≤◌, List, [], ◌∷◌, ◌++◌, map, length}
 use Rattle.std.proofs.Common.{get_or}
-use Rattle.std.proofs.Common.{drop, drop-cons, add-one, Result, Ok, Err, IsErr, IsErrAnd, refl, ap}
+use Rattle.std.proofs.Common.{drop, drop-cons, Result, Ok, Err, IsErr, IsErrAnd, refl, ap}
 use Rattle.std.proofs.Common.{sym, ◌∙◌, arith, Vec}
 use Rattle.std.proofs.lemmas.List.{map-append}
 use Rattle.std.specs.declared.alloc.Global.{Global}

@@ -1,7 +1,7 @@
 -- Nodes of expressions, and their parts as lists.
-use Rattle.std.proofs.Common.{◌≡◌, ℕ, zero, suc, ◌+◌, ◌<◌, ◌≤◌, max, Bool, true, false}
-use Rattle.std.proofs.Common.{if◌then◌else◌, List, [], ◌∷◌, length, map, Result, Ok, Err, IsErr}
-use Rattle.std.proofs.Common.{IsErrAnd, Option, Some, None, slice_get, refl, ap, sym, subst, ◌∙◌}
+use Rattle.std.proofs.Common.{◌≡◌, ℕ, zero, suc, ◌+◌, ◌<◌, ◌≤◌, true, false}
+use Rattle.std.proofs.Common.{List, [], ◌∷◌, length, map, Result, Ok, Err, IsErr}
+use Rattle.std.proofs.Common.{IsErrAnd, Some, slice_get, refl, ap, sym, subst, ◌∙◌}
 use Rattle.std.proofs.Common.{arith}
 use Rattle.mpy_tree.specs.Syntax as ast
 use Rattle.mpy_tree.specs.Syntax.{Term}
@@ -18,12 +18,12 @@ use Rattle.choice_tree.specs.Matching.{Bindings, is_expression}
 use Rattle.choice_tree.specs.Templates.{Template}
 use Rattle.choice_tree.specs.declared.tree.WExpr.{WExpr}
 use Rattle.choice_tree.specs.WeightedViews.{weighted_of, weighteds}
-use Rattle.choice_tree.specs.Drafts.{Draft, Drafts, as_is, no_drafts, draft_and, filled}
+use Rattle.choice_tree.specs.Drafts.{Draft, Drafts, as_is, no_drafts, filled}
 use Rattle.choice_tree.specs.Drafts.{filled_all}
 use Rattle.choice_tree.specs.Rewriting.{written, written_all}
 use Rattle.choice_tree.specs.Typing.{Scope, copy_of}
 use Rattle.choice_tree.specs.Growing.{Growing, node_grown, parts_grown, draft_grown, drafts_grown}
-use Rattle.choice_tree.specs.WeightedTrees.{Weighted, Weighteds, plainly, no_weighted, weighted_and}
+use Rattle.choice_tree.specs.WeightedTrees.{Weighted, Weighteds, plainly, weighted_and}
 use Rattle.choice_tree.specs.WeightedTrees.{lifted, lifted_all, size, sizes, picks, picks_in}
 use Rattle.choice_tree.specs.WeightedTrees.{numbered, numbered_all}
 use Rattle.eml_match.specs.Parts.{parts, tree_list, template_parts}

@@ -1,5 +1,5 @@
 -- The weighted trees of functions and of programs.
-use Rattle.std.proofs.Common.{◌≡◌, ℕ, suc, ◌+◌, ◌<◌, ◌≤◌, List, [], ◌∷◌, map, Result, Ok, Err}
+use Rattle.std.proofs.Common.{◌≡◌, ℕ, suc, ◌+◌, ◌≤◌, List, [], ◌∷◌, map, Result, Ok, Err}
 use Rattle.std.proofs.Common.{IsErr}
 use Rattle.std.proofs.Common.{IsErrAnd, refl, ap, sym, subst, ◌∙◌, arith}
 use Rattle.mpy_tree.specs.declared.tree.Func.{Func}
@@ -19,7 +19,7 @@ use Rattle.choice_tree.specs.Growing.{parts_grown, steps_in, weighted_program}
 use Rattle.choice_tree.specs.StatementViews.{weighted_body, weighted_func, weighted_prog}
 use Rattle.choice_tree.specs.WeightedTrees.{Weighted, Weighteds, Others, plainly, pick, no_weighted}
 use Rattle.choice_tree.specs.WeightedTrees.{weighted_and, no_others, other_and, numbered, picks}
-use Rattle.choice_tree.specs.WeightedTrees.{numbered_all, numbered_others, picks_in, size, sizes}
+use Rattle.choice_tree.specs.WeightedTrees.{numbered_all, numbered_others, size, sizes}
 use Rattle.choice_tree.specs.WeightedTrees.{other_sizes}
 use Rattle.choice_tree.specs.WeightedViews.{one, weighteds}
 use Rattle.eml_rewrite.specs.declared.counter.Counter.{Counter}

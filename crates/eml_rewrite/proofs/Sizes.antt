@@ -1,23 +1,23 @@
 -- The weighted tree of an expression is no smaller than the expression, nor than it has members.
-use Rattle.std.proofs.Common.{◌≡◌, ℕ, zero, suc, ◌+◌, ◌*◌, ◌<◌, ◌≤◌, max, Bool, true, false, cond}
-use Rattle.std.proofs.Common.{if◌then◌else◌, List, [], ◌∷◌, length, map, filter, Option, Some, None}
-use Rattle.std.proofs.Common.{refl, ap, sym, ◌∙◌, arith}
+use Rattle.std.proofs.Common.{◌≡◌, ℕ, zero, suc, ◌*◌, ◌<◌, ◌≤◌, Bool, true, false, cond}
+use Rattle.std.proofs.Common.{if◌then◌else◌, List, [], ◌∷◌, length, filter, Option}
+use Rattle.std.proofs.Common.{refl, arith}
 use Rattle.mpy_tree.specs.declared.typing.Ty.{Ty}
 use Rattle.mpy_tree.specs.Syntax as ast
 use Rattle.mpy_tree.specs.Syntax.{Term, Terms, MaybeTerm, no_terms, term_and, no_term, a_term}
-use Rattle.mpy_tree.specs.Shapes.{shape, shapes, shape_and}
+use Rattle.mpy_tree.specs.Shapes.{shape, shapes}
 use Rattle.mpy_tree.specs.Trees as kind
 use Rattle.mpy_tree.specs.Trees.{Kind, Tree, Trees, node, no_trees, tree_and}
 use Rattle.choice_tree.specs.Contexts.{Setting, Site, elsewhere, at_return, at_assign, at_if}
 use Rattle.choice_tree.specs.Contexts.{at_while, at_for, Context, site_below, below, copies}
 use Rattle.choice_tree.specs.Contexts.{inside}
-use Rattle.choice_tree.specs.Drafts.{Draft, Drafts, as_is, again, filled, filled_all}
+use Rattle.choice_tree.specs.Drafts.{Draft, as_is, again, filled, filled_all}
 use Rattle.choice_tree.specs.Drafts.{Proposal, proposals}
 use Rattle.choice_tree.specs.Matching.{here, is_expression}
 use Rattle.choice_tree.specs.Rewriting.{written, written_all}
 use Rattle.choice_tree.specs.Typing.{Scope, type_of, types_of, node_type, same_type, copy_of}
-use Rattle.choice_tree.specs.WeightedTrees.{Weighted, Weighteds, Others, plainly, no_weighted}
-use Rattle.choice_tree.specs.WeightedTrees.{weighted_and, no_others, other_and, lifted, lifted_all}
+use Rattle.choice_tree.specs.WeightedTrees.{Weighted, Weighteds, Others, plainly}
+use Rattle.choice_tree.specs.WeightedTrees.{no_others, other_and, lifted, lifted_all}
 use Rattle.choice_tree.specs.WeightedTrees.{size, sizes, other_sizes}
 use Rattle.choice_tree.specs.Growing.{Growing, grown, node_grown, parts_grown, base_grown, picked}
 use Rattle.choice_tree.specs.Growing.{members, alternatives, draft_grown, drafts_grown}
@@ -146,7 +146,7 @@ grown_size g (suc f) site c t h =
     omega arith
 
 -- a node that has a type is one of an expression
-typed_expression : (σ : Scope) (k : Kind) (os : List (Option Ty)) (o : Option Ty)
+pub typed_expression : (σ : Scope) (k : Kind) (os : List (Option Ty)) (o : Option Ty)
     → same_type (node_type σ k os) o ≡ true → is_expression k ≡ true
 typed_expression σ (kind.Int n) os o h = refl
 typed_expression σ (kind.Bool b) os o h = refl

@@ -1,7 +1,7 @@
 -- The weighted trees of bodies, of arms and of functions.
 use Rattle.std.proofs.Common.{◌≡◌, ℕ, zero, suc, ◌+◌, ◌<◌, ◌≤◌, List, [], ◌∷◌, map, length, get_or}
 use Rattle.std.proofs.Common.{Option, Some, None, slice_get, Vec, Result, Ok, Err, IsErr, IsErrAnd}
-use Rattle.std.proofs.Common.{Bool, false, refl, ap, sym, ◌∙◌, arith}
+use Rattle.std.proofs.Common.{false, refl, ap, sym, ◌∙◌, arith}
 use Rattle.std.specs.declared.alloc.Global.{Global}
 use Rattle.mpy_tree.specs.declared.tree.Stmt.{Stmt}
 use Rattle.mpy_tree.specs.declared.tree.Act.{If as if_act}
@@ -25,11 +25,11 @@ use Rattle.choice_tree.specs.Contexts.{Setting, Site, elsewhere, at_while, at_fo
 use Rattle.choice_tree.specs.Contexts.{below}
 use Rattle.choice_tree.specs.Matching.{is_expression}
 use Rattle.choice_tree.specs.Templates.{KeepPrimes}
-use Rattle.choice_tree.specs.Growing.{Growing, parts_grown}
+use Rattle.choice_tree.specs.Growing.{parts_grown}
 use Rattle.choice_tree.specs.WeightedTrees.{Weighted, Weighteds, plainly, no_weighted, weighted_and}
 use Rattle.choice_tree.specs.WeightedTrees.{numbered, numbered_all, picks, picks_in, size, sizes}
 use Rattle.choice_tree.specs.WeightedViews.{one, two, weighteds}
-use Rattle.choice_tree.specs.declared.tree.WAct.{WAct, If}
+use Rattle.choice_tree.specs.declared.tree.WAct.{If}
 use Rattle.choice_tree.specs.declared.tree.WAct.TheVariants.{rolls-If}
 use Rattle.choice_tree.specs.declared.tree.WAct.TheOpen as act
 use Rattle.choice_tree.specs.declared.tree.WArm.{WArm}
@@ -46,8 +46,8 @@ use Rattle.eml_rewrite.specs.declared.counter.Counter.{Counter}
 use Rattle.eml_rewrite.specs.declared.error.RewriteError.{RewriteError}
 use Rattle.eml_rewrite.specs.declared.error.RewriteError.TheVariants as stop
 use Rattle.eml_rewrite.specs.Building.{Took, Built, BuiltAll}
-use Rattle.eml_rewrite.specs.Statements.{fully_grown, node_over_parts, apart_in, arms_grown}
-use Rattle.eml_rewrite.specs.Statements.{body_grown, last_grown, whole_grown, maybe_grown}
+use Rattle.eml_rewrite.specs.Statements.{fully_grown, apart_in, arms_grown}
+use Rattle.eml_rewrite.specs.Statements.{body_grown, last_grown, whole_grown}
 use Rattle.eml_rewrite.specs.Statements.{action_grown, statement_grown, arm_grown}
 use Rattle.eml_rewrite.proofs.Appending.{each_from, append_all}
 use Rattle.eml_rewrite.proofs.FullyGrown.{statement_is}

@@ -127,12 +127,7 @@ fn grow_parts<'a, K: Known>(
         match part(e, i) {
             None => return Ok(made),
             Some(d) => {
-                let below = Spot {
-                    rules: spot.rules,
-                    scope: spot.scope,
-                    sharing: spot.sharing.below(head, i),
-                    steps: spot.steps,
-                };
+                let below = spot.with_sharing(spot.sharing.below(head, i));
                 made.push(grow(alloc, &below, Site::Elsewhere, d, counter)?)?;
             }
         }
@@ -183,12 +178,7 @@ fn grow_members<'a, K: Known>(
         (setting_at spot.now) spot.now.steps) (inside (context_at spot.now))
         (map (alternative_seen (context_at spot.now).scope) found.now)) counter.old counter.new }
 {
-    let within = Spot {
-        rules: spot.rules,
-        scope: spot.scope,
-        sharing: spot.sharing.inside(),
-        steps: spot.steps,
-    };
+    let within = spot.with_sharing(spot.sharing.inside());
     let mut items = Vec::new(alloc);
     for a in found {
         let tree = grow_member(alloc, &within, a, counter)?;
@@ -316,12 +306,7 @@ fn grow_side_parts<'a, K: Known>(
         match pattern_part(side.term, i) {
             None => return Ok(made),
             Some(term) => {
-                let below = Spot {
-                    rules: spot.rules,
-                    scope: spot.scope,
-                    sharing: spot.sharing.below(head, i),
-                    steps: spot.steps,
-                };
+                let below = spot.with_sharing(spot.sharing.below(head, i));
                 let part = Side {
                     term,
                     bound: side.bound,

@@ -1,14 +1,16 @@
 //! Laws of weighted trees of programs.
-ghost use Rattle.std.specs.Prelude.{◌≡◌, List};
+ghost use Rattle.std.specs.Prelude.{◌≡◌, ◌≤◌, ◌*◌, ℕ, All, List};
 ghost use Rattle.mpy_tree.specs.Syntax.{Routine};
 ghost use Rattle.mpy_tree.specs.Shapes.{program_shape};
 ghost use Rattle.choice_tree.specs.declared.tree.WProg.{WProg};
 ghost use Rattle.choice_tree.specs.Contexts.{Setting, elsewhere, outermost};
+ghost use Rattle.choice_tree.specs.Costs.{all_costs};
 ghost use Rattle.choice_tree.specs.Growing.{weighted_program};
 ghost use Rattle.choice_tree.specs.Rewriting.{Rewrites};
 ghost use Rattle.choice_tree.specs.Selections.{MadeBySelections};
 ghost use Rattle.choice_tree.specs.StatementViews.{weighted_prog};
 ghost use Rattle.choice_tree.specs.Templates.{KeepPrimes};
+ghost use Rattle.choice_tree.specs.WeightedTrees.{size};
 
 /// The selections that fit a tree that `rewrite` gives make exactly the rewritings of the program,
 /// with their costs and edits.
@@ -16,4 +18,11 @@ pub fn rewritten_trees_have_all_rewritings()
     ensures { (g : Setting) (s : List Routine) (w : WProg) → KeepPrimes g.rules → weighted_prog w ≡
         weighted_program g s → MadeBySelections (weighted_prog w) (Rewrites g elsewhere 0
         (outermost g) (program_shape s)) }
+{}
+
+/// Where no rule costs more than a number, all members of the tree of a program together cost no
+/// more than that number for each of its nodes.
+pub fn rewritten_trees_have_small_costs()
+    ensures { (g : Setting) (s : List Routine) (n : ℕ) → All (λ r. r.cost ≤ n) g.rules → all_costs
+        (weighted_program g s) ≤ n * size (weighted_program g s) }
 {}

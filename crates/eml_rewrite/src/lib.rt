@@ -14,5 +14,5 @@ mod statements;
 mod written;
 
 pub use error::RewriteError;
-pub use laws::rewritten_trees_have_all_rewritings;
+pub use laws::{rewritten_trees_have_all_rewritings, rewritten_trees_have_small_costs};
 pub use rewriting::rewrite;

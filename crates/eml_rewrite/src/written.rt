@@ -61,12 +61,7 @@ fn write_parts<K: Known>(
         match part(e, i) {
             None => return Ok(made),
             Some(d) => {
-                let below = Spot {
-                    rules: spot.rules,
-                    scope: spot.scope,
-                    sharing: spot.sharing.below(head, i),
-                    steps: spot.steps,
-                };
+                let below = spot.with_sharing(spot.sharing.below(head, i));
                 made.push(write_expr(alloc, &below, d, counter)?)?;
             }
         }

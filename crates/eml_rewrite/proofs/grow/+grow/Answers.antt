@@ -34,6 +34,7 @@ use Rattle.eml_rewrite.proofs.Members.{front_member, front_members_end, front_me
 use Rattle.eml_rewrite.proofs.Members.{others_are}
 use Rattle.eml_rewrite.proofs.Nodes.{kept_copy, has_parts, kept_part, kept_each, side_each}
 use Rattle.eml_rewrite.proofs.Nodes.{side_part, part_stands, site_of_part}
+use Rattle.eml_rewrite.proofs.Spots.{same_deepest, same_reach, same_scope, with_its_sharing}
 use Rattle.eml_rewrite.proofs.grow.+grow.Goals as goal
 
 pub grow-returns-in-None : goal.grow-returns-in-None
@@ -176,7 +177,11 @@ grow_parts-returns-in_err-grow-in-Some g t c =
     (map weighted_of c.parts.made.items) c.args.counter.now c.parts.counter
     c.grow.new.counter c.from_residual.ensures c.in-Some.ensures.part c.parts.invariant
     (subst (λ x. Built weighted_of (Err c.in_err-grow-in-Some.field-0.0) x c.parts.counter
-    c.grow.new.counter) same c.in_err-grow-in-Some.ensures)
+    c.grow.new.counter) same
+    (with_its_sharing c.args.spot.now c.with_sharing-below.result c.below.result
+    c.with_sharing-below.ensures (λ σ' steps h. Built weighted_of
+    (Err c.in_err-grow-in-Some.field-0.0) (grown σ' steps elsewhere h d) c.parts.counter
+    c.grow.new.counter) c.in_err-grow-in-Some.ensures))
 
 pub grow_parts-parts-smaller : goal.grow_parts-parts-smaller
 grow_parts-parts-smaller g t c =
@@ -202,7 +207,11 @@ grow_parts-parts-preserved g t c =
     let built =
     subst (λ x. (weighted_of c.in_ok-grow-in-Some.field-0 ≡ numbered x c.parts.counter.next)
     × Took c.parts.counter c.grow.new.counter (picks x) (size x)) same
-    c.in_ok-grow-in-Some.ensures in
+    (with_its_sharing c.args.spot.now c.with_sharing-below.result c.below.result
+    c.with_sharing-below.ensures (λ σ' steps h. (weighted_of c.in_ok-grow-in-Some.field-0
+    ≡ numbered (grown σ' steps elsewhere h d) c.parts.counter.next)
+    × Took c.parts.counter c.grow.new.counter (picks (grown σ' steps elsewhere h d))
+    (size (grown σ' steps elsewhere h d))) c.in_ok-grow-in-Some.ensures) in
     front_next (kept_parts σ grow here e) (kept_part σ grow here e) (parts e) c.parts.i
     (c.parts.i + 1) d (weighted_of c.in_ok-grow-in-Some.field-0)
     (map weighted_of c.parts.made.items) (map weighted_of c.push.new.self.items)
@@ -218,14 +227,22 @@ grow_members-grow_member-requires g t c κs within =
     let numbered =
     subst (IsNumbered here.scope) (sym c.a-item.is)
     (All-get_or (IsNumbered here.scope) c.args.found.now c.loop-a.a-index c.a-item.result
-    c.loop-a-test.true c.requires.numbered) in (
-      omega arith,
+    c.loop-a-test.true c.requires.numbered) in
+    let s = c.args.spot.now in
+    let s' = c.with_sharing-within.result in
+    let there = c.with_sharing-within.ensures in
+    let reached = same_reach s s' c.inside.result there in
+    let most = same_deepest s s' c.inside.result there in
+    let deep =
+    alternative_depth (deepest rules) c.loop-a.a-index c.a-item.result c.args.found.now
+    c.loop-a-test.true c.a-item.is c.requires.deep in (
+      omega (arith, reached, most),
       (
         within,
         (
-          numbered,
-          alternative_depth (deepest rules) c.loop-a.a-index c.a-item.result c.args.found.now
-              c.loop-a-test.true c.a-item.is c.requires.deep,
+          subst (λ σ. IsNumbered σ c.a-item.result)
+              (sym (same_scope s s' c.inside.result there)) numbered,
+          omega (arith, most, deep),
         ),
       ),
     )
@@ -246,7 +263,12 @@ grow_members-returns-in_err-tree g t c =
     c.loop-a.invariant
     (subst (λ x. Built weighted_of (Err c.in_err-tree.field-0.0)
     (draft_grown σ grow (seen c.a-item.result).draft x) c.loop-a.counter c.grow_member.new.counter)
-    (sym same) c.in_err-tree.ensures)
+    (sym same)
+    (with_its_sharing c.args.spot.now c.with_sharing-within.result c.inside.result
+    c.with_sharing-within.ensures (λ σ' steps h. Built weighted_of
+    (Err c.in_err-tree.field-0.0) (draft_grown σ' (grown σ' steps)
+    (alternative_seen h.scope c.a-item.result).draft h) c.loop-a.counter
+    c.grow_member.new.counter) c.in_err-tree.ensures))
 
 pub grow_members-loop-a-preserved : goal.grow_members-loop-a-preserved
 grow_members-loop-a-preserved g t c =
@@ -262,7 +284,14 @@ grow_members-loop-a-preserved g t c =
     ≡ numbered (draft_grown σ grow (seen c.a-item.result).draft x) c.loop-a.counter.next)
     × Took c.loop-a.counter c.grow_member.new.counter
     (picks (draft_grown σ grow (seen c.a-item.result).draft x))
-    (size (draft_grown σ grow (seen c.a-item.result).draft x))) (sym same) c.in_ok-tree.ensures in
+    (size (draft_grown σ grow (seen c.a-item.result).draft x))) (sym same)
+    (with_its_sharing c.args.spot.now c.with_sharing-within.result c.inside.result
+    c.with_sharing-within.ensures
+    (λ σ' steps h. let w = draft_grown σ' (grown σ' steps)
+    (alternative_seen h.scope c.a-item.result).draft h in
+    (weighted_of c.in_ok-tree.tree ≡ numbered w c.loop-a.counter.next)
+    × Took c.loop-a.counter c.grow_member.new.counter (picks w) (size w))
+    c.in_ok-tree.ensures) in
     front_member σ grow (inside here) seen c.args.found.now c.loop-a.a-index (c.loop-a.a-index + 1)
     c.a-item.result _ c.in_ok-tree.tree c.loop-a.items.items c.push.new.self.items
     c.args.counter.now c.loop-a.counter c.grow_member.new.counter (omega arith)
@@ -403,14 +432,19 @@ grow_side_parts-grow_side-requires g t c κs within =
     let p = template_of c.args.side.now.term.now in
     let q = template_of c.in-Some.term.now in
     let less = part_depth p q c.parts.i c.in-Some.ensures.part in
-    let most = c.requires.side.deep in (
-      omega arith,
+    let most = c.requires.side.deep in
+    let s = c.args.spot.now in
+    let s' = c.with_sharing-below.result in
+    let there = c.with_sharing-below.ensures in
+    let reached = same_reach s s' c.below.result there in
+    let same = same_deepest s s' c.below.result there in (
+      omega (arith, reached, less),
       (
         within,
         record {
           below = c.part_number.ensures.below q (sym c.in-Some.ensures.part);
           small = c.part_number.ensures.near;
-          deep = omega arith;
+          deep = omega (arith, same, less, most);
         },
       ),
     )
@@ -446,7 +480,12 @@ grow_side_parts-returns-in_err-grow_side-in-Some g t c =
     c.grow_side.new.counter c.from_residual.ensures
     c.in-Some.ensures.part c.parts.invariant
     (subst (λ x. Built weighted_of (Err c.in_err-grow_side-in-Some.field-0.0) x c.parts.counter
-    c.grow_side.new.counter) same c.in_err-grow_side-in-Some.ensures)
+    c.grow_side.new.counter) same
+    (with_its_sharing c.args.spot.now c.with_sharing-below.result c.below.result
+    c.with_sharing-below.ensures (λ σ' steps h. Built weighted_of
+    (Err c.in_err-grow_side-in-Some.field-0.0) (draft_grown σ' (grown σ' steps)
+    (resolution q L β number) h) c.parts.counter c.grow_side.new.counter)
+    c.in_err-grow_side-in-Some.ensures))
 
 pub grow_side_parts-parts-smaller : goal.grow_side_parts-parts-smaller
 grow_side_parts-parts-smaller g t c =
@@ -481,7 +520,12 @@ grow_side_parts-parts-preserved g t c =
     let built =
     subst (λ x. (weighted_of c.in_ok-grow_side-in-Some.field-0 ≡ numbered x c.parts.counter.next)
     × Took c.parts.counter c.grow_side.new.counter (picks x) (size x)) same
-    c.in_ok-grow_side-in-Some.ensures in
+    (with_its_sharing c.args.spot.now c.with_sharing-below.result c.below.result
+    c.with_sharing-below.ensures
+    (λ σ' steps h. let w = draft_grown σ' (grown σ' steps) (resolution q L β number) h in
+    (weighted_of c.in_ok-grow_side-in-Some.field-0 ≡ numbered w c.parts.counter.next)
+    × Took c.parts.counter c.grow_side.new.counter (picks w) (size w))
+    c.in_ok-grow_side-in-Some.ensures) in
     front_next (draft_parts_grown σ grow here (draft_at side))
     (side_part σ grow here k L β (λ i. part_number p L β i side.number)) (template_parts p)
     c.parts.i (c.parts.i + 1) q (weighted_of c.in_ok-grow_side-in-Some.field-0)

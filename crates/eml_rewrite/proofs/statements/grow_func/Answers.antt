@@ -1,4 +1,3 @@
-use Rattle.std.proofs.Common.{◌≡◌}
 use Rattle.mpy_tree.specs.Trees as kind
 use Rattle.mpy_tree.specs.View.{routine_of}
 use Rattle.choice_tree.specs.StatementViews.{weighted_body, weighted_func}

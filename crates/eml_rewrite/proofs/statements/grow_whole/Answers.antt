@@ -1,7 +1,6 @@
-use Rattle.std.proofs.Common.{◌≡◌, ◌≤◌, subst, arith}
+use Rattle.std.proofs.Common.{subst, arith}
 use Rattle.mpy_tree.specs.View.{term_of}
 use Rattle.mpy_tree.specs.Shapes.{shape}
-use Rattle.choice_tree.specs.Contexts.{Context}
 use Rattle.choice_tree.specs.Growing.{grown}
 use Rattle.choice_tree.specs.WeightedViews.{weighted_of}
 use Rattle.eml_match.specs.MatchedRules.{site_of}

@@ -1,8 +1,8 @@
-use Rattle.std.proofs.Common.{◌≡◌, ◌+◌, [], ◌∷◌, map, Err, subst, sym, ap, ◌∙◌, refl, arith}
+use Rattle.std.proofs.Common.{◌≡◌, ◌+◌, [], ◌∷◌, map, Err, subst, sym, ap, ◌∙◌, arith}
 use Rattle.std.proofs.lemmas.List.{map-append}
 use Rattle.mpy_tree.specs.View.{term_of}
 use Rattle.mpy_tree.specs.Shapes.{shape}
-use Rattle.choice_tree.specs.Heads.{HasParts, head_kind, root}
+use Rattle.choice_tree.specs.Heads.{head_kind, root}
 use Rattle.choice_tree.specs.WeightedTrees.{lifted, numbered, picks, size}
 use Rattle.choice_tree.specs.Rewriting.{written}
 use Rattle.choice_tree.specs.WeightedViews.{weighted_of}
@@ -15,6 +15,7 @@ use Rattle.eml_rewrite.specs.Spots.{setting_at, context_at, sharing_of}
 use Rattle.eml_rewrite.proofs.Appending.{none_built, front_next, front_end, front_stops}
 use Rattle.eml_rewrite.proofs.Nodes.{written_copy, has_parts, written_part, written_each}
 use Rattle.eml_rewrite.proofs.Nodes.{part_stands, part_less_deep}
+use Rattle.eml_rewrite.proofs.Spots.{with_its_sharing}
 use Rattle.eml_rewrite.proofs.written.+written.Goals as goal
 
 pub write_expr-weighted_node-requires : goal.write_expr-weighted_node-requires
@@ -74,7 +75,10 @@ write_parts-returns-in_err-write_expr-in-Some g t c =
     c.write_expr.new.counter c.from_residual.ensures c.in-Some.ensures.part c.parts.invariant
     (subst (λ x. Built weighted_of (Err c.in_err-write_expr-in-Some.field-0.0)
     (lifted (written σ d x)) c.parts.counter c.write_expr.new.counter) (sym stands)
-    c.in_err-write_expr-in-Some.ensures)
+    (with_its_sharing c.args.spot.now c.with_sharing-below.result c.below.result
+    c.with_sharing-below.ensures (λ σ' steps h. Built weighted_of
+    (Err c.in_err-write_expr-in-Some.field-0.0) (lifted (written σ' d h)) c.parts.counter
+    c.write_expr.new.counter) c.in_err-write_expr-in-Some.ensures))
 
 pub write_parts-parts-smaller : goal.write_parts-parts-smaller
 write_parts-parts-smaller g t c =
@@ -97,7 +101,13 @@ write_parts-parts-preserved g t c =
     subst (λ x. (weighted_of c.in_ok-write_expr-in-Some.field-0
     ≡ numbered (lifted (written σ d x)) c.parts.counter.next)
     × Took c.parts.counter c.write_expr.new.counter (picks (lifted (written σ d x)))
-    (size (lifted (written σ d x)))) (sym stands) c.in_ok-write_expr-in-Some.ensures in
+    (size (lifted (written σ d x)))) (sym stands)
+    (with_its_sharing c.args.spot.now c.with_sharing-below.result c.below.result
+    c.with_sharing-below.ensures
+    (λ σ' steps h. (weighted_of c.in_ok-write_expr-in-Some.field-0
+    ≡ numbered (lifted (written σ' d h)) c.parts.counter.next)
+    × Took c.parts.counter c.write_expr.new.counter (picks (lifted (written σ' d h)))
+    (size (lifted (written σ' d h)))) c.in_ok-write_expr-in-Some.ensures) in
     front_next (written_parts σ here e) (written_part σ here e) (parts e) c.parts.i
     (c.parts.i + 1) d (weighted_of c.in_ok-write_expr-in-Some.field-0)
     (map weighted_of c.parts.made.items) (map weighted_of c.push.new.self.items)

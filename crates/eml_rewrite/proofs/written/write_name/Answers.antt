@@ -1,7 +1,6 @@
 use Rattle.std.proofs.Common.{◌≡◌, subst, sym, ap, ◌∙◌, refl, arith}
 use Rattle.mpy_tree.specs.Trees as kind
 use Rattle.mpy_tree.specs.Trees.{leaf, no_trees}
-use Rattle.choice_tree.specs.Rewriting.{written}
 use Rattle.choice_tree.specs.Typing.{copy_of}
 use Rattle.choice_tree.specs.WeightedTrees.{lifted, numbered, picks, size}
 use Rattle.choice_tree.specs.WeightedViews.{weighted_of}
