@@ -6,3 +6,5 @@ pub mod CaseLaws
 pub mod Counts
 pub mod Pieces
 pub mod Readings
+pub mod Tasks
+pub mod TaskParts

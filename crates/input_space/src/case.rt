@@ -1,5 +1,5 @@
 //! Cases: the values of one input.
-ghost use Rattle.std.specs.Prelude.{◌≡◌, IfOk, List};
+ghost use Rattle.std.specs.Prelude.{◌≡◌, ◌++◌, ◌∷◌, [], IfOk, OnErr, OnOk, List};
 ghost use Rattle.input_space.specs.declared.case.Case.{Case};
 ghost use Rattle.input_space.specs.declared.case.CaseError.TheVariants as case_error;
 
@@ -49,6 +49,15 @@ impl Cases {
         ensures { result.now ≡ self.now }
     {
         self.items.as_slice()
+    }
+
+    /// Adds a case at the end.
+    pub fn push(&mut self, case: Case) -> Result<(), NoMemory>
+        ensures more { OnOk result (self.new ≡ self.old ++ case ∷ []) }
+        ensures as_before { OnErr result (self.new ≡ self.old) }
+    {
+        self.items.push(case)?;
+        Ok(())
     }
 
     /// The cases, given back.

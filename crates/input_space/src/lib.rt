@@ -1,4 +1,4 @@
-//! The inputs within the bounds, and cases: lists of values, as texts too.
+//! The inputs within the bounds; cases: lists of values, as texts too; and what is graded.
 #![tactic(auto)]
 
 mod case;
@@ -9,6 +9,7 @@ mod pieces;
 mod places;
 mod printing;
 mod reading;
+mod task;
 mod within;
 
 pub use case::{Case, CaseError, Cases};
@@ -18,6 +19,7 @@ pub use places::case_at;
 pub use printing::{print_case, print_value};
 pub use reading::read_case;
 use std::alloc::AllocError;
+pub use task::{Task, TaskParts};
 pub use within::{in_bounds, is_within, param_type, signature};
 
 /// Want of memory, where a call has no other refusal.

@@ -1,0 +1,99 @@
+-- What is graded, and what agrees with the reference.
+use Rattle.std.specs.Prelude.{◌≡◌, ◌⊎◌, ℕ, ◌*◌, ◌<◌, List, [], map, length, Option, None, Some}
+use Rattle.mpy_tree.specs.declared.typing.Fact.{Fact}
+use Rattle.mpy_tree.specs.declared.typing.Ty.{Ty}
+use Rattle.mpy_tree.specs.Rules.{single}
+use Rattle.mpy_tree.specs.Running.{found}
+use Rattle.mpy_tree.specs.SetTypes.{called, results}
+use Rattle.mpy_tree.specs.Sharing.{shared}
+use Rattle.mpy_tree.specs.Syntax.{Routine}
+use Rattle.mpy_tree.specs.TypeSets.{only}
+use Rattle.mpy_tree.specs.Typings.{IsTyping, set_of}
+use Rattle.bounds_reader.specs.declared.bounds.Bounds.{Bounds}
+use Rattle.choice_tree.specs.Contexts.{Setting}
+use Rattle.choice_tree.specs.Growing.{weighted_program}
+use Rattle.choice_tree.specs.Rewriting.{Edit, IsRewriting}
+use Rattle.choice_tree.specs.Selections.{choices}
+use Rattle.choice_tree.specs.Templates.{Correction}
+use Rattle.choice_tree.specs.WeightedTrees.{Weighted, size}
+use Rattle.eml_faults.specs.LimitFaults.{limit_fault}
+use Rattle.eml_faults.specs.MeaningFaults.{meaning_fault}
+use Rattle.input_space.specs.Agreement.{Agrees, EndsSomewhere, Failure, IsBest, IsFailure}
+use Rattle.input_space.specs.Inputs.{inputs, param_type}
+
+-- the bounds, the two programs with the types of their names, and the rules
+pub record Task : Type 0 where
+  pub bounds : Bounds
+  pub reference : List Routine
+  pub reference_types : List Fact
+  pub submission : List Routine
+  pub submission_types : List Fact
+  pub rules : List Correction
+
+-- the rules, for the submission with the types of its names
+abbrev pub setting : Task → Setting
+setting k = record {
+  rules = k.rules;
+  program = k.submission;
+  slots = single (set_of k.submission_types);
+}
+
+-- the weighted tree of the submission
+abbrev pub tree_of : Task → Weighted
+tree_of k = weighted_program (setting k) k.submission
+
+-- the rules make the program p of the submission
+abbrev pub Rewrites : Task → List Routine → ℕ → List Edit → Type 0
+Rewrites k p cost edits = IsRewriting (setting k) k.submission p cost edits
+
+-- a rewriting of the submission that agrees, of the least cost of those that do
+abbrev pub IsBestOf : Task → List Routine → ℕ → List Edit → Type 0
+IsBestOf k p cost edits = IsBest (Rewrites k) k.bounds k.reference p cost edits
+
+-- no rewriting of the submission agrees, at any cost
+abbrev pub NoneAgrees : Task → Type 0
+NoneAgrees k =
+    (q : List Routine) (cost : ℕ) (edits : List Edit)
+    → Rewrites k q cost edits → Agrees k.bounds k.reference q → ⊥
+
+-- on an input the submission doesn't give the value of the reference
+abbrev pub IsFailureOf : Task → Failure → Type 0
+IsFailureOf k f = IsFailure k.bounds k.reference k.submission f
+
+-- the reference gives a value on some input
+abbrev pub HasWanted : Task → Type 0
+HasWanted k = EndsSomewhere k.bounds k.reference
+
+-- the tree is too large, or it has more choices and inputs together than are tried
+abbrev pub IsTooLarge : Task → Type 0
+IsTooLarge k =
+    (1000000 < size (tree_of k))
+    ⊎ (1000000 < choices (tree_of k) * length (inputs k.bounds.params))
+
+-- the type of what the entry of a program gives
+abbrev pub result_type : Bounds → List Routine → List Fact → Option Ty
+result_type b p types = only (results (set_of types) (called p b.entry))
+
+abbrev pub line_in : Option Routine → ℕ
+line_in None = 1
+line_in (Some r) = r.line
+
+-- the line of the `def` of the entry
+abbrev pub entry_line : Bounds → List Routine → ℕ
+entry_line b p = line_in (found p b.entry)
+
+-- a program that is typed for the entry, and in which no statement shares a list
+pub record IsReady (b : Bounds) (p : List Routine) (types : List Fact) : Type 0 where
+  pub typing : IsTyping types p b.entry (map param_type b.params)
+  pub unshared : shared (single (set_of types)) p ≡ []
+
+-- what the readers of a task see to
+pub record IsSound (k : Task) : Type 0 where
+  pub reference : IsReady k.bounds k.reference k.reference_types
+  pub submission : IsReady k.bounds k.submission k.submission_types
+  pub results :
+      result_type k.bounds k.reference k.reference_types
+      ≡ result_type k.bounds k.submission k.submission_types
+  pub no_limit_fault : limit_fault k.rules ≡ None
+  pub no_meaning_fault : meaning_fault k.rules ≡ None
+  pub small : IsTooLarge k → ⊥
