@@ -1,5 +1,5 @@
 -- What the reader of a program answers, from what it finds.
-use Rattle.std.proofs.Common.{◌≡◌, ℕ, List, Result, Ok, Err, IfOk, IfErr, IsErrAnd, refl, sym, subst}
+use Rattle.std.proofs.Common.{◌≡◌, ℕ, List, Result, Ok, Err, IfOk, IfErr, subst}
 use Rattle.mpy_tree.specs.declared.refusal.Cause.{Cause}
 use Rattle.mpy_tree.specs.declared.refusal.Source.{Source}
 use Rattle.mpy_tree.specs.declared.tree.Prog.{Prog}
@@ -42,16 +42,6 @@ refused_by bytes e s (Err (Refused x)) so c line h =
     let same = one_refusal bytes e x.cause c x.line line so.1 h in
     (so.0, same.0, same.1)
 refused_by bytes e s (Err NoMemory) so c line h = tt
-
--- a step that stops for a cause stops what it is a step of
-refuses_more : (s : Source) (P Q : Cause → ℕ → Type 0) → ((c : Cause) (line : ℕ) → P c line → Q c line) → (x : TaskError) → RefusesBy s P x → RefusesBy s Q x
-refuses_more s P Q more (Refused r) h = (h.0, more r.cause r.line h.1)
-refuses_more s P Q more NoMemory h = tt
-
-pub stopped : {T : Type 0} (r : Result T TaskError) (s : Source) (P Q : Cause → ℕ → Type 0) (x : TaskError) → IsErrAnd r (λ y. y ≡ x) → RefusesBy s P x
-    → ((c : Cause) (line : ℕ) → P c line → Q c line) → IfErr r (RefusesBy s Q)
-stopped (Ok t) s P Q x is h more = tt
-stopped (Err y) s P Q x is h more = subst (RefusesBy s Q) (sym is) (refuses_more s P Q more x h)
 
 -- what the check of names and types answered
 pub at_fault : (r : Result Types TypeError) (p : List Routine) (e : Entry) (c : Cause) (line : ℕ) → r ≡ Err (Fault c line) → Checks r p e.name e.types → IsFaultOf (Fault c line) p e

@@ -1,4 +1,9 @@
 pub mod Answers
 pub mod OneAnswer
 pub mod OneStep
+mod Ready
 pub mod Steps
+mod Stopping
+mod TaskAnswers
+mod TaskReading
+mod Trees

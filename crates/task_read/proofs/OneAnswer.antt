@@ -1,19 +1,17 @@
 -- A text spells one typed program at most, or is refused for one cause at one line.
 use Rattle.std.proofs.Common.{◌≡◌, ℕ, List, [], Option, Some, None, refl, sym, ap, subst, ◌∙◌, inl, inr}
 use Rattle.mpy_tree.specs.declared.refusal.Cause.{Cause}
-use Rattle.mpy_tree.specs.declared.refusal.Cause.TheVariants as cause
 use Rattle.mpy_tree.specs.declared.typing.Ty.{Ty}
 use Rattle.mpy_tree.specs.declared.typing.Fact.{Fact}
 use Rattle.mpy_tree.specs.declared.typing.TypeError.{TypeError}
 use Rattle.mpy_tree.specs.declared.typing.TypeError.TheVariants.{Fault, Conflict}
-use Rattle.mpy_tree.specs.Faults.{first_fault}
 use Rattle.mpy_tree.specs.Leasts.{least}
 use Rattle.mpy_tree.specs.Syntax.{Routine}
-use Rattle.mpy_tree.specs.Typings.{IsTyping, IsEarlyFault, IsFirstFault}
-use Rattle.mpy_parser.specs.Programs.{IsProgram, IsRefused}
+use Rattle.mpy_tree.specs.Typings.{IsTyping}
+use Rattle.mpy_parser.specs.Programs.{IsProgram}
 use Rattle.mpy_parser.proofs.OneAnswer.{one_program as one_reading, not_refused, one_refusal as one_text_refusal}
 use Rattle.mpy_parser.proofs.Steps.{laws}
-use Rattle.mpy_type_laws.proofs.OneAnswer.{typed_or_not, typed_or_early, one_fault, early_fault, early_is_first}
+use Rattle.mpy_type_laws.proofs.OneAnswer.{typed_or_not, typed_or_early, one_fault, early_fault}
 use Rattle.mpy_type_laws.proofs.OneAnswer.{one_typing as one_typing_of}
 use Rattle.task_read.specs.TypedPrograms.{Entry, IsTypedProgram, IsFaultOf, IsTypingRefused, by_fault, by_conflict}
 use Rattle.task_read.specs.TypedPrograms.{IsProgramRefused, by_text, by_typing, by_sharing, IsSharedOn, shared_lines}

@@ -1,14 +1,17 @@
--- The steps that read bounds and programs give one thing, or refuse once.
-use Rattle.std.proofs.Common.{◌≡◌, ℕ, List, sym, subst, ◌∙◌}
+-- The steps that read the sources of a task, and those that read a task, give one thing, or refuse once.
+use Rattle.std.proofs.Common.{◌≡◌, ℕ, List, sym, ◌∙◌}
 use Rattle.mpy_tree.specs.declared.refusal.Cause.{Cause}
 use Rattle.mpy_tree.specs.declared.refusal.Source.{Source}
 use Rattle.mpy_tree.specs.declared.refusal.Source.TheVariants as source
 use Rattle.mpy_tree.specs.declared.refusal.Refusal.{Refusal}
 use Rattle.bounds_reader.proofs.Judged.{one_bounds, one_refusal as one_bounds_refusal, not_read_and_refused as bounds_not_refused}
-use Rattle.task_read.specs.Sources.{IsOf, Typed, bounds_step, program_step}
+use Rattle.eml_reader.proofs.Judged.{one_reading, not_both as rules_not_refused, one_refusal as one_rules_refusal}
+use Rattle.task_read.specs.Sources.{IsOf, Typed, bounds_step, entry_at, program_step, rules_step}
 use Rattle.task_read.specs.Steps.{IsOne}
+use Rattle.task_read.specs.TaskSteps.{parts_step, task_step}
 use Rattle.task_read.specs.TypedPrograms.{Entry}
 use Rattle.task_read.proofs.OneAnswer.{one_typed_program, not_typed_and_refused, one_refusal}
+use Rattle.task_read.proofs.Steps.{one_done, one_refuse, one_then}
 
 same_refusal : (q r : Refusal) → q.source ≡ r.source → q.cause ≡ r.cause → q.line ≡ r.line → q ≡ r
 same_refusal q r s c l = λ i. record { source = s i; cause = c i; line = l i }
@@ -38,3 +41,22 @@ one_program_step s text e = record {
   refuses = λ q r x y. one_of s _ (one_refusal text e) q r x y;
   not_both = λ p r x y. not_typed_and_refused text e p.program p.types r.cause r.line x y.1;
 }
+
+pub one_rules_step : (text : List ℕ) → IsOne (rules_step text)
+one_rules_step text = record {
+  gives = λ r s x y. one_reading text r s x y;
+  refuses = λ q r x y. one_of source.Rules _ (one_rules_refusal text) q r x y;
+  not_both = λ rules r x y. rules_not_refused text rules r.cause r.line x y.1;
+}
+
+pub one_parts_step : (bounds reference submission rules : List ℕ) → IsOne (parts_step bounds reference submission rules)
+one_parts_step bounds reference submission rules =
+    one_then _ _ (one_bounds_step bounds) (λ b.
+    one_then _ _ (one_program_step source.Reference reference (entry_at b)) (λ r.
+    one_then _ _ (one_program_step source.Submission submission (entry_at b)) (λ s.
+    one_then _ _ (one_rules_step rules) (λ e. one_done _))))
+
+pub one_task_step : (bounds reference submission rules : List ℕ) → IsOne (task_step bounds reference submission rules)
+one_task_step bounds reference submission rules =
+    one_then _ _ (one_parts_step bounds reference submission rules) (λ k.
+    one_then _ _ (one_refuse _ _) (λ same. one_then _ _ (one_refuse _ _) (λ small. one_done k)))

@@ -1,4 +1,4 @@
--- The steps that read the bounds and the programs of a task.
+-- The steps that read the sources of a task, each by itself.
 use Rattle.std.specs.Prelude.{◌≡◌, ℕ, List, map}
 use Rattle.mpy_tree.specs.declared.refusal.Cause.{Cause}
 use Rattle.mpy_tree.specs.declared.refusal.Source.{Source}
@@ -8,6 +8,8 @@ use Rattle.mpy_tree.specs.declared.typing.Fact.{Fact}
 use Rattle.mpy_tree.specs.Syntax.{Routine}
 use Rattle.bounds_reader.specs.declared.bounds.Bounds.{Bounds}
 use Rattle.bounds_reader.specs.Files.{IsBounds, IsRefused as IsBoundsRefused}
+use Rattle.choice_tree.specs.Templates.{Correction}
+use Rattle.eml_reader.specs.RuleFiles.{IsRules, IsRefused as IsRulesRefused}
 use Rattle.input_space.specs.Inputs.{param_type}
 use Rattle.task_read.specs.Steps.{Step}
 use Rattle.task_read.specs.TypedPrograms.{Entry, IsTypedProgram, IsProgramRefused}
@@ -40,4 +42,11 @@ abbrev pub program_step : Source → List ℕ → Entry → Step Typed
 program_step s text e = record {
   gives = λ p. IsTypedProgram text e p.program p.types;
   refuses = IsOf s (IsProgramRefused text e);
+}
+
+-- the rules
+abbrev pub rules_step : List ℕ → Step (List Correction)
+rules_step text = record {
+  gives = IsRules text;
+  refuses = IsOf source.Rules (IsRulesRefused text);
 }

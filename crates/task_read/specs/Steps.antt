@@ -1,5 +1,5 @@
--- Reading in steps: each gives something, or refuses, and each goes over its whole source before the
--- next. So the first refusal is that of the first step that refuses.
+-- Reading in steps: each gives something, or refuses, and each goes over its whole source before
+-- the next. So the first refusal is that of the first step that refuses.
 use Rattle.std.specs.Prelude.{◌≡◌, ◌⊎◌}
 use Rattle.mpy_tree.specs.declared.refusal.Refusal.{Refusal}
 

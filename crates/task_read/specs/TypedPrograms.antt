@@ -24,7 +24,8 @@ abbrev pub shared_lines : List Fact → List Routine → List ℕ
 shared_lines T p = shared (single (set_of T)) p
 
 -- the text spells the program, these facts are its typing, and no statement shares a list
-pub record IsTypedProgram (bytes : List ℕ) (e : Entry) (p : List Routine) (T : List Fact) : Type 0 where
+pub record IsTypedProgram (bytes : List ℕ) (e : Entry) (p : List Routine) (T : List Fact)
+    : Type 0 where
   pub read : IsProgram bytes p
   pub typing : IsTyping T p e.name e.types
   pub unshared : shared_lines T p ≡ []

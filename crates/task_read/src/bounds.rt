@@ -4,9 +4,9 @@ ghost use Rattle.bounds_reader.specs.Files.{IsBounds, IsRefused};
 ghost use Rattle.mpy_tree.specs.declared.refusal.Source.TheVariants.{Bounds as of_bounds};
 ghost use Rattle.task_read.specs.Errors.{RefusesBy};
 
-use crate::error::TaskError;
+use crate::error::{TaskError, refused};
 use bounds_reader::{Bounds, BoundsError, read_bounds};
-use mpy_tree::{Refusal, Source};
+use mpy_tree::Source;
 use std::alloc::Global;
 
 /// Reads the bounds of a task.
@@ -22,10 +22,6 @@ pub fn read_task_bounds(alloc: Global, bytes: &[u8]) -> Result<Bounds, TaskError
     match read_bounds(alloc, bytes) {
         Ok(bounds) => Ok(bounds),
         Err(BoundsError::NoMemory) => Err(TaskError::NoMemory),
-        Err(BoundsError::Fault { cause, line }) => Err(TaskError::Refused(Refusal {
-            source: Source::Bounds,
-            cause,
-            line,
-        })),
+        Err(BoundsError::Fault { cause, line }) => Err(refused(Source::Bounds, cause, line)),
     }
 }

@@ -1,9 +1,10 @@
 //! Why a source gives nothing.
 ghost use Rattle.std.specs.Prelude.{◌≡◌};
 ghost use Rattle.task_read.specs.Errors.{stop_of};
+ghost use Rattle.task_read.specs.Sources.{refusal};
 ghost use Rattle.task_read.specs.declared.error.TaskError.TheVariants as task_error;
 
-use mpy_tree::{NoMemory, Refusal};
+use mpy_tree::{Cause, NoMemory, Refusal, Source};
 use source_files::Stop;
 use std::alloc::AllocError;
 
@@ -33,4 +34,15 @@ impl From<TaskError> for Stop {
             TaskError::NoMemory => Stop::NoMemory,
         }
     }
+}
+
+/// A source is refused.
+pub(crate) fn refused(source: Source, cause: Cause, line: u32) -> TaskError
+    ensures { result ≡ task_error.Refused (refusal source cause line) }
+{
+    TaskError::Refused(Refusal {
+        source,
+        cause,
+        line,
+    })
 }

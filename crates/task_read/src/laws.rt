@@ -1,6 +1,7 @@
-//! What typed program a text spells, and whether it is refused, are one thing.
+//! What texts spell, and whether they are refused, are one thing.
 ghost use Rattle.task_read.specs.ProgramLaws.{NotTypedAndRefused, OneProgramRefusal};
 ghost use Rattle.task_read.specs.ProgramLaws.{OneTypedProgram};
+ghost use Rattle.task_read.specs.TaskLaws.{NotTaskAndRefused, OneTask, OneTaskRefusal};
 
 /// A text spells one typed program at most.
 pub fn one_typed_program()
@@ -15,4 +16,19 @@ pub fn not_typed_and_refused()
 /// A text is refused for one cause, at one line.
 pub fn one_program_refusal()
     ensures holds { OneProgramRefusal }
+{}
+
+/// Four texts spell one task at most.
+pub fn one_task()
+    ensures holds { OneTask }
+{}
+
+/// Texts that spell a task aren't refused.
+pub fn not_task_and_refused()
+    ensures holds { NotTaskAndRefused }
+{}
+
+/// Texts are refused for one cause, in one source at one line.
+pub fn one_task_refusal()
+    ensures holds { OneTaskRefusal }
 {}

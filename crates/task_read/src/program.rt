@@ -118,8 +118,8 @@ fn read_typed(
     reader.read(bytes)
 }
 
-/// Reads a program to its types, for a run of the bounds' entry: the program that the text spells, and
-/// its typing, where no statement shares a list.
+/// Reads a program to its types, for a run of the bounds' entry: the program that the text spells,
+/// and its typing, where no statement shares a list.
 ///
 /// # Errors
 ///

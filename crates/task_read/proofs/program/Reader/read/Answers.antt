@@ -1,8 +1,7 @@
 -- each step that stops is the first
 use Rattle.mpy_tree.specs.View.{routines_of}
-use Rattle.task_read.specs.TypedPrograms.{IsProgramRefused, by_text, by_typing, by_sharing}
-use Rattle.task_read.specs.Views.{entry_of}
-use Rattle.task_read.proofs.Answers.{stopped}
+use Rattle.task_read.specs.TypedPrograms.{by_text, by_typing, by_sharing}
+use Rattle.task_read.proofs.Stopping.{stopped}
 use Rattle.task_read.proofs.program.Reader.read.Goals as goal
 
 pub returns-in_err-p-clause-refused : goal.returns-in_err-p-clause-refused

@@ -1,0 +1,29 @@
+-- What task four texts spell, and whether they are refused, are one thing.
+use Rattle.std.specs.Prelude.{◌≡◌, ℕ, List}
+use Rattle.mpy_tree.specs.declared.refusal.Refusal.{Refusal}
+use Rattle.input_space.specs.Tasks.{Task}
+use Rattle.task_read.specs.TaskSteps.{task_step}
+
+-- four texts spell one task at most
+abbrev pub OneTask : Type 0
+OneTask =
+    (bounds reference submission rules : List ℕ) (k other : Task)
+    → (task_step bounds reference submission rules).gives k
+    → (task_step bounds reference submission rules).gives other
+    → k ≡ other
+
+-- texts that spell a task aren't refused
+abbrev pub NotTaskAndRefused : Type 0
+NotTaskAndRefused =
+    (bounds reference submission rules : List ℕ) (k : Task) (r : Refusal)
+    → (task_step bounds reference submission rules).gives k
+    → (task_step bounds reference submission rules).refuses r
+    → ⊥
+
+-- texts are refused once
+abbrev pub OneTaskRefusal : Type 0
+OneTaskRefusal =
+    (bounds reference submission rules : List ℕ) (r other : Refusal)
+    → (task_step bounds reference submission rules).refuses r
+    → (task_step bounds reference submission rules).refuses other
+    → r ≡ other
