@@ -4,6 +4,8 @@
 #[cfg(test)]
 mod matching;
 #[cfg(test)]
+mod messages;
+#[cfg(test)]
 mod numbers;
 #[cfg(test)]
 mod rule_files;

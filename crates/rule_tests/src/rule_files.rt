@@ -29,7 +29,7 @@ const REFUSED: [(&str, Cause, u32); 14] = [
 ];
 
 /// The rules of a file, or the cause and the line for which it is refused.
-fn read(alloc: Global, text: &str) -> Result<Result<Rules, (Cause, u32)>, Fail> {
+pub(crate) fn read(alloc: Global, text: &str) -> Result<Result<Rules, (Cause, u32)>, Fail> {
     if text.len() > 65536 {
         return Err("a long text")?;
     }

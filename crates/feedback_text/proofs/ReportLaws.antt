@@ -1,0 +1,74 @@
+-- The reports of the code's answers, from their parts.
+use Rattle.std.proofs.Common.{◌≡◌, ℕ, List, [], ◌∷◌, ◌++◌, map, refl, sym, ap, subst, ◌∙◌, codes, append_assoc}
+use Rattle.std.specs.Fmt.{decimal}
+use Rattle.mpy_tree.specs.Printing.{program_text}
+use Rattle.mpy_tree.specs.Shapes.{program_shape}
+use Rattle.mpy_tree.specs.Syntax.{Routine}
+use Rattle.choice_tree.specs.declared.edit.Edit as code_edit
+use Rattle.choice_tree.specs.declared.rules.Rules.{Rules}
+use Rattle.choice_tree.specs.declared.selection.Choice.{Choice}
+use Rattle.choice_tree.specs.Choices.{member_of}
+use Rattle.choice_tree.specs.EditViews as tree
+use Rattle.choice_tree.specs.RuleViews.{corrections_of}
+use Rattle.choice_tree.specs.Selections.{edits, plain}
+use Rattle.choice_tree.specs.WeightedTrees.{Weighted}
+use Rattle.input_space.specs.declared.task.TaskParts.{TaskParts}
+use Rattle.input_space.specs.TaskParts.{task_with}
+use Rattle.input_space.specs.Tasks.{Task, tree_of}
+use Rattle.feedback_text.specs.declared.answer.Answer as code
+use Rattle.feedback_text.specs.declared.answer.Failure as code_failure
+use Rattle.feedback_text.specs.Answers.{Corrected, NoCorrection, edit_tree}
+use Rattle.feedback_text.specs.AnswerViews.{StandsFor, failure_of}
+use Rattle.feedback_text.specs.ReportViews.{edit_of, IsReportOf, ShowsCorrection}
+use Rattle.feedback_text.specs.Reports.{edits_text, fails_text}
+
+seen_trees : (es : List code_edit.Edit) → map edit_tree (map edit_of es) ≡ map tree.edit_of es
+seen_trees [] = refl
+seen_trees (e ∷ es) = ap (λ ts. tree.edit_of e ∷ ts) (seen_trees es)
+
+-- the lines of the edits and the program of a selection
+pub shows_correction : (k : TaskParts) (s : List Choice) (w v : Weighted) (es : List code_edit.Edit) (p : List Routine) (rules : Rules) (lines text : List ℕ)
+    → w ≡ tree_of (task_with k) → map tree.edit_of es ≡ edits (member_of s) w 0
+    → v ≡ tree_of (task_with k) → program_shape p ≡ plain (member_of s) v
+    → rules ≡ k.rules → lines ≡ edits_text (corrections_of rules) (map edit_of es)
+    → text ≡ lines ++ codes "program\n" ++ program_text p
+    → ShowsCorrection (task_with k) s text
+shows_correction k s w v es p rules lines text at_w replaced at_v made same edited all =
+    record {
+      edits = map edit_of es;
+      program = p;
+      makes = record {
+        program = made ∙ ap (plain (member_of s)) at_v;
+        edits_are = seen_trees es ∙ replaced ∙ ap (λ t. edits (member_of s) t 0) at_w;
+      };
+      text_is = all ∙ ap (λ ls. ls ++ codes "program\n" ++ program_text p) (edited ∙ ap (λ rs. edits_text (corrections_of rs) (map edit_of es)) same);
+    }
+
+regroup : (a b c d : List ℕ) → a ++ (b ++ c ++ d) ≡ a ++ b ++ c ++ d
+regroup a b c d = simp append_assoc
+
+pub corrected_report : (k : Task) (a : code.Answer) (s : List Choice) (n : ℕ) (fails : code_failure.Failure) (lines text : List ℕ)
+    → a ≡ code.TheVariants.Corrected s n fails
+    → ShowsCorrection k s lines
+    → text ≡ codes "cost " ++ decimal n ++ codes "\n" ++ fails_text k.bounds.entry (failure_of fails) ++ lines → IsReportOf k a text
+corrected_report k a s n fails lines text is shows all =
+    let b = Corrected n (failure_of fails) shows.edits shows.program in
+    let front = codes "cost " ++ decimal n ++ codes "\n" ++ fails_text k.bounds.entry (failure_of fails) in
+    record {
+      answer = b;
+      stands = subst (λ (x : code.Answer). StandsFor k x b) (sym is) (refl, refl, shows.makes);
+      text_is =
+          all ∙ ap (λ ls. front ++ ls) shows.text_is
+          ∙ regroup front (edits_text k.rules shows.edits) (codes "program\n") (program_text shows.program);
+    }
+
+pub failing_report : (k : Task) (a : code.Answer) (fails : code_failure.Failure) (text : List ℕ)
+    → a ≡ code.TheVariants.NoCorrection fails
+    → text ≡ codes "no correction\n" ++ fails_text k.bounds.entry (failure_of fails) → IsReportOf k a text
+failing_report k a fails text is all =
+    let b = NoCorrection (failure_of fails) in
+    record {
+      answer = b;
+      stands = subst (λ (x : code.Answer). StandsFor k x b) (sym is) refl;
+      text_is = all;
+    }

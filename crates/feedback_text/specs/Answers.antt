@@ -1,0 +1,29 @@
+-- What the grader answers for a task.
+use Rattle.std.specs.Prelude.{ℕ, ◌<◌, List, [], map}
+use Rattle.mpy_tree.specs.Shapes.{shape}
+use Rattle.mpy_tree.specs.Syntax.{Routine, Term}
+use Rattle.choice_tree.specs.Rewriting as tree
+use Rattle.input_space.specs.Agreement.{Failure}
+use Rattle.input_space.specs.Tasks.{Task, IsBestOf, IsFailureOf, NoneAgrees}
+
+-- a replacement on a line by a rule, counted from 0
+pub record Edit : Type 0 where
+  pub line : ℕ
+  pub rule : ℕ
+  pub old : Term
+  pub new : Term
+
+abbrev pub edit_tree : Edit → tree.Edit
+edit_tree e = record { line = e.line; rule = e.rule; old = shape e.old; new = shape e.new }
+
+pub data Answer : Type 0 where
+  Correct : Answer
+  Corrected : (cost : ℕ) (fails : Failure) (edits : List Edit) (p : List Routine) → Answer
+  NoCorrection : (fails : Failure) → Answer
+
+-- `correct` is the submission itself, at cost 0
+abbrev pub IsAnswer : Task → Answer → Type 0
+IsAnswer k Correct = IsBestOf k k.submission 0 []
+IsAnswer k (Corrected cost fails edits p) =
+    IsBestOf k p cost (map edit_tree edits) × (0 < cost) × IsFailureOf k fails
+IsAnswer k (NoCorrection fails) = NoneAgrees k × IsFailureOf k fails

@@ -1,0 +1,6 @@
+pub mod Answers
+pub mod AnswerViews
+pub mod Messages
+pub mod Reports
+pub mod ReportViews
+pub mod EditRules

@@ -1,0 +1,34 @@
+//! What is answered for a task.
+
+use choice_tree::Selection;
+use input_space::Case;
+use mpy_tree::{Outcome, Value};
+
+/// An input on which the submission doesn't give the value of the reference.
+#[derive(Drop)]
+pub struct Failure {
+    pub case: Case,
+    pub gives: Outcome,
+    pub wanted: Value,
+}
+
+/// The answer to a task.
+#[derive(Drop)]
+pub enum Answer {
+    /// The submission agrees with the reference.
+    Correct,
+    /// The cheapest correction that agrees, by its selection of the task's tree.
+    Corrected {
+        selection: Selection,
+        cost: u32,
+        fails: Failure,
+    },
+    /// No rewriting agrees.
+    NoCorrection {
+        fails: Failure,
+    },
+    /// The reference gives no value on any input.
+    EmptyReference,
+    /// There was no memory.
+    NoMemory,
+}
