@@ -1,0 +1,15 @@
+//! The search for a choice of least cost that agrees on all inputs, over any questions that find
+//! choices and inputs.
+#![tactic(auto)]
+
+mod asked;
+mod laws;
+mod outcome;
+mod questions;
+mod search;
+
+pub use asked::Asked;
+pub use laws::{closing_question, few_questions};
+pub use outcome::Least;
+pub use questions::Questions;
+pub use search::least;
