@@ -1,0 +1,7 @@
+pub mod AskingLaws
+pub mod Chosen
+pub mod RankingLaws
+pub mod SelectionLaws
+pub mod SoundLaws
+pub mod TableLaws
+pub mod TrialLaws

@@ -1,0 +1,16 @@
+-- the first input on which the reference gives a value, or none
+use Rattle.std.proofs.Common.{◌∙◌, ap, arith, length, sym}
+use Rattle.input_space.specs.TaskParts.{task_with}
+use Rattle.list_questions.proofs.TableLaws.{is_expected, no_input, table_length}
+use Rattle.list_questions.proofs.runs.Runs.first_expected.Goals as goal
+
+pub returns-in-Some : goal.returns-in-Some
+returns-in-Some c =
+    is_expected (task_with c.args.self.now.task.now) c.loop-place.place c.in-Some.expected (rw c.in-Some.is at c.in_ok-expected.ensures)
+
+pub returns : goal.returns
+returns c =
+    let k = task_with c.args.self.now.task.now in
+    let long = table_length k c.args.table.now c.requires in
+    let past = c.loop-place-test.false in
+    no_input k c.loop-place.place (omega (arith, long, past)) c.loop-place.invariant

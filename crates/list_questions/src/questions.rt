@@ -1,0 +1,213 @@
+//! Questions about a task, answered by trying all.
+ghost use Rattle.std.specs.Prelude.{◌≡◌, ◌++◌, ◌∷◌, [], IfOk, OnErr, OnOk, Some, MatchOption};
+ghost use Rattle.std.specs.Prelude.{option_to_list};
+ghost use Rattle.std.specs.List.{Contains};
+ghost use Rattle.cegis_loop.specs.Space.{AgreesOn, IsFail};
+ghost use Rattle.list_questions.specs.Answering.{IsProposed, answer};
+ghost use Rattle.list_questions.specs.Asking.{task_of};
+ghost use Rattle.list_questions.specs.TaskSpace.{space, wanted, wanted_inputs};
+
+use crate::NoMemory;
+use crate::ranking::{Ranked, ranking};
+use crate::runs::{Expected, Runs};
+use crate::trial::Trial;
+use cegis_loop::{Asked, Questions};
+use choice_tree::{Selection, cost, most_cost, plain};
+use input_space::{Case, Cases, Task};
+use mpy_tree::Value;
+use selection_numbers::MemberCounts;
+use std::alloc::Global;
+use std::marker::Model;
+
+/// The questions of a search for the cheapest selection of a task that agrees with its reference,
+/// answered by trying all selections and all inputs.
+///
+/// It doesn't tell what it was asked, logs nothing, and never answers that its budget is spent.
+#[derive(Drop)]
+pub struct ListQuestions<'a> {
+    runs: Runs<'a>,
+    counts: MemberCounts,
+    ranking: Vec<Ranked>,
+    // Each selection before this place of the ranking fails on a kept case.
+    passed: usize,
+    // The values of the reference on all inputs.
+    table: Vec<Option<Value>>,
+    kept: Cases,
+    // The values of the reference on the kept cases.
+    values: Vec<Value>,
+}
+
+impl<'a> Model for ListQuestions<'a> {
+    ghost use Rattle.input_space.specs.TaskParts.{task_with};
+    ghost use Rattle.list_questions.specs.Asking.{Asking, IsAsking};
+    ghost use Rattle.input_space.specs.contracts.task.TaskParts as parts;
+    ghost use Rattle.std.specs.Coded.{codes};
+
+    ghost Value = { Asking };
+
+    ghost coded = { Prim.hlevel (codes, parts.the_row.coded) };
+
+    ghost view = { λ q. record { parts = q.runs.task.now; kept = q.kept } };
+
+    ghost invariant = { λ q. IsAsking (task_with q.runs.task.now) q.counts q.ranking.items q.passed
+        q.table.items q.kept q.values.items };
+}
+
+impl<'a> ListQuestions<'a> {
+    /// The questions about a task, of which none was asked.
+    pub fn new(alloc: Global, t: &'a Task) -> Result<ListQuestions<'a>, NoMemory>
+        ensures { IfOk result (λ q. q ≡ record { parts = t.now; kept = [] }) }
+    {
+        t.is_sound();
+        let runs = Runs { alloc, task: t };
+        let counts = MemberCounts::of(alloc, t.tree())?;
+        let ranking = ranking(alloc, t.tree(), &counts)?;
+        let table = runs.all_wanted()?;
+        Ok(ListQuestions {
+            runs,
+            counts,
+            ranking,
+            passed: 0,
+            table,
+            kept: Cases::from_vec(Vec::new(alloc)),
+            values: Vec::new(alloc),
+        })
+    }
+
+    /// The inputs that are kept, in order.
+    pub fn kept(&self) -> &Cases
+        ensures { result.now ≡ self.now.kept }
+    {
+        &self.kept
+    }
+
+    // Keeps a case and the value of the reference there.
+    fn push(&mut self, case: Case, value: Value) -> Result<(), NoMemory>
+        requires { wanted (task_of self.old) case.values ≡ Some value }
+        ensures parts { self.new.parts ≡ self.old.parts }
+        ensures kept { OnOk result (self.new.kept ≡ self.old.kept ++ case ∷ []) }
+        ensures as_before { OnErr result (self.new ≡ self.old) }
+    {
+        self.values.reserve(1)?;
+        self.kept.push(case)?;
+        self.values.push_reserved(value);
+        Ok(())
+    }
+
+    // Keeps an input that was found.
+    fn keep(&mut self, found: Expected) -> Result<Case, NoMemory>
+        requires { wanted (task_of self.old) found.case.values ≡ Some found.value }
+        ensures parts { self.new.parts ≡ self.old.parts }
+        ensures kept { IfOk result (λ x. (x ≡ found.case)
+            × (self.new.kept ≡ self.old.kept ++ found.case ∷ [])) }
+        ensures as_before { OnErr result (self.new ≡ self.old) }
+    {
+        let Expected { case, value } = found;
+        let copy = case.copy()?;
+        self.push(copy, value)?;
+        Ok(case)
+    }
+
+    // Passes by the selections that fail on kept cases, up to one that agrees within the bound.
+    fn next_within(&mut self, most: Option<u32>) -> Result<Option<Selection>, NoMemory>
+        ensures same { self.new ≡ self.old }
+        ensures found { IfOk result (IsProposed self.old most) }
+    {
+        self.runs.task.is_sound();
+        let trial = Trial {
+            runs: self.runs,
+            counts: &self.counts,
+            ranking: self.ranking.as_slice(),
+            kept: self.kept.items(),
+            values: self.values.as_slice(),
+        };
+        let stopped = trial.first_within(self.passed, most)?;
+        self.passed = stopped.place;
+        Ok(stopped.selection)
+    }
+
+    // Finds the first input on which the reference gives a value, and keeps it.
+    fn find_first(&mut self) -> Result<Option<Case>, NoMemory>
+        ensures parts { self.new.parts ≡ self.old.parts }
+        ensures kept { IfOk result (λ o. self.new.kept ≡ self.old.kept ++ option_to_list o) }
+        ensures as_before { OnErr result (self.new ≡ self.old) }
+        ensures found { IfOk result (λ o. MatchOption o (wanted_inputs (task_of self.old) ≡ [])
+            (Contains (wanted_inputs (task_of self.old)))) }
+    {
+        match self.runs.first_expected(self.table.as_slice())? {
+            None => Ok(None),
+            Some(expected) => Ok(Some(self.keep(expected)?)),
+        }
+    }
+
+    // Finds the first input on which a selection's program fails, and keeps it.
+    fn find_failure(&mut self, c: &Selection) -> Result<Option<Case>, NoMemory>
+        ensures parts { self.new.parts ≡ self.old.parts }
+        ensures kept { IfOk result (λ o. self.new.kept ≡ self.old.kept ++ option_to_list o) }
+        ensures as_before { OnErr result (self.new ≡ self.old) }
+        ensures found { IfOk result (λ o. MatchOption o
+            (AgreesOn (space (task_of self.old)) (wanted_inputs (task_of self.old)) c.now)
+            (IsFail (space (task_of self.old)) c.now)) }
+    {
+        let program = plain(self.runs.alloc, self.runs.task.tree(), c)?;
+        match self.runs.first_failure(&program, self.table.as_slice())? {
+            None => Ok(None),
+            Some(expected) => Ok(Some(self.keep(expected)?)),
+        }
+    }
+}
+
+// What is answered where this was looked for.
+fn asked<T: Drop>(found: Result<Option<T>, NoMemory>) -> Asked<T>
+    ensures { result ≡ answer found }
+{
+    match found {
+        Ok(Some(it)) => Asked::Found(it),
+        Ok(None) => Asked::Nothing,
+        Err(_) => Asked::NoMemory,
+    }
+}
+
+impl Questions for ListQuestions<'_> {
+    type Choice = Selection;
+
+    type Input = Case;
+
+    ghost use Rattle.std.specs.Prelude.{None};
+    ghost use Rattle.input_space.specs.Tasks.{Task as AnyTask};
+    ghost use Rattle.list_questions.specs.Asking.{task_of};
+    ghost use Rattle.list_questions.specs.TaskSpace.{space};
+
+    ghost Topic = { AnyTask };
+
+    ghost topic = { task_of };
+
+    ghost space = { space };
+
+    ghost seen = { λ q. record { kept = q.kept; logged = 0; told = None } };
+
+    fn first(&mut self) -> Asked<Case> {
+        let found = self.find_first();
+        asked(found)
+    }
+
+    fn propose(&mut self, most: Option<u32>) -> Asked<Selection> {
+        let found = self.next_within(most);
+        asked(found)
+    }
+
+    fn refute(&mut self, c: &Selection) -> Asked<Case> {
+        let found = self.find_failure(c);
+        asked(found)
+    }
+
+    fn most_cost(&self) -> u32 {
+        self.runs.task.is_sound();
+        most_cost(self.runs.task.tree())
+    }
+
+    fn cost_of(&self, c: &Selection) -> u32 {
+        self.runs.task.is_sound();
+        cost(self.runs.task.tree(), c)
+    }
+}
