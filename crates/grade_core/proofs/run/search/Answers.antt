@@ -1,0 +1,15 @@
+-- the questions are those of the task
+use Rattle.std.proofs.Common.{◌≡◌, ◌∙◌, List, None, ap, subst, sym}
+use Rattle.input_space.specs.declared.case.Case.{Case}
+use Rattle.input_space.specs.TaskParts.{task_with}
+use Rattle.input_space.specs.Tasks.{Task}
+use Rattle.cegis_loop.specs.Answers.{IsAnswer}
+use Rattle.list_questions.specs.Asking.{Asking, task_of}
+use Rattle.list_questions.specs.TaskSpace.{space}
+use Rattle.grade_core.proofs.run.search.Goals as goal
+
+pub told-requires : goal.told-requires
+told-requires c =
+    let about : task_of c.in_ok-questions.questions ≡ task_with c.args.t.now = ap task_of c.in_ok-questions.ensures in
+    rw c.kept.ensures
+    (subst (λ (k : Task). IsAnswer (space k) (record { kept = c.least-found.new.q.kept; told = None; logged = 0 }) c.least-found.result) about c.least-found.ensures.answer)

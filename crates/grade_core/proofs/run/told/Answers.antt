@@ -1,0 +1,45 @@
+-- what the search found, as the answer to the task
+use Rattle.std.proofs.Common.{◌≡◌, ◌<◌, ℕ, arith, refl, subst}
+use Rattle.choice_tree.specs.declared.selection.Choice.{Choice}
+use Rattle.cegis_loop.specs.Answers.{IsLeast, Means}
+use Rattle.input_space.specs.TaskParts.{task_with}
+use Rattle.list_questions.specs.TaskSpace.{space, wanted_inputs}
+use Rattle.grade_core.proofs.AnswerLaws.{best_selection, none_agree, none_wanted, some_fails, some_wanted, submission_best}
+use Rattle.grade_core.proofs.run.told.Goals as goal
+
+pub first_failure-requires-clause-some : goal.first_failure-requires-clause-some
+first_failure-requires-clause-some c =
+    let k = task_with c.args.runs.now.task.now in
+    let found : IsLeast (space k) c.args.kept.now c.in-Found.choice c.in-Found.cost = (rw c.in-Found.is at c.requires.means_on_kept).1 in
+    some_fails k c.is_sound.ensures c.args.kept.now (λ s fits free met. found.least s fits (let dear = c.in-Found.cost-test.1 in omega arith) met)
+
+pub first_failure-requires-in-Nothing-clause-some : goal.first_failure-requires-in-Nothing-clause-some
+first_failure-requires-in-Nothing-clause-some c =
+    let none = (rw c.in-Nothing.is at c.requires.means_on_kept).1 in
+    some_fails (task_with c.args.runs.now.task.now) c.is_sound.ensures c.args.kept.now (λ s fits free met. none s fits met)
+
+pub returns-in-Found-default-eq0 : goal.returns-in-Found-default-eq0
+returns-in-Found-default-eq0 c =
+    let k = task_with c.args.runs.now.task.now in
+    let s = c.in-Found-default-eq0.choice in
+    let found : IsLeast (space k) (wanted_inputs k) s c.in-Found-default-eq0.cost = (rw c.in-Found-default-eq0.is at c.requires.means).1 in (
+      some_wanted k (wanted_inputs k) refl (rw c.in-Found-default-eq0.is at c.requires.means).0,
+      submission_best k c.is_sound.ensures s (subst (IsLeast (space k) (wanted_inputs k) s) c.in-Found-default-eq0.cost-test found),
+    )
+
+pub returns-in_ok-first_failure-in-Found : goal.returns-in_ok-first_failure-in-Found
+returns-in_ok-first_failure-in-Found c =
+    let k = task_with c.args.runs.now.task.now in
+    let found : IsLeast (space k) (wanted_inputs k) c.in-Found.choice c.in-Found.cost = (rw c.in-Found.is at c.requires.means).1 in (
+      best_selection k c.is_sound.ensures c.in-Found.choice c.in-Found.cost found,
+      (let dear = c.in-Found.cost-test.1 in omega arith),
+      c.in_ok-first_failure-in-Found.ensures,
+    )
+
+pub returns-in_ok-first_failure-in-Nothing : goal.returns-in_ok-first_failure-in-Nothing
+returns-in_ok-first_failure-in-Nothing c =
+    let k = task_with c.args.runs.now.task.now in
+    (none_agree k c.is_sound.ensures (rw c.in-Nothing.is at c.requires.means).1, c.in_ok-first_failure-in-Nothing.ensures)
+
+pub returns-in-NoCase : goal.returns-in-NoCase
+returns-in-NoCase c = none_wanted (task_with c.args.runs.now.task.now) (rw c.in-NoCase.is at c.requires.means)
