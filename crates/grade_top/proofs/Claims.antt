@@ -8,12 +8,12 @@ use Rattle.mpy_tree.specs.declared.outcome.Outcome as run
 use Rattle.mpy_tree.specs.declared.refusal.Refusal.{Refusal}
 use Rattle.source_files.specs.Files.{SourceFile}
 use Rattle.source_files.specs.Texts.{AllFit, AreHeld, Tells}
-use Rattle.grade_top.specs.Answers.{Answer, Correct, Corrected, NoCorrection, IsAnswer}
+use Rattle.feedback_text.specs.Answers.{Answer, Correct, Corrected, NoCorrection, IsAnswer}
 use Rattle.grade_top.specs.Claims.{AreTold, IsGraded, IsSaid, IsUsage, NoFault}
 use Rattle.grade_top.specs.Decisions.{graded_step, run_step}
 use Rattle.grade_top.specs.Ends.{Answered, Ran, Refused, Unasked, Outcome, ComesOf, ComesOfFiles, Ends, IsDecided, IsDue, IsFirstRefusal, status_of, status_of_answer, text_of_outcome}
 use Rattle.grade_top.specs.Files.{files_of}
-use Rattle.grade_top.specs.Tasks.{Task}
+use Rattle.input_space.specs.Tasks.{Task}
 use Rattle.grade_top.specs.Words.{Command, Grade, Run, Nothing, GradeWords, RunWords}
 use Rattle.grade_top.proofs.OneOutcome.{long_fits, not_refused_and_decided, one_graded_step, one_refusal, one_run}
 

@@ -13,7 +13,7 @@ use Rattle.source_files.specs.Texts.{AllFit, AreHeld}
 use Rattle.source_files.specs.declared.stop.Stop.{Stop}
 use Rattle.source_files.specs.declared.stop.Stop.TheVariants as stop
 use Rattle.grade_top.specs.declared.outcome.Report.{Report}
-use Rattle.grade_top.specs.Answers.{Answer, Correct, Corrected, NoCorrection}
+use Rattle.feedback_text.specs.Answers.{Answer, Correct, Corrected, NoCorrection}
 use Rattle.grade_top.specs.Ends.{Answered, Ran, Refused, Unasked, Outcome, ComesOf, ComesOfFiles, Ends, IsDecided, IsDue, ReadWell, status_of, text_of_outcome}
 use Rattle.grade_top.specs.Files.{files_of}
 use Rattle.grade_top.specs.OneOutcome.{IsNoRefusal}

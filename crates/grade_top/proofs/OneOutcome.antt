@@ -16,46 +16,28 @@ use Rattle.source_files.specs.Texts.{AllFit, IsFirstLong, IsTooLong}
 use Rattle.task_read.specs.Sources.{entry_at}
 use Rattle.task_read.specs.Steps.{Step, IsOne}
 use Rattle.task_read.proofs.OneStep.{one_bounds_step, one_program_step}
+use Rattle.task_read.proofs.OneStep as task
 use Rattle.task_read.proofs.Steps.{one_done, one_refuse, one_then}
-use Rattle.literal_rules.specs.RulesForm.{Rule, IsRules}
-use Rattle.literal_rules.proofs.RulesLaws.{rules_are_read}
-use Rattle.grade_top.specs.Decisions.{AreTaken, graded_step, never, rules_step, run_step, spelled_step, task_step, value_step, values_step}
+use Rattle.grade_top.specs.Decisions.{graded_step, never, run_step, spelled_step, task_step, value_step, values_step}
 use Rattle.grade_top.specs.Ends.{IsDecided, IsFirstRefusal, Outcome, Answered, Ran, Refused, Unasked}
 use Rattle.grade_top.specs.Files.{files_of}
 use Rattle.grade_top.specs.OneOutcome.{IsNoRefusal}
-use Rattle.grade_top.specs.Tasks.{Task}
+use Rattle.input_space.specs.Tasks.{Task}
 use Rattle.grade_top.specs.Words.{Command, Grade, Run, Nothing, RunWords}
 
 pub one_never : {A : Type 0} → IsOne (never {A = A})
 one_never = record { gives = λ a b x y. absurd x; refuses = λ q r x y. absurd x; not_both = λ a r x y. x }
-
-pub one_rules : (bytes : List ℕ) (r s : List Rule) → IsRules bytes r → IsRules bytes s → r ≡ s
-one_rules bytes r s a b = same_Some r s (sym (rules_are_read bytes r a) ∙ rules_are_read bytes s b)
-
-one_rules_step : (text : List ℕ) (p : List Routine) → IsOne (rules_step text p)
-one_rules_step text p = record {
-  gives = λ r s x y. one_rules text r s x.read y.read;
-  refuses = λ q r x y. x.1 ∙ sym y.1;
-  not_both = λ rules r x y. y.0 rules x;
-}
 
 pub one_task_step : (ts : List (List ℕ)) → IsOne (task_step ts)
 one_task_step [] = one_never
 one_task_step (a ∷ []) = one_never
 one_task_step (a ∷ b ∷ []) = one_never
 one_task_step (a ∷ b ∷ c ∷ []) = one_never
-one_task_step (a ∷ b ∷ c ∷ d ∷ []) =
-    one_then _ _ (one_bounds_step a) (λ x.
-    one_then _ _ (one_program_step source.Reference b (entry_at x)) (λ r.
-    one_then _ _ (one_program_step source.Submission c (entry_at x)) (λ s.
-    one_then _ _ (one_rules_step d s.program) (λ e.
-    one_then _ _ (one_refuse _ _) (λ t. one_done _)))))
+one_task_step (a ∷ b ∷ c ∷ d ∷ []) = task.one_task_step a b c d
 one_task_step (a ∷ b ∷ c ∷ d ∷ e ∷ ts) = one_never
 
 pub one_graded_step : (ts : List (List ℕ)) → IsOne (graded_step ts)
-one_graded_step ts =
-    one_then _ _ (one_task_step ts) (λ k.
-    one_then _ _ (one_refuse _ _) (λ small. one_then _ _ (one_refuse _ _) (λ some. one_done k)))
+one_graded_step ts = one_then _ _ (one_task_step ts) (λ k. one_then _ _ (one_refuse _ _) (λ some. one_done k))
 
 same_first : (v w : Value) → v ∷ [] ≡ w ∷ [] → v ≡ w
 same_first v w h = cc

@@ -4,25 +4,17 @@ use Rattle.std.specs.declared.alloc.Global.{Global}
 use Rattle.std.proofs.lemmas.List.{append_assoc}
 use Rattle.mpy_tree.specs.declared.refusal.Refusal.{Refusal}
 use Rattle.mpy_tree.specs.declared.value.Value.{Value}
-use Rattle.mpy_tree.specs.Syntax.{Routine}
 use Rattle.input_space.specs.Cases.{SpellsCase}
 use Rattle.input_space.proofs.OneCase.{one_case}
 use Rattle.source_files.specs.Fetches.{StopsAs}
+use Rattle.task_read.specs.declared.error.TaskError.{TaskError}
+use Rattle.task_read.specs.declared.error.TaskError.TheVariants as task_error
+use Rattle.task_read.specs.Errors.{RefusesAs, stop_of}
 use Rattle.source_files.specs.Views.{texts_of}
 use Rattle.source_files.specs.declared.stop.Stop.{Stop}
 use Rattle.source_files.specs.declared.stop.Stop.TheVariants as stop
-use Rattle.literal_rules.specs.Corrections.{AreTakenFor}
-use Rattle.literal_rules.specs.RulesForm.{Rule, IsRules}
-use Rattle.mpy_tree.specs.declared.refusal.Cause.TheVariants as cause
-use Rattle.mpy_tree.specs.declared.refusal.Source.TheVariants as source
-use Rattle.bounds_reader.specs.declared.bounds.Bounds.{Bounds}
 use Rattle.bounds_reader.specs.declared.params.Param.{Param}
-use Rattle.bounds_reader.specs.Files.{IsBounds}
-use Rattle.task_read.specs.Sources.{Typed, bounds_step, entry_at, program_step, refusal}
-use Rattle.task_read.specs.Steps.{Step, ◌>>=◌, done, refuse_if}
-use Rattle.grade_top.specs.Decisions.{AreTaken, result_type, rules_step, task, task_step, value_step, values_step}
-use Rattle.grade_top.specs.Tasks.{entry_line}
-use Rattle.grade_top.proofs.OneOutcome.{one_rules}
+use Rattle.grade_top.specs.Decisions.{value_step, values_step}
 
 -- what a step refuses is refused by all of it
 pub stops_in : (P Q : Refusal → Type 0) → ((r : Refusal) → P r → Q r) → (s : Stop) → StopsAs P s → StopsAs Q s
@@ -34,6 +26,11 @@ stops_in P Q more stop.NoMemory h = h
 pub stopped : {T : Type 0} (X : T → Type 0) (P Q : Refusal → Type 0) (r : Result T Stop) (s : Stop) → IsErrAnd r (λ t. t ≡ s) → StopsAs P s → ((q : Refusal) → P q → Q q) → MatchResult r X (StopsAs Q)
 stopped X P Q (Ok x) s is h more = absurd is
 stopped X P Q (Err t) s is h more = subst (StopsAs Q) (sym is) (stops_in P Q more s h)
+
+-- what a reader of tasks refuses
+pub stopped_by : (P Q : Refusal → Type 0) → ((r : Refusal) → P r → Q r) → (e : TaskError) → RefusesAs P e → StopsAs Q (stop_of e)
+stopped_by P Q more (task_error.Refused r) h = more r h
+stopped_by P Q more task_error.NoMemory h = tt
 
 -- THE TASK OF FOUR TEXTS
 
@@ -48,85 +45,7 @@ pub two_texts : (xs : List (Vec ℕ Global)) (a b : Vec ℕ Global) (s t : List 
 two_texts (i ∷ j ∷ []) a b s t len ia ib fa fb = cc
 two_texts xs a b s t len ia ib fa fb = absurd (omega arith)
 
--- the sources before one that stops are read
-pub record ReadTwo (a b : List ℕ) (x : Bounds) (r : Typed) : Type 0 where
-  pub bounds : IsBounds a x
-  pub reference : (program_step source.Reference b (entry_at x)).gives r
-
-pub record ReadThree (a b c : List ℕ) (x : Bounds) (r s : Typed) : Type 0 where
-  pub bounds : IsBounds a x
-  pub reference : (program_step source.Reference b (entry_at x)).gives r
-  pub submission : (program_step source.Submission c (entry_at x)).gives s
-
-pub at_reference : (ts : List (List ℕ)) (a b c d : List ℕ) (x : Bounds) → a ∷ b ∷ c ∷ d ∷ [] ≡ ts → IsBounds a x
-    → (q : Refusal) → (program_step source.Reference b (entry_at x)).refuses q → (task_step ts).refuses q
-at_reference ts a b c d x is read q h = subst (λ us. (task_step us).refuses q) is
-    (inr (record { first = x; given = read; second = inl h }))
-
-pub at_submission : (ts : List (List ℕ)) (a b c d : List ℕ) (x : Bounds) (r : Typed) → a ∷ b ∷ c ∷ d ∷ [] ≡ ts → ReadTwo a b x r
-    → (q : Refusal) → (program_step source.Submission c (entry_at x)).refuses q → (task_step ts).refuses q
-at_submission ts a b c d x r is read q h = subst (λ us. (task_step us).refuses q) is
-    (inr (record { first = x; given = read.bounds; second = inr (record { first = r; given = read.reference; second = inl h }) }))
-
--- what follows the three sources
-in_three : (a b c d : List ℕ) (x : Bounds) (r s : Typed) → ReadThree a b c x r s → (q : Refusal)
-    → ((rules_step d s.program) >>= (λ e. refuse_if (result_type x.entry r ≢ result_type x.entry s) (refusal source.Submission cause.ResultType (entry_line (task x r s e) s.program)) >>= (λ t. done (task x r s e)))).refuses q
-    → (task_step (a ∷ b ∷ c ∷ d ∷ [])).refuses q
-in_three a b c d x r s read q h =
-    inr (record {
-      first = x;
-      given = read.bounds;
-      second =
-          inr (record {
-            first = r;
-            given = read.reference;
-            second =
-                inr (record { first = s; given = read.submission; second = h });
-          });
-    })
-
-pub at_rules : (ts : List (List ℕ)) (a b c d : List ℕ) (x : Bounds) (r s : Typed) → a ∷ b ∷ c ∷ d ∷ [] ≡ ts → ReadThree a b c x r s
-    → (q : Refusal) → (rules_step d s.program).refuses q → (task_step ts).refuses q
-at_rules ts a b c d x r s is read q h = subst (λ us. (task_step us).refuses q) is (in_three a b c d x r s read q (inl h))
-
-pub at_results : (ts : List (List ℕ)) (a b c d : List ℕ) (x : Bounds) (r s : Typed) (e : List Rule) → a ∷ b ∷ c ∷ d ∷ [] ≡ ts → ReadThree a b c x r s
-    → (rules_step d s.program).gives e → result_type x.entry r ≢ result_type x.entry s
-    → (task_step ts).refuses (refusal source.Submission cause.ResultType (entry_line (task x r s e) s.program))
-at_results ts a b c d x r s e is read rules differ =
-    let q = refusal source.Submission cause.ResultType (entry_line (task x r s e) s.program) in
-    subst (λ us. (task_step us).refuses q) is
-    (in_three a b c d x r s read q (inr (record { first = e; given = rules; second = inl (differ, refl) })))
-
-pub task_given : (ts : List (List ℕ)) (a b c d : List ℕ) (x : Bounds) (r s : Typed) (e : List Rule) → a ∷ b ∷ c ∷ d ∷ [] ≡ ts → ReadThree a b c x r s
-    → (rules_step d s.program).gives e → (result_type x.entry r ≢ result_type x.entry s → ⊥) → (task_step ts).gives (task x r s e)
-task_given ts a b c d x r s e is read rules same = subst (λ us. (task_step us).gives (task x r s e)) is
-    (record {
-      first = x;
-      given = read.bounds;
-      second =
-          record {
-            first = r;
-            given = read.reference;
-            second =
-                record {
-                  first = s;
-                  given = read.submission;
-                  second =
-                      record {
-                        first = e;
-                        given = rules;
-                        second =
-                            record { first = tt; given = same; second = refl };
-                      };
-                };
-          };
-    })
-
--- RULES AND VALUES
-
--- rules that were read and aren't taken: none are
-pub not_taken : (text : List ℕ) (p : List Routine) (read : List Rule) → IsRules text read → (AreTakenFor read p → ⊥) → (rules : List Rule) → AreTaken text p rules → ⊥
-not_taken text p read is not rules taken = not (subst (λ r. AreTakenFor r p) (one_rules text rules read taken.read is) taken.taken)
+-- VALUES
 
 -- a case that isn't one value
 pub not_one : (text : List ℕ) (values : List Value) → SpellsCase text values → ((v : Value) → values ≢ v ∷ []) → (v : Value) → SpellsCase text (v ∷ []) → ⊥

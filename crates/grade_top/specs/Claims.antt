@@ -6,10 +6,10 @@ use Rattle.grade_io.specs.declared.status.Status.{Status}
 use Rattle.grade_io.specs.declared.status.Status.TheVariants as status
 use Rattle.mpy_tree.specs.declared.outcome.Outcome.{Outcome}
 use Rattle.input_space.specs.Agreement.{Agrees}
+use Rattle.input_space.specs.Tasks.{Task, NoneAgrees}
 use Rattle.grade_top.specs.Words.{Command, Grade, Run, GradeWords, RunWords}
 use Rattle.grade_top.specs.Files.{files_of}
 use Rattle.source_files.specs.Texts.{AllFit, Tells}
-use Rattle.grade_top.specs.Tasks.{Task, NoneAgrees}
 use Rattle.grade_top.specs.Decisions.{graded_step, run_step}
 use Rattle.grade_top.specs.Ends.{text_of_outcome}
 use Rattle.grade_top.specs.Ends as ends

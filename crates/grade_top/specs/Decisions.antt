@@ -15,73 +15,32 @@ use Rattle.mpy_tree.specs.TypeSets.{only}
 use Rattle.mpy_tree.specs.Typings.{set_of}
 use Rattle.bounds_reader.specs.declared.bounds.Bounds.{Bounds}
 use Rattle.bounds_reader.specs.declared.params.Param.{Param}
-use Rattle.input_space.specs.Agreement.{EndsSomewhere}
 use Rattle.input_space.specs.Cases.{SpellsCase}
 use Rattle.input_space.specs.Inputs.{param_type, is_within}
+use Rattle.input_space.specs.Tasks.{HasWanted, Task, entry_line}
 use Rattle.task_read.specs.Sources.{Typed, bounds_step, program_step, entry_at, refusal}
 use Rattle.task_read.specs.Steps.{Step, ◌>>=◌, done, refuse_if}
-use Rattle.grade_top.specs.Answers.{Answer, IsAnswer}
-use Rattle.literal_rules.specs.Corrections.{AreTakenFor}
-use Rattle.literal_rules.specs.RulesForm.{Rule, IsRules}
-use Rattle.grade_top.specs.Tasks.{Task, IsTooLarge, entry_line}
+use Rattle.task_read.specs.TaskSteps as task
 use Rattle.grade_top.specs.Words.{RunWords}
 
 -- texts that aren't those of the command's files
 abbrev pub never : {A : Type 0} → Step A
 never = record { gives = λ a. ⊥; refuses = λ r. ⊥ }
 
--- RULES
-
--- rules of the form that is read so far, and a program that they are taken for
-pub record AreTaken (text : List ℕ) (p : List Routine) (rules : List Rule) : Type 0 where
-  pub read : IsRules text rules
-  pub taken : AreTakenFor rules p
-
-abbrev pub rules_step : List ℕ → List Routine → Step (List Rule)
-rules_step text p = record {
-  gives = AreTaken text p;
-  refuses = λ r.
-      ((rules : List Rule) → AreTaken text p rules → ⊥)
-      × (r ≡ refusal source.Rules cause.NotYet 1);
-}
-
 -- GRADE
-
--- the type of what the entry gives
-abbrev pub result_type : List ℕ → Typed → Option Ty
-result_type entry p = only (results (set_of p.types) (called p.program entry))
-
-abbrev pub task : Bounds → Typed → Typed → List Rule → Task
-task b r s rules = record {
-  bounds = b;
-  reference = r.program;
-  reference_types = r.types;
-  submission = s.program;
-  submission_types = s.types;
-  rules = rules;
-}
 
 -- the task that the texts spell
 abbrev pub task_step : List (List ℕ) → Step Task
-task_step (bounds ∷ reference ∷ submission ∷ rules ∷ []) = do
-  b ← bounds_step bounds
-  r ← program_step source.Reference reference (entry_at b)
-  s ← program_step source.Submission submission (entry_at b)
-  e ← rules_step rules s.program
-  t ← refuse_if (result_type b.entry r ≢ result_type b.entry s)
-      (refusal source.Submission cause.ResultType (entry_line (task b r s e) s.program))
-  done (task b r s e)
+task_step (bounds ∷ reference ∷ submission ∷ rules ∷ []) =
+    task.task_step bounds reference submission rules
 task_step _ = never
 
--- a task that nothing refuses: it has no more rewritings and inputs than are tried, and its
--- reference ends on some input
+-- a task that nothing refuses: its reference gives a value on some input
 abbrev pub graded_step : List (List ℕ) → Step Task
 graded_step texts = do
   k ← task_step texts
-  small ← refuse_if (IsTooLarge k)
-      (refusal source.Submission cause.TooLarge (entry_line k k.submission))
-  some ← refuse_if (EndsSomewhere k.bounds k.reference → ⊥)
-      (refusal source.Reference cause.EmptyReference (entry_line k k.reference))
+  some ← refuse_if (HasWanted k → ⊥)
+      (refusal source.Reference cause.EmptyReference (entry_line k.bounds k.reference))
   done k
 
 -- RUN

@@ -14,10 +14,11 @@ use Rattle.grade_top.specs.Words.{Command, Grade, Run, Nothing}
 use Rattle.grade_top.specs.Files.{files_of, word_of}
 use Rattle.source_files.specs.Fetches.{FilesKept}
 use Rattle.source_files.specs.Texts.{AllFit, AreHeld, IsTooLong, TookTooMuch}
-use Rattle.grade_top.specs.Tasks.{Task}
-use Rattle.grade_top.specs.Answers.{Answer, Correct, Corrected, NoCorrection, IsAnswer}
+use Rattle.input_space.specs.Tasks.{Task}
+use Rattle.feedback_text.specs.Answers.{Answer, Correct, Corrected, NoCorrection, IsAnswer}
+use Rattle.feedback_text.specs.Reports.{report_of}
 use Rattle.grade_top.specs.Decisions.{graded_step, run_step}
-use Rattle.grade_top.specs.Reports.{usage_text, report_of, run_text, value_refusal_text}
+use Rattle.grade_top.specs.Reports.{usage_text, run_text, value_refusal_text}
 
 -- What comes of a command: an answer to a task, the end of a run, a refusal, or words that ask for
 -- nothing.

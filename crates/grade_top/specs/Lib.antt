@@ -1,6 +1,4 @@
-pub mod Answers
 pub mod Claims
-pub mod Comparing
 pub mod Decisions
 pub mod Ends
 pub mod Files
@@ -8,8 +6,5 @@ pub mod OneOutcome
 pub mod Outcomes
 pub mod Reports
 pub mod Requests
-pub mod Searches
-pub mod Tasks
-pub mod Verdicts
 pub mod Views
 pub mod Words

@@ -2,10 +2,10 @@
 use Rattle.std.specs.Prelude.{◌≡◌, ℕ, List}
 use Rattle.mpy_tree.specs.declared.outcome.Outcome as run
 use Rattle.mpy_tree.specs.declared.refusal.Refusal.{Refusal}
+use Rattle.input_space.specs.Tasks.{Task}
 use Rattle.source_files.specs.Texts.{AllFit}
 use Rattle.grade_top.specs.Decisions.{run_step, task_step}
 use Rattle.grade_top.specs.Ends.{IsDecided, IsFirstRefusal, Outcome, Refused}
-use Rattle.grade_top.specs.Tasks.{Task}
 use Rattle.grade_top.specs.Words.{Command, RunWords}
 
 -- the texts of `grade` spell one task at most

@@ -1,19 +1,29 @@
 -- What is written of a command, as the code answers it.
 use Rattle.std.specs.Prelude.{◌≡◌, ℕ, List}
 use Rattle.grade_io.specs.Devices.{ShelfState}
+use Rattle.grade_io.specs.declared.status.Status.{Status}
+use Rattle.input_space.specs.TaskParts.{task_with}
+use Rattle.input_space.specs.Tasks.{Task}
+use Rattle.feedback_text.specs.declared.answer.Answer as code_answer
+use Rattle.feedback_text.specs.Answers.{Answer, IsAnswer}
+use Rattle.feedback_text.specs.AnswerViews.{IsReported, StandsFor}
 use Rattle.grade_top.specs.declared.grade.Graded.{Graded}
 use Rattle.grade_top.specs.declared.outcome.Report.{Report}
-use Rattle.grade_top.specs.Answers.{IsAnswer}
 use Rattle.grade_top.specs.Decisions.{graded_step}
-use Rattle.grade_top.specs.Ends.{ComesOfFiles, IsDecided, Outcome, status_of, text_of_outcome}
-use Rattle.grade_top.specs.Verdicts.{answer_of}
-use Rattle.grade_top.specs.Views.{task_of}
+use Rattle.grade_top.specs.Ends.{ComesOfFiles, IsDecided, Outcome, status_of, status_of_answer}
+use Rattle.grade_top.specs.Ends.{text_of_outcome}
 use Rattle.grade_top.specs.Words.{Command}
 
--- the texts spell this task, and this is its answer
-abbrev pub IsGradedSo : List (List ℕ) → Graded → Type 0
-IsGradedSo ts d =
-    (graded_step ts).gives (task_of d.task) × IsAnswer (task_of d.task) (answer_of (task_of d.task) d.answer)
+-- the texts spell this task, and this answer stands for its answer
+pub record IsGradedSo (ts : List (List ℕ)) (d : Graded) : Type 0 where
+  pub task : (graded_step ts).gives (task_with d.task)
+  pub reported : IsReported (task_with d.task) d.answer
+  pub answered : (a : Answer) → StandsFor (task_with d.task) d.answer a
+      → IsAnswer (task_with d.task) a
+
+-- the status is that of each answer for which the code's stands
+abbrev pub HasStatus : code_answer.Answer → Status → Type 0
+HasStatus d s = (k : Task) (a : Answer) → StandsFor k d a → s ≡ status_of_answer a
 
 -- the report is that of the outcome
 pub record Shows (c : Command) (o : Outcome) (r : Report) : Type 0 where

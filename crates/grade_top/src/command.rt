@@ -1,5 +1,5 @@
-//! A command, from its words to its status: files are fetched, what they say is decided, and the outcome
-//! is written.
+//! A command, from its words to its status: files are fetched, what they say is decided, and the
+//! outcome is written.
 ghost use Rattle.std.specs.Prelude.{◌≡◌, IfErr, IfOk, MatchResult, length};
 ghost use Rattle.grade_io.specs.Devices.{devices};
 ghost use Rattle.grade_io.specs.Says.{Says};

@@ -1,27 +1,26 @@
 //! The command `grade`.
 ghost use Rattle.std.specs.Prelude.{◌≡◌, length, MatchResult};
+ghost use Rattle.input_space.specs.TaskParts.{task_with};
 ghost use Rattle.source_files.specs.Fetches.{StopsAs};
 ghost use Rattle.source_files.specs.Texts.{AllFit};
 ghost use Rattle.source_files.specs.Views.{texts_of};
-ghost use Rattle.grade_top.specs.Decisions.{graded_step};
-ghost use Rattle.grade_top.specs.Ends.{status_of_answer};
-ghost use Rattle.grade_top.specs.Outcomes.{IsGradedSo, IsReport};
+ghost use Rattle.feedback_text.specs.declared.answer.Answer.{Answer as AnyAnswer};
+ghost use Rattle.feedback_text.specs.AnswerViews.{IsReported};
+ghost use Rattle.grade_top.specs.Decisions.{graded_step, task_step};
+ghost use Rattle.grade_top.specs.Outcomes.{HasStatus, IsGradedSo, IsReport};
 ghost use Rattle.grade_top.specs.Requests.{grade_of};
-ghost use Rattle.grade_top.specs.Verdicts.{answer_of};
-ghost use Rattle.grade_top.specs.Views.{task_of};
 ghost use Rattle.grade_top.specs.Words.{Grade};
 
-use crate::answer::{Answer, Verdict, find_verdict};
-use crate::entry::entry_line;
 use crate::outcome::Report;
-use crate::reading::read_task;
-use crate::report::report;
-use crate::task::Task;
 use crate::words::GradeWords;
+use feedback_text::{Answer, report};
+use grade_core::answer;
 use grade_io::Status;
+use input_space::Task;
 use mpy_tree::{Cause, Source};
 use source_files::{Stop, refused};
 use std::alloc::Global;
+use task_read::{entry_line, read_task};
 
 /// A task that nothing refuses, and its answer.
 #[derive(Drop)]
@@ -30,35 +29,48 @@ pub(crate) struct Graded {
     pub(crate) answer: Answer,
 }
 
+/// The task that the texts spell.
+fn read(alloc: Global, texts: &[Vec<u8>]) -> Result<Task, Stop>
+    requires four { length texts.now ≡ 4 }
+    requires fit { AllFit (texts_of texts.now) }
+    ensures { MatchResult result (λ t. (task_step (texts_of texts.now)).gives (task_with t))
+        (StopsAs (task_step (texts_of texts.now)).refuses) }
+{
+    let [bounds, reference, submission, rules] = texts else {
+        unreachable!();
+    };
+    Ok(read_task(alloc, bounds, reference, submission, rules)?)
+}
+
 /// Decides for the texts of `grade`.
-fn decide(alloc: Global, texts: &[Vec<u8>]) -> Result<Graded, Stop>
+fn decide(alloc: Global, texts: &[Vec<u8>], budget: u32) -> Result<Graded, Stop>
     requires four { length texts.now ≡ 4 }
     requires fit { AllFit (texts_of texts.now) }
     ensures { MatchResult result (IsGradedSo (texts_of texts.now))
         (StopsAs (graded_step (texts_of texts.now)).refuses) }
 {
-    let task = read_task(alloc, texts)?;
-    match find_verdict(alloc, &task)? {
-        Verdict::TooLarge => {
-            let line = entry_line(&task.submission.program, &task.bounds.entry);
-            Err(refused(Source::Submission, Cause::TooLarge, line))
-        }
-        Verdict::EmptyReference => {
-            let line = entry_line(&task.reference.program, &task.bounds.entry);
+    let task = read(alloc, texts)?;
+    let run = answer(alloc, &task, budget);
+    match run.answer {
+        Answer::EmptyReference => {
+            let line = entry_line(task.bounds(), task.reference());
             Err(refused(Source::Reference, Cause::EmptyReference, line))
         }
-        Verdict::Answered(answer) => Ok(Graded { task, answer }),
+        Answer::NoMemory => Err(Stop::NoMemory),
+        answer => Ok(Graded { task, answer }),
     }
 }
 
 /// The status of an answer that is written whole.
-fn status(task: &Task, answer: &Answer) -> Status
-    ensures { result ≡ status_of_answer (answer_of (task_of task.now) answer.now) }
+fn status(answer: &Answer) -> Status
+    ensures { HasStatus answer.now result }
 {
     match answer {
         Answer::Correct => Status::Correct,
         Answer::Corrected { .. } => Status::Corrected,
         Answer::NoCorrection { .. } => Status::NoCorrection,
+        Answer::EmptyReference => Status::Refused,
+        Answer::NoMemory => Status::NoMemory,
     }
 }
 
@@ -73,10 +85,10 @@ pub(crate) fn grade_report(
     ensures { MatchResult result (IsReport (Grade (grade_of words.now)) (texts_of texts.now))
         (StopsAs (graded_step (texts_of texts.now)).refuses) }
 {
-    let graded = decide(alloc, texts)?;
+    let graded = decide(alloc, texts, words.budget)?;
     let text = report(alloc, &graded.task, &graded.answer)?;
     Ok(Report {
-        status: status(&graded.task, &graded.answer),
+        status: status(&graded.answer),
         text,
     })
 }

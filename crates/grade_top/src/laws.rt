@@ -1,5 +1,5 @@
-//! Laws of what is graded and run: what the texts of a command spell, and what comes of them, is one
-//! thing.
+//! Laws of what is graded and run: what the texts of a command spell, and what comes of them, is
+//! one thing.
 ghost use Rattle.grade_top.specs.OneOutcome.{HaveOneRefusal, NotRefusedAndDecided, RunOnce};
 ghost use Rattle.grade_top.specs.OneOutcome.{SpellOneTask};
 

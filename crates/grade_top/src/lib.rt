@@ -6,28 +6,22 @@ ghost use Rattle.std.specs.String.{string_bytes};
 ghost use Rattle.grade_io.specs.Devices.{Rose, devices};
 ghost use Rattle.mpy_tree.specs.declared.outcome.Outcome.{Outcome as RunOutcome};
 ghost use Rattle.mpy_tree.specs.declared.refusal.Refusal.{Refusal};
+ghost use Rattle.input_space.specs.Tasks.{Task};
 ghost use Rattle.source_files.specs.Fetches.{CallsInOrder};
 ghost use Rattle.source_files.specs.Texts.{Tells};
 ghost use Rattle.grade_top.specs.Claims.{AreTold, IsGraded, IsSaid, IsUsage, NoFault};
 ghost use Rattle.grade_top.specs.Decisions.{graded_step, run_step};
 ghost use Rattle.grade_top.specs.Ends.{Ends, IsFirstRefusal, Ran, Refused};
 ghost use Rattle.grade_top.specs.Files.{files_of};
-ghost use Rattle.grade_top.specs.Tasks.{Task};
 ghost use Rattle.grade_top.specs.Words.{Asks, Command, Grade, GradeWords, Nothing, Run, RunWords};
 
-mod answer;
 mod command;
-mod comparing;
-mod entry;
 mod grade;
 mod laws;
-mod number_text;
 mod outcome;
-mod reading;
 mod report;
 mod run;
-mod search;
-mod task;
+mod typed;
 mod words;
 
 pub use grade_io::{Status, status_number};
@@ -37,8 +31,8 @@ use std::alloc::Global;
 
 /// Answers the words that follow the program's name.
 ///
-/// The files of a command are fetched in order and read, and what they decide is written: by `grade`
-/// the cheapest correction of a submission, by `run` what a program gives on values. Until
+/// The files of a command are fetched in order and read, and what they decide is written: by
+/// `grade` the cheapest correction of a submission, by `run` what a program gives on values. Until
 /// certificates are built nothing is stored, and the words `CERT` and `BUDGET` have no effect.
 pub fn grade_top<S: Shelf, K: Sink>(
     alloc: Global,

@@ -1,5 +1,6 @@
 //! The command `run`.
-ghost use Rattle.std.specs.Prelude.{◌≡◌, ◌≢◌, ◌≤◌, ◌∷◌, ◌++◌, [], length, map, MatchOption, MatchResult, OnOk};
+ghost use Rattle.std.specs.Prelude.{◌≡◌, ◌≢◌, ◌≤◌, ◌∷◌, ◌++◌, [], length, map, MatchOption};
+ghost use Rattle.std.specs.Prelude.{MatchResult, OnOk};
 ghost use Rattle.mpy_tree.specs.declared.value.Value.{Value as AnyValue};
 ghost use Rattle.std.specs.String.{string_bytes};
 ghost use Rattle.source_files.specs.Fetches.{StopsAs};
@@ -11,8 +12,8 @@ ghost use Rattle.grade_top.specs.Requests.{run_of};
 ghost use Rattle.grade_top.specs.Words.{Run};
 
 use crate::outcome::Report;
-use crate::reading::read_typed;
 use crate::report::run_text;
+use crate::typed::read_typed;
 use crate::words::RunWords;
 use bounds_reader::Param;
 use grade_io::Status;

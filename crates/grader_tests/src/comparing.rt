@@ -11,6 +11,53 @@ macro_rules! bounds {
     };
 }
 
+/// Tasks whose submission is mended or isn't, and what is written.
+const MENDED: [(&str, &str, &str, &str, &str); 4] = [
+    (
+        bounds!("param x int -5..5\n"),
+        "def f(x):\n    return x + 2\n",
+        "def f(x):\n    if x < 0:\n        return x + 2\n    return x + 1\n",
+        "rule more: $n => $n + 1\nsay 'on line {line}, for {cost}: {new} and not {old}'\n",
+        "cost 1\nfails f(0): gives 1, wanted 2\nline 4 [more, 1]: on line 4, for 1: 1 + 1 and not 1\nprogram\ndef f(x):\n    if x < 0:\n        return x + 2\n    return x + (1 + 1)\n",
+    ),
+    (
+        bounds!("param v list 1..3 of 0..2\n"),
+        "def f(v):\n    m = v[0]\n    for x in v:\n        if x > m:\n            m = x\n    return m\n",
+        "def f(v):\n    m = v[0]\n    for x in v:\n        if x < m:\n            m = v[0]\n    return m\n",
+        "rule side cost 2: $a0 < $a1 => $a0' {<=, >} $a1'\nrule start: $v = $a => $v = ?$a\n",
+        "cost 3\nfails f([0, 1]): gives 0, wanted 1\nline 4 [side, 2]: replace x < m by x > m\nline 5 [start, 1]: replace v[0] by x\nprogram\ndef f(v):\n    m = v[0]\n    for x in v:\n        if x > m:\n            m = x\n    return m\n",
+    ),
+    (
+        bounds!("param n int 0..3\n"),
+        "def f(n):\n    return n\n",
+        "def f(n):\n    return n + 1\n",
+        "rule place: return $a + $n => return $a\n",
+        "cost 1\nfails f(0): gives 1, wanted 0\nline 2 [place, 1]: replace n + 1 by n\nprogram\ndef f(n):\n    return n\n",
+    ),
+    (
+        bounds!("param n int 0..3\n"),
+        "def f(n):\n    return n * n\n",
+        "def f(n):\n    return n + 1\n",
+        "rule lit: $n => {0, 2, 3}\n",
+        "no correction\nfails f(0): gives 1, wanted 0\n",
+    ),
+];
+
+#[test]
+fn submissions_are_mended(rt: HostRuntime) -> Result<(), Fail> {
+    for (bounds, reference, submission, rules, wanted) in &MENDED {
+        let texts = Texts {
+            bounds: *bounds,
+            reference: *reference,
+            submission: *submission,
+            rules: *rules,
+        };
+        let (_, written) = graded(rt.alloc(), texts)?;
+        assert_eq!(rt; written.as_str(), *wanted, "of {submission}");
+    }
+    Ok(())
+}
+
 /// Bounds with two programs that agree.
 const AGREE: [(&str, &str, &str); 9] = [
     (
@@ -134,7 +181,7 @@ fn programs_differ(rt: HostRuntime) -> Result<(), Fail> {
 }
 
 /// Tasks that are refused behind their programs: a task, its rules, and what is written.
-const REFUSED: [(&str, &str, &str, &str, &str); 9] = [
+const REFUSED: [(&str, &str, &str, &str, &str); 8] = [
     (
         bounds!("param x int -5..5\n"),
         "def f(x):\n    return x\n",
@@ -146,29 +193,22 @@ const REFUSED: [(&str, &str, &str, &str, &str); 9] = [
         bounds!("param x int -5..5\n"),
         "def f(x):\n    return x\n",
         "def f(x):\n    return x > 0\n",
-        "\n",
-        "refused rules.eml line 1: NotYet\n",
+        "# no rule\n",
+        "refused sub.py line 1: ResultType\n",
     ),
     (
-        bounds!("param x int -5..5\n"),
+        bounds!("param x int 4..4\n"),
         "def f(x):\n    return x\n",
-        "def f(x):\n    y = 1\n    return x\n",
-        "rule lit cost 1: $n => {2}\n",
-        "refused rules.eml line 1: NotYet\n",
+        "\ndef f(x):\n    return 1 + 1 + 1 + 1 + 1 + 1 + 1 + 1 + 1 + 1 + 1 + 1 + 1 + 1 + 1 + 1 + 1 + 1 + 1 + 1\n",
+        "rule lit: $n => {2, 3}\n",
+        "refused sub.py line 2: TooLarge\n",
     ),
     (
-        bounds!("param x int -5..5\n"),
-        "def f(x):\n    return x\n",
-        "def f(x):\n    return -x\n",
-        "rule lit cost 1: $n => {2}\n",
-        "refused rules.eml line 1: NotYet\n",
-    ),
-    (
-        bounds!("param p bool\nparam q bool\n"),
-        "def f(p, q):\n    return 1\n",
-        "def f(p, q):\n    return 2\n",
-        "rule lit cost 1: $n => {1}\n",
-        "refused rules.eml line 1: NotYet\n",
+        bounds!("param x int 4..4\n"),
+        "def f(x):\n    return y\n",
+        "def f(x):\n    return 1\n",
+        "rule lit: $n => $a\n",
+        "refused ref.py line 2: Name\n",
     ),
     (
         "width 16\nturns 4\ndepth 4\ncap 4\nentry f\nparam x int 0..999\nparam y int 0..1000\n",

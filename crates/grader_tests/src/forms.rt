@@ -104,31 +104,54 @@ fn bounds_are_read(rt: HostRuntime) -> Result<(), Fail> {
     Ok(())
 }
 
-/// Texts of rules, each with whether it is of the form.
-const RULES: [(&str, bool); 14] = [
-    ("", true),
+/// Texts of rules, each with what is written for a right submission.
+const RULES: [(&str, &str); 13] = [
+    ("", "correct\n"),
     (
         "rule lit cost 1: $n => {1, 3}\nrule if cost 9: $n => {2147483647}\n",
-        true,
+        "correct\n",
     ),
     (
         "rule lit cost 1: $n => {1, 3}\nrule lit cost 9: $n => {2147483647}\n",
-        false,
+        "refused rules.eml line 2: RuleTwice\n",
     ),
-    ("rule lit cost 0: $n => {1, 3}\n", false),
-    ("rule lit cost 10: $n => {1, 3}\n", false),
-    ("rule lit cost 1: $n => {2147483648}\n", false),
-    ("rule lit cost 1: $n => {}\n", false),
-    ("rule lit cost 1: $n => {1,3}\n", false),
-    ("rule lit cost 1: $n => {1, }\n", false),
-    ("rule lit cost 1: $n => {01}\n", false),
-    ("rule lit cost 1: $n => 1\n", false),
-    ("rule lit cost 1: $n => {1, 3}", false),
     (
-        "rule a2345678901234567890123456789012345678901 cost 1: $n => {1}\n",
-        false,
+        "rule lit cost 0: $n => {1, 3}\n",
+        "refused rules.eml line 1: Limit\n",
     ),
-    ("\n", false),
+    (
+        "rule lit cost 10: $n => {1, 3}\n",
+        "refused rules.eml line 1: Limit\n",
+    ),
+    (
+        "rule lit: $n => {2147483648}\n",
+        "refused rules.eml line 1: Token\n",
+    ),
+    (
+        "rule lit cost 1: $n => {}\n",
+        "refused rules.eml line 1: Syntax\n",
+    ),
+    ("rule lit cost 1: $n => {1,3}", "correct\n"),
+    (
+        "rule lit cost 1: $n => {1, }\n",
+        "refused rules.eml line 1: Syntax\n",
+    ),
+    (
+        "rule lit: $n => $a\n",
+        "refused rules.eml line 1: RuleMeta\n",
+    ),
+    (
+        "rule lit: $n => $n' + 1\n",
+        "refused rules.eml line 1: RulePrime\n",
+    ),
+    (
+        "\n\nrule lit: $a => g($a)\n",
+        "refused rules.eml line 3: Name\n",
+    ),
+    (
+        "rule lit: $a => len($a, 1)\n",
+        "refused rules.eml line 1: Arity\n",
+    ),
 ];
 
 /// What is written for a right submission with these rules.
@@ -144,17 +167,9 @@ fn written_with(alloc: Global, rules: &str) -> Result<String, Fail> {
 
 #[test]
 fn rules_are_read(rt: HostRuntime) -> Result<(), Fail> {
-    for (rules, is_of_form) in &RULES {
-        let wanted = if *is_of_form {
-            "correct\n"
-        } else {
-            "refused rules.eml line 1: NotYet\n"
-        };
-        assert_eq!(rt;
-            written_with(rt.alloc(), *rules)?.as_str(),
-            wanted,
-            "of {rules}"
-        );
+    for (rules, wanted) in &RULES {
+        let written = written_with(rt.alloc(), *rules)?;
+        assert_eq!(rt; written.as_str(), *wanted, "of {rules}");
     }
     Ok(())
 }

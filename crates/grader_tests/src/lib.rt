@@ -19,6 +19,8 @@ mod requests;
 #[cfg(test)]
 mod runs;
 #[cfg(test)]
+mod samples;
+#[cfg(test)]
 mod slow;
 #[cfg(test)]
 mod words;

@@ -1,23 +1,28 @@
--- the task that was read is what the search needs, and is refused for its verdict alone
+-- the answer is right, or the reference gives no value
+use Rattle.std.proofs.Common.{◌≡◌, ap, sym, subst}
+use Rattle.mpy_tree.specs.View.{routines_of}
+use Rattle.bounds_reader.specs.declared.bounds.Bounds.{Bounds}
+use Rattle.input_space.specs.TaskParts.{task_with}
 use Rattle.source_files.specs.Views.{texts_of}
-use Rattle.grade_top.specs.Views.{task_of}
-use Rattle.grade_top.proofs.DecidingLaws.{empty_reference, graded_given, sound_task, too_large}
+use Rattle.grade_core.specs.Runs.{IsRight}
+use Rattle.grade_top.proofs.DecidingLaws.{empty_reference, given_reported, given_wanted, graded_given, stands_right}
 use Rattle.grade_top.proofs.grade.decide.Goals as goal
-
-pub find_verdict-requires : goal.find_verdict-requires
-find_verdict-requires c = sound_task (texts_of c.args.texts.now) (task_of c.in_ok-task.task) c.in_ok-task.ensures
-
-pub returns-in-TooLarge : goal.returns-in-TooLarge
-returns-in-TooLarge c = rw (c.refused.ensures, c.entry_line-line.ensures)
-    (too_large (texts_of c.args.texts.now) (task_of c.in_ok-task.task) c.in_ok-task.ensures (rw c.in-TooLarge.is at c.in_ok-find_verdict.ensures))
 
 pub returns-in-EmptyReference : goal.returns-in-EmptyReference
 returns-in-EmptyReference c =
-    let verdict = rw c.in-EmptyReference.is at c.in_ok-find_verdict.ensures in
-    rw (c.refused-in-EmptyReference.ensures, c.entry_line-line-in-EmptyReference.ensures)
-    (empty_reference (texts_of c.args.texts.now) (task_of c.in_ok-task.task) c.in_ok-task.ensures verdict.0 verdict.1)
+    let k = task_with c.in_ok-task.task in
+    rw (c.refused.ensures, c.entry_line-line.ensures, c.bounds.ensures, c.reference.ensures)
+    (empty_reference (texts_of c.args.texts.now) k c.in_ok-task.ensures (rw c.in-EmptyReference.is at c.answer-run.ensures))
 
-pub returns-in-Answered : goal.returns-in-Answered
-returns-in-Answered c =
-    let verdict = rw c.in-Answered.is at c.in_ok-find_verdict.ensures in
-    (graded_given (texts_of c.args.texts.now) (task_of c.in_ok-task.task) c.in_ok-task.ensures verdict.small verdict.ends, verdict.answer)
+pub returns-in_default : goal.returns-in_default
+returns-in_default c =
+    let k = task_with c.in_ok-task.task in
+    let kept = c.answer-run.result.kept in
+    let d = c.answer-run.result.answer in
+    let some = c.in_default.not-EmptyReference in
+    let memory = c.in_default.not-NoMemory in
+    record {
+      task = graded_given (texts_of c.args.texts.now) k c.in_ok-task.ensures (given_wanted k kept d c.answer-run.ensures some memory);
+      reported = given_reported k kept d c.answer-run.ensures some memory;
+      answered = λ a stands. stands_right k kept d a c.answer-run.ensures stands;
+    }
