@@ -3,8 +3,9 @@
 
     MODEL=PATH tests/compare.py KIND SEED COUNT [--program PROGRAM] [--try] [--first NUMBER] [--stage STAGE]
 
-KIND is `run` for random programs of every form on random inputs, `grade` for random pairs of such programs, or
-`formulas` for formulas that are corrected by rules, and for words and files with something wrong. MODEL is the path of
+KIND is `run` for random programs of every form on random inputs, `grade` for random pairs of such programs, `rules` for
+such pairs with rules by which the submission may be mended, or `formulas` for formulas that are corrected by rules, and
+for words and files with something wrong. MODEL is the path of
 the model's command line; its modules lie beside it. Each request is made from the kind, the seed and its own number, so
 `--first NUMBER` with COUNT 1 repeats one. The model says of each answer whether it is one of those that are allowed,
 since which failing input is shown, and which of several cheapest corrections, is open. Some requests stand at the edge
@@ -23,9 +24,11 @@ import tempfile
 
 import formula_requests
 import program_requests
+import rule_requests
 from edge_requests import EdgeRequest
 
-KINDS = {'run': program_requests.a_run, 'grade': program_requests.a_pair, 'formulas': formula_requests.a_request}
+KINDS = {'run': program_requests.a_run, 'grade': program_requests.a_pair, 'formulas': formula_requests.a_request,
+         'rules': rule_requests.a_request}
 CRATE = os.path.join(os.path.dirname(os.path.realpath(__file__)), '../crates/grader_cli')
 BATCH = 100
 
@@ -190,7 +193,7 @@ def main():
     parser.add_argument('--program', default=os.path.join(CRATE, 'out/grader_cli'))
     parser.add_argument('--try', action='store_true', dest='tried', help='run the sources by `rt try` instead')
     parser.add_argument('--first', type=int, default=0)
-    parser.add_argument('--stage', type=int, default=4, help='how far the program is built, as the model counts it')
+    parser.add_argument('--stage', type=int, default=6, help='how far the program is built, as the model counts it')
     asked = parser.parse_args()
     path = os.environ.get('MODEL')
     if not path:
