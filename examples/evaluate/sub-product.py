@@ -1,0 +1,5 @@
+def evaluate(poly, x):
+    total = 1
+    for i in range(len(poly)):
+        total = total * (poly[i] * x ** i)
+    return total

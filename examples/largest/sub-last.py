@@ -1,0 +1,6 @@
+def largest(v):
+    best = 0
+    for x in v:
+        if x > best:
+            best = x
+    return x

@@ -1,0 +1,6 @@
+def power(base, exp):
+    result = 1
+    while exp > 0:
+        result = base * base
+        exp = exp - 1
+    return result

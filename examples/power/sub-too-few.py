@@ -1,0 +1,5 @@
+def power(base, exp):
+    result = 1
+    for i in range(1, exp):
+        result *= base
+    return result
