@@ -1,0 +1,35 @@
+//! Functions whose bodies are weighed.
+ghost use Rattle.std.specs.Prelude.{◌≡◌, ◌*◌, ◌≤◌, ◌^◌};
+ghost use Rattle.tree_weights.specs.Weights.{locals_weight};
+
+use crate::locals::locals_weight;
+use crate::program::TypedProgram;
+
+/// A function, by its number, whose calls may go so many levels deeper, and what a statement of it
+/// weighs.
+#[derive(Drop)]
+pub struct Frame<'a> {
+    pub program: TypedProgram<'a>,
+    pub number: usize,
+    pub levels: u32,
+    pub step: u128,
+    ghost step_is: { step ≡ 2 * locals_weight program.limits.now number program.facts.facts.now },
+    ghost step_small: { step ≤ 2 ^ 80 },
+}
+
+impl<'a> Frame<'a> {
+    /// The function of this number.
+    pub fn new(program: TypedProgram<'a>, number: usize, levels: u32) -> Frame<'a>
+        ensures program { result.program ≡ program.entry }
+        ensures number { result.number ≡ number }
+        ensures levels { result.levels ≡ levels }
+    {
+        let step = 2 * locals_weight(program.limits, number, program.facts.facts);
+        Frame {
+            program,
+            number,
+            levels,
+            step,
+        }
+    }
+}

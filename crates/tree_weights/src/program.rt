@@ -1,0 +1,55 @@
+//! Weighted programs with the types of their names, and limits.
+ghost use Rattle.std.specs.Prelude.{◌≡◌, option_map};
+ghost use Rattle.mpy_tree.specs.Builtins.{builtin_of};
+ghost use Rattle.tree_weights.specs.Functions.{function_of};
+ghost use Rattle.tree_weights.specs.RootTypes.{called_type, result_type};
+ghost use Rattle.tree_weights.specs.Views.{found_seen, functions_in, scope_in};
+
+use choice_tree::WFunc;
+use mpy_scopes::builtin_gives;
+use mpy_tree::{Builtin, Limits, Name, Ty};
+use mpy_types::{FactList, Known};
+
+/// The functions of a weighted program, the facts that give the types of names, and the limits of
+/// a run.
+#[derive(Clone, Copy, Drop)]
+pub struct TypedProgram<'a> {
+    pub funcs: &'a [WFunc],
+    pub facts: FactList<'a>,
+    pub limits: &'a Limits,
+}
+
+/// A function with its number.
+#[derive(Clone, Copy, Drop)]
+pub struct Found<'a> {
+    pub number: usize,
+    pub func: &'a WFunc,
+}
+
+impl<'a> TypedProgram<'a> {
+    /// The first function of a name.
+    pub fn find(&self, f: &Name) -> Option<Found<'a>>
+        ensures { option_map found_seen result ≡ function_of (functions_in self.now) f.now }
+    {
+        for (number, func) in self.funcs.iter().enumerate() {
+            if f.is(&func.name) {
+                return Some(Found { number, func });
+            }
+        }
+        None
+    }
+
+    /// The type that a call of a name gives.
+    pub fn call_type(&self, f: &Name) -> Option<Ty>
+        ensures { result ≡ called_type (builtin_of f.now) (result_type (scope_in self.now 0)
+            (function_of (functions_in self.now) f.now)) }
+    {
+        match Builtin::of(f.bytes()) {
+            Some(b) => Some(builtin_gives(b)),
+            None => match self.find(f) {
+                None => None,
+                Some(found) => self.facts.result(found.number).only(),
+            },
+        }
+    }
+}
