@@ -1,12 +1,13 @@
 -- The least line and the places of all functions.
-use Rattle.std.proofs.Common.{◌≡◌, ℕ, zero, suc, ◌+◌, ◌<◌, ◌≤◌, List, [], ◌∷◌, ◌++◌, length, map, drop, take, get_or, slice_get, Option, None, Some, Result, Ok, Err, refl, sym, ap, ◌∙◌}
+use Rattle.std.proofs.Common.{◌≡◌, ℕ, zero, suc, ◌+◌, ◌<◌, ◌≤◌, List, [], ◌∷◌, ◌++◌, length, map, drop, take, get_or, slice_get, Option, None, Some, Result, Ok, Err, refl, sym, ap, ◌∙◌, arith}
 use Rattle.std.proofs.lemmas.List.{at_drop_more, at_drop_all}
 use Rattle.std.proofs.lemmas.List.Concat.{flat_map-cons}
 use Rattle.std.specs.List.{flat_map}
 use Rattle.mpy_tree.specs.Leasts.{lesser, least}
 use Rattle.mpy_tree.specs.declared.tree.Func.{Func}
+use Rattle.mpy_tree.specs.Syntax.{Routine}
 use Rattle.mpy_tree.specs.View.{block_of, routine_of}
-use Rattle.mpy_limits.specs.Limits.{limit_lines, nth_or_left, routine_lines, statements}
+use Rattle.mpy_limits.specs.Limits.{all_statements, limit_lines, nth_or_left, routine_lines, statements}
 use Rattle.mpy_tree.proofs.Leasts.{lesser_of_nil, lesser_of_append}
 use Rattle.mpy_limits.proofs.Lines.{two_pieces}
 use Rattle.mpy_limits.proofs.StatementPlaces.{behind_first, found_in_first}
@@ -48,6 +49,38 @@ behind_next_function fs i f n left h is e =
 
 pub behind_all_functions : (fs : List Func) (i n : ℕ) → length fs ≤ i → place_in_rest (drop i fs) n ≡ Err n
 behind_all_functions fs i n h = at_drop_all (λ qs. place_in_rest qs n) fs i h
+
+-- a place behind the end is behind all members
+pub left_behind : (xs : List ℕ) (n left : ℕ) → Err left ≡ nth_or_left xs n → n ≡ left + length xs
+left_behind [] n left e = let same : left ≡ n = cc in omega (arith, same)
+left_behind (x ∷ xs) zero left e = cc
+left_behind (x ∷ xs) (suc n) left e = omega (arith, left_behind xs n left e)
+
+pub place_within : (xs : List ℕ) (n line : ℕ) → Ok line ≡ nth_or_left xs n → n < length xs
+place_within [] n line e = cc
+place_within (x ∷ xs) zero line e = omega arith
+place_within (x ∷ xs) (suc n) line e = omega (arith, place_within xs n line e)
+
+-- a program within the limits has 200 statements at most
+none_left : (xs : List ℕ) (n : ℕ) → take 1 (drop n xs) ≡ [] → length xs ≤ n
+none_left [] n e = omega arith
+none_left (x ∷ xs) zero e = cc
+none_left (x ∷ xs) (suc n) e = omega (arith, none_left xs n e)
+
+no_front : (xs ys : List ℕ) → xs ++ ys ≡ [] → xs ≡ []
+no_front [] ys e = refl
+no_front (x ∷ xs) ys e = cc
+
+no_back : (xs ys : List ℕ) → xs ++ ys ≡ [] → ys ≡ []
+no_back [] ys e = e
+no_back (x ∷ xs) ys e = cc
+
+pub few_statements : (rs : List Routine) → limit_lines rs ≡ [] → length (all_statements rs) ≤ 200
+few_statements rs small =
+    let functions = map (λ r. r.line) (take 1 (drop 8 rs)) in
+    let over = take 1 (drop 200 (all_statements rs)) in
+    let headers = flat_map routine_lines rs in
+    none_left (all_statements rs) 200 (no_back functions over (no_front (functions ++ over) headers small))
 
 -- the member at a place, as a list
 pub member_at : (xs : List ℕ) (n line : ℕ) → Ok line ≡ nth_or_left xs n → take 1 (drop n xs) ≡ line ∷ []

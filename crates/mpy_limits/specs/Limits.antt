@@ -99,6 +99,10 @@ abbrev mutual
   statements_last no_block = []
   statements_last (a_block body) = statements body
 
+-- those of all functions
+abbrev pub all_statements : List Routine → List ℕ
+all_statements rs = flat_map (λ r. statements r.body) rs
+
 -- the member at a place, counted from 0, or how far the place is behind the end
 abbrev pub nth_or_left : List ℕ → ℕ → Result ℕ ℕ
 nth_or_left [] n = Err n

@@ -3,4 +3,4 @@
 
 mod limits;
 
-pub use limits::limit_line;
+pub use limits::{limit_line, statements_count};

@@ -1,5 +1,5 @@
 //! How large a program may be, and the first line on which one is larger.
-ghost use Rattle.std.specs.Prelude.{◌≡◌, ◌++◌, ◌∷◌, Some, drop, length, map, nat_lt, take};
+ghost use Rattle.std.specs.Prelude.{◌≡◌, ◌<◌, ◌++◌, ◌∷◌, IfNone, IfSome, Some, drop, length, map, nat_lt, take};
 ghost use Rattle.std.specs.List.{flat_map, list_any};
 ghost use Rattle.mpy_tree.specs.Leasts.{lesser, least};
 ghost use Rattle.mpy_tree.specs.NameLengths.{is_long};
@@ -9,7 +9,8 @@ ghost use Rattle.mpy_tree.specs.View.{term_of, terms_of};
 ghost use Rattle.mpy_tree.specs.Trees.{most_depth, no_trees};
 ghost use Rattle.mpy_tree.specs.Shapes.{shape_and, shapes};
 ghost use Rattle.mpy_tree.specs.Sites.{all_nodes, end_nodes};
-ghost use Rattle.mpy_limits.specs.Limits.{action_lines, arms_lines, block_lines, deeper, depth};
+ghost use Rattle.mpy_limits.specs.Limits.{action_lines, all_statements, arms_lines};
+ghost use Rattle.mpy_limits.specs.Limits.{block_lines, deeper, depth};
 ghost use Rattle.mpy_limits.specs.Limits.{end_is_large, has_long, is_large, is_large_header};
 ghost use Rattle.mpy_limits.specs.Limits.{is_long_node, last_lines, limit_lines, line_if};
 ghost use Rattle.mpy_limits.specs.Limits.{nth_or_left, routine_lines, statements, statements_in};
@@ -388,6 +389,18 @@ fn functions_limit(found: Option<u32>, funcs: &[Func]) -> Option<u32>
         found = function_limit(found, f);
     }
     found
+}
+
+/// How many statements a program has, an `if` with all its arms being one; none where there are
+/// more than a program may have.
+pub fn statements_count(program: &Prog) -> Option<u32>
+    ensures found { IfSome result (λ n. n ≡ length (all_statements (routines_of program.now))) }
+    ensures none { IfNone result (200 < length (all_statements (routines_of program.now))) }
+{
+    match statement_of_functions(program.funcs.items.as_slice(), MAX_STATEMENTS) {
+        Ok(_) => None,
+        Err(left) => Some((MAX_STATEMENTS - left) as u32),
+    }
 }
 
 /// The first line on which a program passes a limit, if it does.
