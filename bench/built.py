@@ -1,4 +1,4 @@
-"""The program of bench/speed, proved and built in a copy of the crates that it uses.
+"""A program of this folder, as speed/ or grading/, proved and built in a copy of the crates that it uses.
 
 Its files end in `.txt`, since the gate takes each source file below the repository for one of a crate of its own.
 
@@ -11,8 +11,8 @@ import shutil
 import subprocess
 import sys
 
-NAME = 'speed'
 KIT = 'anyhow'
+SOLVER = ['bit_words', 'bit_graph', 'clause_base', 'cnf_build', 'derivation_check', 'sat_plain']
 
 
 def below(lines, names):
@@ -25,24 +25,23 @@ def below(lines, names):
 
 
 class Built:
-    def __init__(self, work):
+    def __init__(self, work, name='speed', uses=SOLVER):
         with open('crates.txt') as listed:
             lines = {line.split(':')[0]: line.split(':')[1].split() for line in listed if ':' in line and not line.startswith('#')}
-        uses = ['bit_words', 'bit_graph', 'clause_base', 'cnf_build', 'derivation_check', 'sat_plain']
         crates = below(lines, uses)
-        for name in crates:
-            shutil.copytree(os.path.join('crates', name), os.path.join(work, 'crates', name))
-        folder = os.path.join(work, 'crates', NAME)
-        shutil.copytree('bench/speed', folder)
+        for crate in crates:
+            shutil.copytree(os.path.join('crates', crate), os.path.join(work, 'crates', crate))
+        folder = os.path.join(work, 'crates', name)
+        shutil.copytree(os.path.join('bench', name), folder)
         for path in sorted(pathlib.Path(folder).rglob('*.txt')):
             path.rename(path.with_suffix(''))
         with open(os.path.join(work, 'crates.txt'), 'w') as out:
-            for name in crates:
-                out.write('%s: %s\n' % (name, ' '.join(lines[name])))
-            out.write('%s: %s %s\n' % (NAME, ' '.join(uses), KIT))
+            for crate in crates:
+                out.write('%s: %s\n' % (crate, ' '.join(lines[crate])))
+            out.write('%s: %s %s\n' % (name, ' '.join(uses), KIT))
         subprocess.run(['git', 'init', '-q', work], check=True)
         done = subprocess.run(['rt', 'run'], cwd=folder, stdout=subprocess.PIPE, stderr=subprocess.STDOUT, text=True)
-        self.program = os.path.join(folder, 'out', NAME)
+        self.program = os.path.join(folder, 'out', name)
         if done.returncode != 0 or not os.path.isfile(self.program):
             sys.exit(done.stdout[-4000:])
 
