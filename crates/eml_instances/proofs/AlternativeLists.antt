@@ -92,16 +92,17 @@ filter_joined f (x ∷ xs) ys = by_test (f x) refl (filter_joined f xs ys)
 -- what a rule's alternatives are, as far as its numbers were tried
 pub record Tried (σ : Scope) (f : Proposal → Bool) (m : MatchedRule) (before found : List
     Alternative)
-    (i : ℕ) : Type 0 where
+    (most i : ℕ) : Type 0 where
   pub listed : map (alternative_seen σ) before ++ filter f (proposals_of σ m)
       ≡ map (alternative_seen σ) found ++ filter f (drop i (proposals_of σ m))
   pub numbered : All (IsNumbered σ) found
   pub among : (ms : List MatchedRule) → In m ms → AllAmong ms before → AllAmong ms found
+  pub few : length before ≤ most → length found ≤ most
 
 pub none_tried : (σ : Scope) (f : Proposal → Bool) (m : MatchedRule) (before : List Alternative)
-    → All (IsNumbered σ) before → Tried σ f m before before 0
-none_tried σ f m before h =
-    record { listed = refl; numbered = h; among = λ ms i all. all }
+    (most : ℕ) → All (IsNumbered σ) before → Tried σ f m before before most 0
+none_tried σ f m before most h =
+    record { listed = refl; numbered = h; among = λ ms i all. all; few = λ h. h }
 
 one_numbered : (σ : Scope) (a : Alternative) → IsNumbered σ a → All (IsNumbered σ) (a ∷ [])
 one_numbered σ a h zero d below = h
@@ -116,17 +117,23 @@ pub one_tried : (σ : Scope) (f : Proposal → Bool) (m : MatchedRule)
     (before now : List Alternative) (v : Vec Alternative Global) (o : Option (Vec Alternative
     Global))
     (a : Alternative) (most i j : ℕ) (holds : Bool)
-    → Tried σ f m before now i → j ≡ suc i → matched_of a.matched.now ≡ m
+    → Tried σ f m before now most i → j ≡ suc i → matched_of a.matched.now ≡ m
     → slice_get (proposals_of σ m) i ≡ Some (alternative_seen σ a) → IsNumbered σ a
     → holds ≡ f (alternative_seen σ a) → o ≡ Some v → AddsIf o most holds now a
-    → Tried σ f m before v.items j
+    → Tried σ f m before v.items most j
 one_tried σ f m before now v o a most i j holds t e same at numbered h is adds =
     by_test holds refl
   where
-    put : v.items ≡ (if holds then now ++ a ∷ [] else now)
-    put = subst (λ x. AddsIf x most holds now a) is adds
+    added : AddsIf (Some v) most holds now a
+    added = subst (λ x. AddsIf x most holds now a) is adds
 
-    by_test : (b : Bool) → holds ≡ b → Tried σ f m before v.items j
+    put : v.items ≡ (if holds then now ++ a ∷ [] else now)
+    put = added.0
+
+    few : length before ≤ most → length v.items ≤ most
+    few h = added.1 (t.few h)
+
+    by_test : (b : Bool) → holds ≡ b → Tried σ f m before v.items most j
     by_test true y =
         let new : v.items ≡ now ++ a ∷ [] =
         put ∙ ap (λ x. if x then now ++ a ∷ [] else now) y in
@@ -138,6 +145,7 @@ one_tried σ f m before now v o a most i j holds t e same at numbered h is adds 
           numbered = rw new (All-append (IsNumbered σ) now (a ∷ []) t.numbered
               (one_numbered σ a numbered));
           among = λ ms i all. rw new (all_among ms now a (rw same i) (t.among ms i all));
+          few = few;
         }
     by_test false y =
         let new : v.items ≡ now = put ∙ ap (λ x. if x then now ++ a ∷ [] else now) y in
@@ -149,11 +157,12 @@ one_tried σ f m before now v o a most i j holds t e same at numbered h is adds 
               (sym new);
           numbered = rw new t.numbered;
           among = λ ms i all. rw new (t.among ms i all);
+          few = few;
         }
 
 pub too_many : (σ : Scope) (f : Proposal → Bool) (m : MatchedRule)
     (before now : List Alternative) (o : Option (Vec Alternative Global)) (a : Alternative)
-    (most i : ℕ) (holds : Bool) → Tried σ f m before now i
+    (most i : ℕ) (holds : Bool) → Tried σ f m before now most i
     → slice_get (proposals_of σ m) i ≡ Some (alternative_seen σ a)
     → holds ≡ f (alternative_seen σ a) → o ≡ None → AddsIf o most holds now a
     → most < length before + length (filter f (proposals_of σ m))
@@ -174,25 +183,32 @@ too_many σ f m before now o a most i holds t at h is adds =
     omega (arith, left, right, some, whole, x, y, most_now)
 
 pub all_tried : (σ : Scope) (f : Proposal → Bool) (m : MatchedRule)
-    (before found : List Alternative) (i : ℕ) → Tried σ f m before found i
+    (before found : List Alternative) (most i : ℕ) → Tried σ f m before found most i
     → length (proposals_of σ m) ≤ i
     → map (alternative_seen σ) found
     ≡ map (alternative_seen σ) before ++ filter f (proposals_of σ m)
-all_tried σ f m before found i t h =
+all_tried σ f m before found most i t h =
     all_passed f (map (alternative_seen σ) found) (proposals_of σ m)
     (map (alternative_seen σ) before ++ filter f (proposals_of σ m)) i h t.listed
 
 -- the alternatives by the rules that were looked at
 pub record Looked (σ : Scope) (f : Proposal → Bool) (ms : List MatchedRule)
-    (found : List Alternative) (i : ℕ) : Type 0 where
+    (found : List Alternative) (most i : ℕ) : Type 0 where
   pub listed : filter f (proposals_by σ ms)
       ≡ map (alternative_seen σ) found ++ filter f (proposals_by σ (drop i ms))
   pub numbered : All (IsNumbered σ) found
   pub among : AllAmong ms found
+  pub few : length found ≤ most
 
-pub none_looked : (σ : Scope) (f : Proposal → Bool) (ms : List MatchedRule) → Looked σ f ms [] 0
-none_looked σ f ms =
-    record { listed = refl; numbered = λ k d below. absurd (omega arith); among = tt }
+pub none_looked : (σ : Scope) (f : Proposal → Bool) (ms : List MatchedRule) (most : ℕ)
+    → Looked σ f ms [] most 0
+none_looked σ f ms most =
+    record {
+      listed = refl;
+      numbered = λ k d below. absurd (omega arith);
+      among = tt;
+      few = omega arith;
+    }
 
 in_at : (ms : List MatchedRule) (i : ℕ) (m : MatchedRule) → Some m ≡ slice_get ms i → In m ms
 in_at [] i m h = cc
@@ -209,9 +225,9 @@ by_rule σ f ms i j m e h =
 
 pub one_looked : (σ : Scope) (f : Proposal → Bool) (ms : List MatchedRule)
     (now : List Alternative) (v : Vec Alternative Global) (o : Option (Vec Alternative Global))
-    (m : MatchedRule) (most i j : ℕ) → Looked σ f ms now i → j ≡ suc i
+    (m : MatchedRule) (most i j : ℕ) → Looked σ f ms now most i → j ≡ suc i
     → Some m ≡ slice_get ms i → o ≡ Some v
-    → AddsTo o most σ m now (filter f (proposals_of σ m)) → Looked σ f ms v.items j
+    → AddsTo o most σ m now (filter f (proposals_of σ m)) → Looked σ f ms v.items most j
 one_looked σ f ms now v o m most i j t e h is adds =
     let g = alternative_seen σ in
     let x = subst (λ x. AddsTo x most σ m now (filter f (proposals_of σ m))) is adds in
@@ -223,11 +239,12 @@ one_looked σ f ms now v o m most i j t e h is adds =
           ∙ ap (λ xs. xs ++ filter f (proposals_by σ (drop j ms))) (sym x.0);
       numbered = x.1;
       among = x.2 ms (in_at ms i m h) t.among;
+      few = x.3 t.few;
     }
 
 pub too_many_looked : (σ : Scope) (f : Proposal → Bool) (ms : List MatchedRule)
     (now : List Alternative) (o : Option (Vec Alternative Global)) (m : MatchedRule) (most i : ℕ)
-    → Looked σ f ms now i → Some m ≡ slice_get ms i → o ≡ None
+    → Looked σ f ms now most i → Some m ≡ slice_get ms i → o ≡ None
     → AddsTo o most σ m now (filter f (proposals_of σ m))
     → most < length (filter f (proposals_by σ ms))
 too_many_looked σ f ms now o m most i t h is adds =
@@ -244,9 +261,9 @@ too_many_looked σ f ms now o m most i t h is adds =
     omega (arith, x, whole, a, b, y)
 
 pub all_looked : (σ : Scope) (f : Proposal → Bool) (ms : List MatchedRule)
-    (found : List Alternative) (i : ℕ) → Looked σ f ms found i → length ms ≤ i
+    (found : List Alternative) (most i : ℕ) → Looked σ f ms found most i → length ms ≤ i
     → map (alternative_seen σ) found ≡ filter f (proposals_by σ ms)
-all_looked σ f ms found i t h =
+all_looked σ f ms found most i t h =
     sym (t.listed
     ∙ ap (λ xs. map (alternative_seen σ) found ++ filter f (proposals_by σ xs)) (none_left ms i h)
     ∙ append-nil (map (alternative_seen σ) found))

@@ -28,12 +28,13 @@ abbrev pub AllAmong : List MatchedRule → List Alternative → Type 0
 AllAmong ms [] = ⊤
 AllAmong ms (a ∷ rest) = In (matched_of a.matched.now) ms × AllAmong ms rest
 
--- these are the proposals of the rules, in order; or there are more than `most`
+-- these are the proposals of the rules, in order, and at most `most`; or there are more
 abbrev pub AreAlternatives :
     Option (Vec Alternative Global) → ℕ → Scope → List MatchedRule → List Proposal → Type 0
 AreAlternatives None most σ ms ps = most < length ps
 AreAlternatives (Some v) most σ ms ps =
     (map (alternative_seen σ) v.items ≡ ps) × All (IsNumbered σ) v.items × AllAmong ms v.items
+    × (length v.items ≤ most)
 
 -- what one rule proposes, and whether it is of a type
 abbrev pub proposals_of : Scope → MatchedRule → List Proposal
@@ -52,9 +53,12 @@ AddsTo (Some v) most σ m before ps =
     (map (alternative_seen σ) v.items ≡ map (alternative_seen σ) before ++ ps)
     × All (IsNumbered σ) v.items
     × ((ms : List MatchedRule) → In m ms → AllAmong ms before → AllAmong ms v.items)
+    × (length before ≤ most → length v.items ≤ most)
 
 -- one alternative behind others, under a condition; or they are more than `most` together
 abbrev pub AddsIf :
     Option (Vec Alternative Global) → ℕ → Bool → List Alternative → Alternative → Type 0
 AddsIf None most holds before a = (holds ≡ true) × (most ≤ length before)
-AddsIf (Some v) most holds before a = v.items ≡ (if holds then before ++ a ∷ [] else before)
+AddsIf (Some v) most holds before a =
+    (v.items ≡ (if holds then before ++ a ∷ [] else before))
+    × (length before ≤ most → length v.items ≤ most)

@@ -15,7 +15,7 @@ loop-number-init g c =
     scope_of (g.K.Known.gives c.args.scope.now.known.now) c.args.scope.now.scopes.now.funcs.now
     c.args.scope.now.number in
     none_tried σ (has_type σ c.args.wanted.ty) (matched_of c.args.m.now) c.args.before.items
-    c.requires
+    c.args.wanted.most c.requires
 
 pub is_typed-requires-clause-numbered : goal.is_typed-requires-clause-numbered
 is_typed-requires-clause-numbered g c =
@@ -85,9 +85,10 @@ returns g c =
     let ended : length (proposals_of σ m) ≤ c.loop-number.number = omega (arith, many, all, same)
     in (
       all_tried σ (has_type σ c.args.wanted.ty) m c.args.before.items c.loop-number.found.items
-          c.loop-number.number c.loop-number.invariant ended,
+          c.args.wanted.most c.loop-number.number c.loop-number.invariant ended,
       c.loop-number.invariant.numbered,
       c.loop-number.invariant.among,
+      c.loop-number.invariant.few,
     )
 
 pub is_typed-requires-clause-locals : goal.is_typed-requires-clause-locals

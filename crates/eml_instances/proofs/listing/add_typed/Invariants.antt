@@ -12,4 +12,4 @@ invariant-loop-number g l =
     l.fn.scope.number)
     (has_type (scope_of (g.K.Known.gives l.fn.scope.known.now) l.fn.scope.scopes.now.funcs.now
     l.fn.scope.number) l.fn.wanted.ty)
-    (matched_of l.fn.m) l.initial.found.items l.found.items l.number
+    (matched_of l.fn.m) l.initial.found.items l.found.items l.fn.wanted.most l.number

@@ -17,7 +17,8 @@ loop-m-init g c =
     c.args.scope.now.number in
     let f = is_alternative σ (shape (term_of c.args.e.now)) in
     let ms = map matched_of c.args.matched.now in
-    subst (λ xs. Looked σ f ms xs 0) (sym c.new-found.ensures.items) (none_looked σ f ms)
+    subst (λ xs. Looked σ f ms xs c.args.most 0) (sym c.new-found.ensures.items)
+    (none_looked σ f ms c.args.most)
 
 pub loop-m-preserved : goal.loop-m-preserved
 loop-m-preserved g c =
@@ -71,8 +72,9 @@ returns g c =
     let ms = map matched_of c.args.matched.now in
     let same = mapped_length matched_of c.args.matched.now in
     let ended : length ms ≤ c.loop-m.m-index = omega (arith, same) in (
-      all_looked σ (is_alternative σ t) ms c.loop-m.found.items c.loop-m.m-index c.loop-m.invariant
-          ended,
+      all_looked σ (is_alternative σ t) ms c.loop-m.found.items c.args.most c.loop-m.m-index
+          c.loop-m.invariant ended,
       c.loop-m.invariant.numbered,
       c.loop-m.invariant.among,
+      c.loop-m.invariant.few,
     )

@@ -15,4 +15,4 @@ invariant-loop-m g l =
     l.fn.scope.number)
     (is_alternative (scope_of (g.K.Known.gives l.fn.scope.known.now)
     l.fn.scope.scopes.now.funcs.now l.fn.scope.number) (shape (term_of l.fn.e)))
-    (map matched_of l.fn.matched) l.found.items l.m-index
+    (map matched_of l.fn.matched) l.found.items l.fn.most l.m-index
