@@ -1,4 +1,5 @@
-//! The inputs within the bounds; cases: lists of values, as texts too; and what is graded.
+//! The inputs within the bounds; cases: lists of values, as texts too; what is graded; and the
+//! questions that a solver is asked about it.
 #![tactic(auto)]
 
 mod case;
@@ -9,6 +10,7 @@ mod pieces;
 mod places;
 mod printing;
 mod reading;
+mod session;
 mod task;
 mod within;
 
@@ -18,6 +20,7 @@ pub use laws::{inputs_fit, one_case, printed_is_read, some_input, within_is_memb
 pub use places::case_at;
 pub use printing::{print_case, print_value};
 pub use reading::read_case;
+pub use session::{Query, Session, Sessions};
 use std::alloc::AllocError;
 pub use task::{Task, TaskParts};
 pub use within::{in_bounds, is_within, param_type, signature};

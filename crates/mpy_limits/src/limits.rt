@@ -1,5 +1,6 @@
 //! How large a program may be, and the first line on which one is larger.
-ghost use Rattle.std.specs.Prelude.{◌≡◌, ◌<◌, ◌++◌, ◌∷◌, IfNone, IfSome, Some, drop, length, map, nat_lt, take};
+ghost use Rattle.std.specs.Prelude.{◌≡◌, ◌<◌, ◌++◌, ◌∷◌, IfNone, IfSome, drop, length, map};
+ghost use Rattle.std.specs.Prelude.{nat_lt, take};
 ghost use Rattle.std.specs.List.{flat_map, list_any};
 ghost use Rattle.mpy_tree.specs.Leasts.{lesser, least};
 ghost use Rattle.mpy_tree.specs.NameLengths.{is_long};
