@@ -10,11 +10,11 @@ use Rattle.source_files.specs.Files.{SourceFile}
 use Rattle.source_files.specs.Texts.{AllFit, AreHeld, Tells}
 use Rattle.feedback_text.specs.Answers.{Answer, Correct, Corrected, NoCorrection, IsAnswer}
 use Rattle.grade_top.specs.Claims.{AreTold, IsGraded, IsSaid, IsUsage, NoFault}
-use Rattle.grade_top.specs.Decisions.{graded_step, run_step}
+use Rattle.grade_top.specs.Decisions.{graded_step, run_step, sample_texts}
 use Rattle.grade_top.specs.Ends.{Answered, Ran, Refused, Unasked, Outcome, ComesOf, ComesOfFiles, Ends, IsDecided, IsDue, IsFirstRefusal, status_of, status_of_answer, text_of_outcome}
 use Rattle.grade_top.specs.Files.{files_of}
 use Rattle.input_space.specs.Tasks.{Task}
-use Rattle.grade_top.specs.Words.{Command, Grade, Run, Nothing, GradeWords, RunWords}
+use Rattle.grade_top.specs.Words.{Command, Grade, Run, Sample, Nothing, GradeWords, RunWords}
 use Rattle.grade_top.proofs.OneOutcome.{long_fits, not_refused_and_decided, one_graded_step, one_refusal, one_run}
 
 -- a call that ends by saying, with no fault: what it said
@@ -28,6 +28,7 @@ record IsSaying (c : Command) (before after : Devices) (s : Status) : Type 0 whe
 said : (c : Command) (before after : Devices) (s : Status) → Ends c before after s → NoFault before after → (s ≡ status.NoMemory) ⊎ IsSaying c before after s
 said (Grade g) before after status.ReadFailed ends sure = absurd (sure.shelf ends.0)
 said (Run w) before after status.ReadFailed ends sure = absurd (sure.shelf ends.0)
+said (Sample n) before after status.ReadFailed ends sure = absurd (sure.shelf ends.0)
 said Nothing before after status.ReadFailed ends sure = absurd ends
 said c before after status.WriteFailed ends sure = absurd (sure.sink ends.1.says.0)
 said c before after status.NoMemory ends sure = inl refl
@@ -88,6 +89,7 @@ usage_outcome c ts after (Ran o) comes e = cc
 usage_outcome c ts after (Refused r) comes e = cc
 usage_outcome (Grade g) ts after Unasked comes e = comes.1
 usage_outcome (Run w) ts after Unasked comes e = comes.1
+usage_outcome (Sample n) ts after Unasked comes e = comes.1
 usage_outcome Nothing ts after Unasked comes e = comes.1
 
 -- a command never ends with the usage
@@ -99,6 +101,7 @@ no_usage_of c before after due ends =
 pub no_usage : (c : Command) (before after : Devices) (s : Status) → (c ≡ Nothing → ⊥) → Ends c before after s → s ≡ status.Usage → ⊥
 no_usage (Grade g) before after s some ends e = no_usage_of (Grade g) before after (λ o d. d) (subst (Ends (Grade g) before after) e ends)
 no_usage (Run w) before after s some ends e = no_usage_of (Run w) before after (λ o d. d) (subst (Ends (Run w) before after) e ends)
+no_usage (Sample n) before after s some ends e = no_usage_of (Sample n) before after (λ o d. d) (subst (Ends (Sample n) before after) e ends)
 no_usage Nothing before after s some ends e = some refl
 
 -- GRADED
@@ -132,6 +135,26 @@ pub graded : (g : GradeWords) (ts : List (List ℕ)) (k : Task) (before after : 
 graded g ts k before after s ends told given sure = elim (said (Grade g) before after s ends sure) [
   | inl lacks ↦ subst (IsGraded k) (sym lacks) tt
   | inr x ↦ graded_outcome g ts k after.shelf x.outcome s told.fit given (told_comes (Grade g) before.shelf after.shelf ts x.outcome told.tells x.due) x.status_is
+]
+
+-- SAMPLED
+
+sampled_outcome : (n : ℕ) (ts : List (List ℕ)) (k : Task) (after : ShelfState) (o : Outcome) (s : Status) → (graded_step (sample_texts n)).gives k
+    → ComesOf (Sample n) ts after o → s ≡ status_of o → IsGraded k s
+sampled_outcome n ts k after (Answered other a) s given comes e =
+    let same : other ≡ k = (one_graded_step (sample_texts n)).gives other k comes.1.0 given in
+    graded_answer k a s (subst (λ x. IsAnswer x a) same comes.1.1) e
+sampled_outcome n ts k after (Ran o) s given comes e = absurd comes.1
+sampled_outcome n ts k after (Refused r) s given comes e = elim comes [
+  | inl long ↦ absurd long.0.long
+  | inr said ↦ absurd ((one_graded_step (sample_texts n)).not_both k r given said.1)
+]
+sampled_outcome n ts k after Unasked s given comes e = absurd comes.1
+
+pub sampled : (n : ℕ) (k : Task) (before after : Devices) (s : Status) → Ends (Sample n) before after s → (graded_step (sample_texts n)).gives k → NoFault before after → IsGraded k s
+sampled n k before after s ends given sure = elim (said (Sample n) before after s ends sure) [
+  | inl lacks ↦ subst (IsGraded k) (sym lacks) tt
+  | inr x ↦ sampled_outcome n x.due.texts k after.shelf x.outcome s given x.due.comes x.status_is
 ]
 
 -- RAN
@@ -171,6 +194,7 @@ pub refused : (c : Command) (ts : List (List ℕ)) (r : Refusal) (before after :
     → Tells before.shelf (files_of c) ts → IsFirstRefusal c ts r → NoFault before after → IsSaid c (Refused r) before.sink after.sink s
 refused (Grade g) ts r before after s ends tells first sure = refused_of (Grade g) ts r before after s (λ o d. d) ends tells first sure
 refused (Run w) ts r before after s ends tells first sure = refused_of (Run w) ts r before after s (λ o d. d) ends tells first sure
+refused (Sample n) ts r before after s ends tells first sure = refused_of (Sample n) ts r before after s (λ o d. d) ends tells first sure
 refused Nothing ts r before after s ends tells first sure = elim first [
   | inl long ↦ absurd long.long
   | inr said ↦ absurd said.1

@@ -20,7 +20,7 @@ use Rattle.grade_top.specs.OneOutcome.{IsNoRefusal}
 use Rattle.grade_top.specs.Requests.{command_of}
 use Rattle.grade_top.specs.declared.words.Command as code_command
 use Rattle.grade_top.specs.Outcomes.{IsReport, ReportsFiles, Shows}
-use Rattle.grade_top.specs.Words.{Command, Grade, Run, Nothing, GradeWords, RunWords, AsksGrade, AsksRun, Asks, grade_words, run_words}
+use Rattle.grade_top.specs.Words.{Command, Grade, Run, Sample, Nothing, GradeWords, RunWords, AsksGrade, AsksRun, AsksSample, Asks, grade_words, run_words, sample_words}
 
 -- WHAT IS DECIDED FOR THE FETCHED TEXTS COMES OF THE FILES
 
@@ -117,22 +117,24 @@ ends_by_saying c before after o status.WriteFailed well due says files = (well, 
 ends_by_saying c before after o status.Usage well due says files = (well, record { outcome = o; due = due; says = says; files = files })
 ends_by_saying c before after o status.Rejected well due says files = (well, record { outcome = o; due = due; says = says; files = files })
 
--- a command that has files
-abbrev pub HasFiles : Command → Type 0
-HasFiles (Grade g) = Unit {0}
-HasFiles (Run w) = Unit {0}
-HasFiles Nothing = ⊥
+-- a command, and not words that ask for nothing
+abbrev pub IsAsked : Command → Type 0
+IsAsked (Grade g) = Unit {0}
+IsAsked (Run w) = Unit {0}
+IsAsked (Sample n) = Unit {0}
+IsAsked Nothing = ⊥
 
-pub due_of_files : (c : Command) (before after : ShelfState) (o : Outcome) → HasFiles c → ComesOfFiles c before after o → IsDue c before after o
-due_of_files (Grade g) before after o some comes = comes
-due_of_files (Run w) before after o some comes = comes
-due_of_files Nothing before after o some comes = absurd some
+pub due_of_command : (c : Command) (before after : ShelfState) (o : Outcome) → IsAsked c → ComesOfFiles c before after o → IsDue c before after o
+due_of_command (Grade g) before after o some comes = comes
+due_of_command (Run w) before after o some comes = comes
+due_of_command (Sample n) before after o some comes = comes
+due_of_command Nothing before after o some comes = absurd some
 
 -- the words of a report are said
-pub ends_by_report : (c : Command) (before after : Devices) (r : Report) (s : Status) → HasFiles c → ReadWell before after → ReportsFiles c before.shelf after.shelf r
+pub ends_by_report : (c : Command) (before after : Devices) (r : Report) (s : Status) → IsAsked c → ReadWell before after → ReportsFiles c before.shelf after.shelf r
     → Says r.text.items r.status before.sink after.sink s → FilesKept before.shelf after.shelf → Ends c before after s
 ends_by_report c before after r s some well reports says files =
-    ends_by_saying c before after reports.outcome s well (due_of_files c before.shelf after.shelf reports.outcome some reports.comes)
+    ends_by_saying c before after reports.outcome s well (due_of_command c before.shelf after.shelf reports.outcome some reports.comes)
     (said_so r.text.items (text_of_outcome c reports.outcome) r.status (status_of reports.outcome) before.sink after.sink s reports.shows.text reports.shows.status says) files
 
 pub report_of_text : (c : Command) (before after : ShelfState) (r : Report) → ReportsFiles c before after r → IsOfText r.status
@@ -168,28 +170,49 @@ same_run words w v asks other = made_run w v (sym asks.0 ∙ other.0)
 not_both : (words : List (List ℕ)) (g : GradeWords) (w : RunWords) → AsksGrade words g → AsksRun words w → ⊥
 not_both words g w grade run = let no : grade_words g ≡ run_words w = sym grade.0 ∙ run.0 in cc
 
+same_sample : (words : List (List ℕ)) (m n : ℕ) → AsksSample words m → AsksSample words n → m ≡ n
+same_sample words m n asks other =
+    let e : sample_words m ≡ sample_words n = sym asks.0 ∙ other.0 in
+    let text : decimal m ≡ decimal n = cc in
+    decimal_injective m n (omega (arith, asks.1)) (omega (arith, other.1)) text
+
+no_grade_sample : (words : List (List ℕ)) (g : GradeWords) (n : ℕ) → AsksGrade words g → AsksSample words n → ⊥
+no_grade_sample words g n grade sample = let no : grade_words g ≡ sample_words n = sym grade.0 ∙ sample.0 in cc
+
+no_run_sample : (words : List (List ℕ)) (w : RunWords) (n : ℕ) → AsksRun words w → AsksSample words n → ⊥
+no_run_sample words w n run sample = let no : run_words w ≡ sample_words n = sym run.0 ∙ sample.0 in cc
+
 pub one_command : (words : List (List ℕ)) (c d : Command) → Asks words c → Asks words d → c ≡ d
 one_command words (Grade g) (Grade h) asks other = ap Grade (same_words words g h asks other)
 one_command words (Grade g) (Run w) asks other = absurd (not_both words g w asks other)
+one_command words (Grade g) (Sample n) asks other = absurd (no_grade_sample words g n asks other)
 one_command words (Grade g) Nothing asks other = absurd (other.no_grade g asks)
 one_command words (Run w) (Grade g) asks other = absurd (not_both words g w other asks)
 one_command words (Run w) (Run v) asks other = ap Run (same_run words w v asks other)
+one_command words (Run w) (Sample n) asks other = absurd (no_run_sample words w n asks other)
 one_command words (Run w) Nothing asks other = absurd (other.no_run w asks)
+one_command words (Sample n) (Grade g) asks other = absurd (no_grade_sample words g n other asks)
+one_command words (Sample n) (Run w) asks other = absurd (no_run_sample words w n other asks)
+one_command words (Sample m) (Sample n) asks other = ap Sample (same_sample words m n asks other)
+one_command words (Sample n) Nothing asks other = absurd (other.no_sample n asks)
 one_command words Nothing (Grade h) asks other = absurd (asks.no_grade h other)
 one_command words Nothing (Run w) asks other = absurd (asks.no_run w other)
+one_command words Nothing (Sample n) asks other = absurd (asks.no_sample n other)
 one_command words Nothing Nothing asks other = refl
 
 -- COMMANDS THAT WERE READ
 
-pub has_files : (c : code_command.Command) → HasFiles (command_of c)
-has_files (code_command.TheVariants.Grade w) = tt
-has_files (code_command.TheVariants.Run w) = tt
+pub is_asked : (c : code_command.Command) → IsAsked (command_of c)
+is_asked (code_command.TheVariants.Grade w) = tt
+is_asked (code_command.TheVariants.Run w) = tt
+is_asked (code_command.TheVariants.Sample n) = tt
 
-pub asks_something : (c : Command) → HasFiles c → c ≡ Nothing → ⊥
+pub asks_something : (c : Command) → IsAsked c → c ≡ Nothing → ⊥
 asks_something c some is = rw is at some
 
 -- a read is said to have failed where the shelf counted a fault
-pub read_failed : (c : Command) (before after : Devices) (s : Status) → HasFiles c → Ends c before after s → s ≡ status.ReadFailed → Rose before.shelf.faults after.shelf.faults
+pub read_failed : (c : Command) (before after : Devices) (s : Status) → IsAsked c → Ends c before after s → s ≡ status.ReadFailed → Rose before.shelf.faults after.shelf.faults
 read_failed (Grade g) before after s some ends is = (subst (Ends (Grade g) before after) is ends).0
 read_failed (Run w) before after s some ends is = (subst (Ends (Run w) before after) is ends).0
+read_failed (Sample n) before after s some ends is = (subst (Ends (Sample n) before after) is ends).0
 read_failed Nothing before after s some ends is = absurd some

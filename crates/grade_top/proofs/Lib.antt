@@ -5,3 +5,4 @@ mod Endings
 mod KnownLengths
 pub mod OneOutcome
 mod ReadingLaws
+mod SampleLaws

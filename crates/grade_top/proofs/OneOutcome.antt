@@ -18,12 +18,12 @@ use Rattle.task_read.specs.Steps.{Step, IsOne}
 use Rattle.task_read.proofs.OneStep.{one_bounds_step, one_program_step}
 use Rattle.task_read.proofs.OneStep as task
 use Rattle.task_read.proofs.Steps.{one_done, one_refuse, one_then}
-use Rattle.grade_top.specs.Decisions.{graded_step, never, run_step, spelled_step, task_step, value_step, values_step}
+use Rattle.grade_top.specs.Decisions.{graded_step, never, run_step, sample_texts, spelled_step, task_step, value_step, values_step}
 use Rattle.grade_top.specs.Ends.{IsDecided, IsFirstRefusal, Outcome, Answered, Ran, Refused, Unasked}
 use Rattle.grade_top.specs.Files.{files_of}
 use Rattle.grade_top.specs.OneOutcome.{IsNoRefusal}
 use Rattle.input_space.specs.Tasks.{Task}
-use Rattle.grade_top.specs.Words.{Command, Grade, Run, Nothing, RunWords}
+use Rattle.grade_top.specs.Words.{Command, Grade, Run, Sample, Nothing, RunWords}
 
 pub one_never : {A : Type 0} → IsOne (never {A = A})
 one_never = record { gives = λ a b x y. absurd x; refuses = λ q r x y. absurd x; not_both = λ a r x y. x }
@@ -103,6 +103,7 @@ one_too_long fs ts q r a b =
 
 one_decided : (c : Command) (ts : List (List ℕ)) (q r : Refusal) → IsDecided c ts (Refused q) → IsDecided c ts (Refused r) → q ≡ r
 one_decided (Grade g) ts q r a b = (one_graded_step ts).refuses q r a b
+one_decided (Sample n) ts q r a b = (one_graded_step (sample_texts n)).refuses q r a b
 one_decided (Run w) ts q r a b = (one_run_step w ts).refuses q r a b
 one_decided Nothing ts q r a b = absurd a
 
@@ -127,6 +128,10 @@ not_both_decided (Run w) ts r (Answered k a) refused decided other = decided
 not_both_decided (Run w) ts r (Ran o) refused decided other = (one_run_step w ts).not_both o r decided refused
 not_both_decided (Run w) ts r (Refused q) refused decided other = other
 not_both_decided (Run w) ts r Unasked refused decided other = decided
+not_both_decided (Sample n) ts r (Answered k a) refused decided other = (one_graded_step (sample_texts n)).not_both k r decided.0 refused
+not_both_decided (Sample n) ts r (Ran o) refused decided other = decided
+not_both_decided (Sample n) ts r (Refused q) refused decided other = other
+not_both_decided (Sample n) ts r Unasked refused decided other = decided
 not_both_decided Nothing ts r o refused decided other = refused
 
 pub not_refused_and_decided : (c : Command) (ts : List (List ℕ)) (r : Refusal) (o : Outcome) → IsFirstRefusal c ts r → AllFit ts → IsDecided c ts o → IsNoRefusal o → ⊥

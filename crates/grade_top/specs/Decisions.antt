@@ -19,6 +19,8 @@ use Rattle.input_space.specs.Cases.{SpellsCase}
 use Rattle.input_space.specs.Inputs.{param_type, is_within}
 use Rattle.input_space.specs.Tasks.{HasWanted, Task, entry_line}
 use Rattle.task_read.specs.Sources.{Typed, bounds_step, program_step, entry_at, refusal}
+use Rattle.sample_maker.specs.Samples.{bounds_text, reference_text, rules_text}
+use Rattle.sample_maker.specs.Samples.{submission_text}
 use Rattle.task_read.specs.Steps.{Step, ◌>>=◌, done, refuse_if}
 use Rattle.task_read.specs.TaskSteps as task
 use Rattle.grade_top.specs.Words.{RunWords}
@@ -42,6 +44,12 @@ graded_step texts = do
   some ← refuse_if (HasWanted k → ⊥)
       (refusal source.Reference cause.EmptyReference (entry_line k.bounds k.reference))
   done k
+
+-- SAMPLE
+
+-- the four texts of a number
+abbrev pub sample_texts : ℕ → List (List ℕ)
+sample_texts n = bounds_text ∷ reference_text n ∷ submission_text n ∷ rules_text ∷ []
 
 -- RUN
 

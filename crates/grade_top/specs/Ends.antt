@@ -10,15 +10,15 @@ use Rattle.mpy_tree.specs.declared.refusal.Source.{Source}
 use Rattle.mpy_tree.specs.declared.refusal.Source.TheVariants as source
 use Rattle.mpy_tree.specs.declared.refusal.Refusal.{Refusal}
 use Rattle.mpy_tree.specs.Refusals.{refusal_text}
-use Rattle.grade_top.specs.Words.{Command, Grade, Run, Nothing}
+use Rattle.grade_top.specs.Words.{Command, Grade, Run, Sample, Nothing}
 use Rattle.grade_top.specs.Files.{files_of, word_of}
 use Rattle.source_files.specs.Fetches.{FilesKept}
 use Rattle.source_files.specs.Texts.{AllFit, AreHeld, IsTooLong, TookTooMuch}
 use Rattle.input_space.specs.Tasks.{Task}
 use Rattle.feedback_text.specs.Answers.{Answer, Correct, Corrected, NoCorrection, IsAnswer}
 use Rattle.feedback_text.specs.Reports.{report_of}
-use Rattle.grade_top.specs.Decisions.{graded_step, run_step}
-use Rattle.grade_top.specs.Reports.{usage_text, run_text, value_refusal_text}
+use Rattle.grade_top.specs.Decisions.{graded_step, run_step, sample_texts}
+use Rattle.grade_top.specs.Reports.{usage_text, run_text, sample_report, value_refusal_text}
 
 -- What comes of a command: an answer to a task, the end of a run, a refusal, or words that ask for
 -- nothing.
@@ -49,17 +49,24 @@ line_of c source.Submission r = refusal_text (word_of c source.Submission) r
 line_of c source.Rules r = refusal_text (word_of c source.Rules) r
 line_of c source.Cert r = refusal_text (word_of c source.Cert) r
 
+-- what is written of an answer: of a sample a summary
+abbrev pub text_of_answer : Command → Task → Answer → List ℕ
+text_of_answer (Sample n) k a = sample_report n k a
+text_of_answer c k a = report_of k a
+
 -- what is written of an outcome
 abbrev pub text_of_outcome : Command → Outcome → List ℕ
-text_of_outcome c (Answered k a) = report_of k a
+text_of_outcome c (Answered k a) = text_of_answer c k a
 text_of_outcome c (Ran o) = run_text o
 text_of_outcome c (Refused r) = line_of c r.source r
 text_of_outcome c Unasked = usage_text
 
--- the texts decide this, by what they say
+-- The texts decide this, by what they say. A sample has its own texts.
 abbrev pub IsDecided : Command → List (List ℕ) → Outcome → Type 0
 IsDecided (Grade g) ts (Answered k a) = (graded_step ts).gives k × IsAnswer k a
 IsDecided (Grade g) ts (Refused r) = (graded_step ts).refuses r
+IsDecided (Sample n) ts (Answered k a) = (graded_step (sample_texts n)).gives k × IsAnswer k a
+IsDecided (Sample n) ts (Refused r) = (graded_step (sample_texts n)).refuses r
 IsDecided (Run w) ts (Ran o) = (run_step w ts).gives o
 IsDecided (Run w) ts (Refused r) = (run_step w ts).refuses r
 IsDecided c ts o = ⊥

@@ -1,5 +1,6 @@
--- The bytes of the usage, of runs and of refusals of values. Each line ends with byte 10.
-use Rattle.std.specs.Prelude.{ℕ, List, ◌++◌, codes}
+-- The bytes of the usage, of runs, of samples and of refusals of values. Each line ends with
+-- byte 10.
+use Rattle.std.specs.Prelude.{ℕ, List, ◌++◌, codes, length}
 use Rattle.std.specs.Fmt.{decimal}
 use Rattle.mpy_tree.specs.declared.outcome.Outcome.{Outcome}
 use Rattle.mpy_tree.specs.declared.outcome.Outcome.TheVariants as outcome
@@ -7,6 +8,10 @@ use Rattle.mpy_tree.specs.declared.refusal.Cause.{Cause}
 use Rattle.mpy_tree.specs.Outcomes.{fault_text}
 use Rattle.mpy_tree.specs.Printing.{value_text}
 use Rattle.mpy_tree.specs.Refusals.{cause_text}
+use Rattle.mpy_limits.specs.Limits.{all_statements}
+use Rattle.input_space.specs.Tasks.{Task}
+use Rattle.feedback_text.specs.Answers.{Answer, Correct, Corrected}
+use Rattle.feedback_text.specs.Reports.{report_of}
 
 abbrev pub usage_text : List ℕ
 usage_text =
@@ -20,6 +25,19 @@ abbrev pub run_text : Outcome → List ℕ
 run_text (outcome.Value v) = codes "value " ++ value_text v ++ codes "\n"
 run_text (outcome.Fault kind line) =
     codes "fault " ++ fault_text kind ++ codes " line " ++ decimal line ++ codes "\n"
+
+-- the lines of a sample that is graded
+abbrev pub sample_lines : ℕ → Task → ℕ → ℕ → List ℕ
+sample_lines n k edits cost =
+    codes "sample " ++ decimal n
+    ++ codes "\nstatements " ++ decimal (length (all_statements k.submission))
+    ++ codes "\nedits " ++ decimal edits ++ codes "\ncost " ++ decimal cost ++ codes "\n"
+
+-- of other answers, which no sample meets, what `grade` writes
+abbrev pub sample_report : ℕ → Task → Answer → List ℕ
+sample_report n k Correct = sample_lines n k 0 0
+sample_report n k (Corrected cost fails edits p) = sample_lines n k (length edits) cost
+sample_report n k a = report_of k a
 
 -- a value of `run` is refused, by its number
 abbrev pub value_refusal_text : ℕ → Cause → List ℕ

@@ -1,7 +1,7 @@
 -- The words of a request, as the program keeps them.
 use Rattle.std.specs.Prelude.{map}
 use Rattle.std.specs.String.{string_bytes}
-use Rattle.grade_top.specs.Words.{GradeWords, RunWords, Command, Grade, Run}
+use Rattle.grade_top.specs.Words.{GradeWords, RunWords, Command, Grade, Run, Sample}
 use Rattle.grade_top.specs.declared.words.GradeWords as code_grade
 use Rattle.grade_top.specs.declared.words.RunWords as code_run
 use Rattle.grade_top.specs.declared.words.Command as code_command
@@ -26,3 +26,4 @@ run_of w = record {
 abbrev pub command_of : code_command.Command → Command
 command_of (code_command.TheVariants.Grade w) = Grade (grade_of w)
 command_of (code_command.TheVariants.Run w) = Run (run_of w)
+command_of (code_command.TheVariants.Sample n) = Sample n

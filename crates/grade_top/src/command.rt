@@ -17,6 +17,7 @@ ghost use Rattle.grade_top.specs.Requests.{command_of};
 use crate::grade::grade_report;
 use crate::outcome::Report;
 use crate::run::run_report;
+use crate::sample::sample_report;
 use crate::words::Command;
 use grade_io::{Shelf, Sink, Status, say};
 use mpy_tree::{Cause, NoMemory, Refusal, Source};
@@ -70,6 +71,7 @@ fn fetch<S: Shelf>(
             ];
             fetch_all(alloc, &files, shelf)
         }
+        Command::Sample(_) => fetch_all(alloc, &[], shelf),
     }
 }
 
@@ -83,6 +85,7 @@ fn report_for(alloc: Global, command: &Command<'_>, texts: &[Vec<u8>]) -> Result
     match command {
         Command::Grade(words) => grade_report(alloc, words, texts),
         Command::Run(words) => run_report(alloc, words, texts),
+        Command::Sample(number) => sample_report(alloc, *number as u32),
     }
 }
 
@@ -122,6 +125,13 @@ fn word<'a>(command: &Command<'a>, source: Source) -> &'a str
             Source::Bounds => words.bounds,
             Source::Reference => words.program,
             _ => "",
+        },
+        Command::Sample(_) => match source {
+            Source::Bounds => "bounds",
+            Source::Reference => "reference",
+            Source::Submission => "submission",
+            Source::Rules => "rules",
+            Source::Cert | Source::Word(_) => "",
         },
     }
 }

@@ -43,7 +43,7 @@ fn read(alloc: Global, texts: &[Vec<u8>]) -> Result<Task, Stop>
 }
 
 /// Decides for the texts of `grade`.
-fn decide(alloc: Global, texts: &[Vec<u8>], budget: u32) -> Result<Graded, Stop>
+pub(crate) fn decide(alloc: Global, texts: &[Vec<u8>], budget: u32) -> Result<Graded, Stop>
     requires four { length texts.now ≡ 4 }
     requires fit { AllFit (texts_of texts.now) }
     ensures { MatchResult result (IsGradedSo (texts_of texts.now))
@@ -62,7 +62,7 @@ fn decide(alloc: Global, texts: &[Vec<u8>], budget: u32) -> Result<Graded, Stop>
 }
 
 /// The status of an answer that is written whole.
-fn status(answer: &Answer) -> Status
+pub(crate) fn status(answer: &Answer) -> Status
     ensures { HasStatus answer.now result }
 {
     match answer {

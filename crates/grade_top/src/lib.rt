@@ -10,10 +10,11 @@ ghost use Rattle.input_space.specs.Tasks.{Task};
 ghost use Rattle.source_files.specs.Fetches.{CallsInOrder};
 ghost use Rattle.source_files.specs.Texts.{Tells};
 ghost use Rattle.grade_top.specs.Claims.{AreTold, IsGraded, IsSaid, IsUsage, NoFault};
-ghost use Rattle.grade_top.specs.Decisions.{graded_step, run_step};
+ghost use Rattle.grade_top.specs.Decisions.{graded_step, run_step, sample_texts};
 ghost use Rattle.grade_top.specs.Ends.{Ends, IsFirstRefusal, Ran, Refused};
 ghost use Rattle.grade_top.specs.Files.{files_of};
-ghost use Rattle.grade_top.specs.Words.{Asks, Command, Grade, GradeWords, Nothing, Run, RunWords};
+ghost use Rattle.grade_top.specs.Words.{Asks, Command, Grade, GradeWords, Nothing, Run};
+ghost use Rattle.grade_top.specs.Words.{RunWords, Sample};
 
 mod command;
 mod grade;
@@ -21,6 +22,7 @@ mod laws;
 mod outcome;
 mod report;
 mod run;
+mod sample;
 mod typed;
 mod words;
 
@@ -32,8 +34,10 @@ use std::alloc::Global;
 /// Answers the words that follow the program's name.
 ///
 /// The files of a command are fetched in order and read, and what they decide is written: by
-/// `grade` the cheapest correction of a submission, by `run` what a program gives on values. Until
-/// certificates are built nothing is stored, and the words `CERT` and `BUDGET` have no effect.
+/// `grade` the cheapest correction of a submission, by `run` what a program gives on values. By
+/// `sample` a task is made from a number and graded, and how large it is and what its correction
+/// costs is written. Until certificates are built nothing is stored, and the words `CERT` and
+/// `BUDGET` have no effect.
 pub fn grade_top<S: Shelf, K: Sink>(
     alloc: Global,
     words: &Vec<String>,
@@ -58,6 +62,13 @@ pub fn grade_top<S: Shelf, K: Sink>(
         → Asks (map string_bytes words.now.items) (Grade g)
         → AreTold (devices (S.seen shelf.old) (K.seen out.old)) (Grade g) ts
         → (graded_step ts).gives k
+        → NoFault (devices (S.seen shelf.old) (K.seen out.old))
+        (devices (S.seen shelf.new) (K.seen out.new))
+        → IsGraded k result }
+    // A sample that nothing refuses is graded, unless a device failed or memory lacked.
+    ensures sampled { (n : ℕ) (k : Task)
+        → Asks (map string_bytes words.now.items) (Sample n)
+        → (graded_step (sample_texts n)).gives k
         → NoFault (devices (S.seen shelf.old) (K.seen out.old))
         (devices (S.seen shelf.new) (K.seen out.new))
         → IsGraded k result }

@@ -1,5 +1,8 @@
-//! The texts that a number is made into.
+//! The texts that a number is made into, and the command `sample`.
 
+use crate::requests::{answered, words};
+use grade_io::MemShelf;
+use grade_top::Status;
 use sample_maker::sample;
 use std::test::Fail;
 
@@ -31,5 +34,36 @@ fn samples_have_programs(rt: HostRuntime) -> Result<(), Fail> {
     let first = b"def f(x):\n    t = 0\n    if x < -1:\n        t = t + 1\n".as_slice();
     assert!(rt; texts.reference.bytes().starts_with(first));
     assert!(rt; texts.submission.bytes().starts_with(first));
+    Ok(())
+}
+
+/// Each wrong block is an edit of cost 1, and the submission has two statements for each block.
+#[test]
+fn samples_are_graded(rt: HostRuntime) -> Result<(), Fail> {
+    let alloc = rt.alloc();
+    let rows = [
+        (
+            "165",
+            Status::Corrected,
+            "sample 165\nstatements 82\nedits 4\ncost 4\n",
+        ),
+        (
+            "0",
+            Status::Correct,
+            "sample 0\nstatements 82\nedits 0\ncost 0\n",
+        ),
+        (
+            "65535",
+            Status::Corrected,
+            "sample 65535\nstatements 82\nedits 8\ncost 8\n",
+        ),
+    ];
+    for (number, status, written) in rows {
+        let words = words(alloc, ["sample", number].as_slice())?;
+        let mut shelf = MemShelf::new(alloc, Vec::new(alloc));
+        let (ended, text) = answered(alloc, &words, &mut shelf)?;
+        assert_eq!(rt; ended, status, "of {number}");
+        assert_eq!(rt; text.as_str(), written);
+    }
     Ok(())
 }

@@ -22,11 +22,12 @@ fn other_words_get_the_usage(rt: HostRuntime) -> Result<(), Fail> {
     Ok(())
 }
 
-/// So it is for a run of more than four values, or without a program, and for the other commands.
+/// So it is for a run of more than four values, or without a program, for a sample of no number up
+/// to 65535 or of two, for `check`, and for no words.
 #[test]
 fn other_commands_get_the_usage(rt: HostRuntime) -> Result<(), Fail> {
     let alloc = rt.alloc();
-    let rows: [&[&str]; 5] = [
+    let rows: [&[&str]; 8] = [
         &["run", "b.txt", "p.py", "1", "2", "3", "4", "5"],
         &["run", "b.txt"],
         &[
@@ -37,7 +38,10 @@ fn other_commands_get_the_usage(rt: HostRuntime) -> Result<(), Fail> {
             "rules.eml",
             "cert.txt",
         ],
-        &["sample", "1"],
+        &["sample"],
+        &["sample", "65536"],
+        &["sample", "07"],
+        &["sample", "1", "2"],
         &[],
     ];
     for row in rows {

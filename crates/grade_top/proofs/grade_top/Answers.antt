@@ -1,8 +1,8 @@
 -- the words ask for the command that was read
 use Rattle.grade_top.specs.Requests.{command_of}
-use Rattle.grade_top.specs.Words.{Grade, Nothing, Run}
-use Rattle.grade_top.proofs.Claims.{graded, no_usage, ran, refused}
-use Rattle.grade_top.proofs.Endings.{asks_something, has_files, one_command, read_failed}
+use Rattle.grade_top.specs.Words.{Grade, Nothing, Run, Sample}
+use Rattle.grade_top.proofs.Claims.{graded, no_usage, ran, refused, sampled}
+use Rattle.grade_top.proofs.Endings.{asks_something, is_asked, one_command, read_failed}
 use Rattle.grade_top.proofs.grade_top.Goals as goal
 
 pub returns-in-Some-clause-ends : goal.returns-in-Some-clause-ends
@@ -13,19 +13,23 @@ returns-in-Some-clause-calls g c = λ d asks. rw (one_command _ d (command_of c.
 
 pub returns-in-Some-clause-usage : goal.returns-in-Some-clause-usage
 returns-in-Some-clause-usage g c = λ is.
-    absurd (no_usage (command_of c.in-Some.command) _ _ c.answer.result (asks_something (command_of c.in-Some.command) (has_files c.in-Some.command)) c.answer.ensures.ends is)
+    absurd (no_usage (command_of c.in-Some.command) _ _ c.answer.result (asks_something (command_of c.in-Some.command) (is_asked c.in-Some.command)) c.answer.ensures.ends is)
 
 pub returns-in-Some-clause-no_form : goal.returns-in-Some-clause-no_form
 returns-in-Some-clause-no_form g c = λ none.
-    absurd (asks_something (command_of c.in-Some.command) (has_files c.in-Some.command) (one_command _ (command_of c.in-Some.command) Nothing (rw c.deref.ensures.value at c.in-Some.ensures.found) none))
+    absurd (asks_something (command_of c.in-Some.command) (is_asked c.in-Some.command) (one_command _ (command_of c.in-Some.command) Nothing (rw c.deref.ensures.value at c.in-Some.ensures.found) none))
 
 pub returns-in-Some-clause-read_failed : goal.returns-in-Some-clause-read_failed
 returns-in-Some-clause-read_failed g c = λ is.
-    read_failed (command_of c.in-Some.command) _ _ c.answer.result (has_files c.in-Some.command) c.answer.ensures.ends is
+    read_failed (command_of c.in-Some.command) _ _ c.answer.result (is_asked c.in-Some.command) c.answer.ensures.ends is
 
 pub returns-in-Some-clause-graded : goal.returns-in-Some-clause-graded
 returns-in-Some-clause-graded g c = λ words ts k asks told given sure.
     graded words ts k _ _ c.answer.result (rw (one_command _ (command_of c.in-Some.command) (Grade words) (rw c.deref.ensures.value at c.in-Some.ensures.found) asks) at c.answer.ensures.ends) told given sure
+
+pub returns-in-Some-clause-sampled : goal.returns-in-Some-clause-sampled
+returns-in-Some-clause-sampled g c = λ n k asks given sure.
+    sampled n k _ _ c.answer.result (rw (one_command _ (command_of c.in-Some.command) (Sample n) (rw c.deref.ensures.value at c.in-Some.ensures.found) asks) at c.answer.ensures.ends) given sure
 
 pub returns-in-Some-clause-ran : goal.returns-in-Some-clause-ran
 returns-in-Some-clause-ran g c = λ words ts o asks told given sure.
