@@ -1,0 +1,14 @@
+//! Typed values as words of bits, and the operations on them, over any logic.
+#![tactic(auto)]
+
+pub mod choose;
+pub mod division;
+pub mod order;
+pub mod size;
+pub mod sums;
+pub mod truth;
+pub mod unary;
+pub mod value;
+
+pub use bit_words::NoMemory;
+pub use value::{SymOutcome, SymValue, SymValues};
