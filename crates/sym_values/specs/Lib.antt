@@ -4,3 +4,6 @@ pub mod Results
 pub mod Operations
 pub mod Owned
 pub mod Later
+pub mod Agreement
+pub mod Rooms
+pub mod Constants

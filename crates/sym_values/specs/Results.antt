@@ -1,4 +1,5 @@
--- What a call states of the values that it makes: that their bits belong to a state, and their form.
+-- What a call states of the values that it makes: their bits belong to a state, and they have a
+-- form.
 use Rattle.std.specs.Prelude.{◌≡◌, ℕ, List}
 use Rattle.bit_words.specs.Logic.{OwnsAll}
 use Rattle.sym_values.specs.declared.value.SymValue.{SymValue}

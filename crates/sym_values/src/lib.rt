@@ -2,7 +2,9 @@
 #![tactic(auto)]
 
 pub mod choose;
+pub mod constant;
 pub mod division;
+pub mod equality;
 pub mod order;
 pub mod size;
 pub mod sums;
