@@ -20,3 +20,5 @@ mod operations;
 mod plain;
 #[cfg(test)]
 mod solving;
+#[cfg(test)]
+mod values;
