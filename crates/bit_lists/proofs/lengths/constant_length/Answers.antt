@@ -1,0 +1,32 @@
+use Rattle.std.proofs.Common.{◌≡◌, ◌+◌, ◌*◌, ◌^◌, ◌<◌, ◌∙◌, ℕ, zero, suc, ap, refl, arith, length, length-append, map}
+use Rattle.bit_words.specs.Words.{nat_of}
+use Rattle.bit_words.proofs.Constants.{digit_step}
+use Rattle.bit_words.proofs.Kept.{owns_push}
+use Rattle.bit_words.proofs.Integers.{nat_read_below}
+use Rattle.bit_words.proofs.Naturals.{nat_pushed}
+use Rattle.bit_lists.proofs.lengths.constant_length.Goals as goal
+
+-- a small number has no digits left
+none_left : (k low rest number : ℕ) → k ≡ 5 → low + 2 ^ k * rest ≡ number → number < 32 → low ≡ number
+none_left k low zero number five e h = let none : 2 ^ k * 0 ≡ 0 = omega arith in omega arith
+none_left k low (suc rest) number five e h =
+    let power : 2 ^ k ≡ 32 = ap (λ (n : ℕ). 2 ^ n) five in
+    let some : 2 ^ k * suc rest ≡ 32 * suc rest = ap (λ (n : ℕ). n * suc rest) power in
+    absurd (omega arith)
+
+pub loop-preserved : goal.loop-preserved
+loop-preserved g c =
+    let before = c.loop.invariant in
+    record {
+      owned = owns_push before.owned c.constant-digit.ensures.owned c.in_ok-push.ensures.ok;
+      width = ap length c.in_ok-push.ensures.ok ∙ simp (length-append) (omega (arith, before.width));
+      value = λ vs.
+          let f = g.L.Logic.reads c.args.g.now vs in
+          let step = digit_step c.loop.counter (nat_of (map f c.loop.bits)) c.loop.rest c.args.number (nat_read_below f c.loop.bits c.loop.counter before.width) (before.value vs) in
+          let pushed = nat_pushed f f c.loop.bits c.push.new.self c.constant-digit.result c.loop.counter before.width refl c.in_ok-push.ensures.ok in
+          let digit = c.constant-digit.ensures.value vs in
+          rw (pushed, digit) step.1;
+    }
+
+pub returns-clause-value : goal.returns-clause-value
+returns-clause-value g c vs = none_left c.loop.counter _ c.loop.rest c.args.number (omega arith) (c.loop.invariant.value vs) c.requires
