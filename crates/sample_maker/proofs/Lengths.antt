@@ -36,8 +36,18 @@ block_short operator number i short =
     let c = b ++ codes ":\n" in
     let d = c ++ codes "        t = t + " in
     let e = d ++ amount in
-    omega (arith, short, limit_short number i, amount_short number i, length-append operator (codes " "), length-append a limit,
-      length-append b (codes ":\n"), length-append c (codes "        t = t + "), length-append d amount, length-append e (codes "\n"))
+    omega (
+      arith,
+      short,
+      limit_short number i,
+      amount_short number i,
+      length-append operator (codes " "),
+      length-append a limit,
+      length-append b (codes ":\n"),
+      length-append c (codes "        t = t + "),
+      length-append d amount,
+      length-append e (codes "\n"),
+    )
 
 blocks_short : (operator : ℕ → List ℕ) (number k : ℕ) → ((i : ℕ) → length (operator i) ≤ 2) → length (blocks_text operator number k) ≤ 60 * k
 unfolding blocks_text
@@ -48,8 +58,11 @@ blocks_short operator number (suc k) short =
 program_short : (operator : ℕ → List ℕ) (number : ℕ) → ((i : ℕ) → length (operator i) ≤ 2) → length (program_text operator number) ≤ 65536
 program_short operator number short =
     let blocks = blocks_text operator number 40 in
-    omega (arith, blocks_short operator number 40 short,
-      length-append blocks (codes "    return t\n"))
+    omega (
+      arith,
+      blocks_short operator number 40 short,
+      length-append blocks (codes "    return t\n"),
+    )
 
 pub reference_short : (number : ℕ) → length (reference_text number) ≤ 65536
 reference_short number = program_short (λ i. codes "<") number (λ i. omega arith)
