@@ -6,3 +6,6 @@ pub mod Sums
 pub mod Joining
 pub mod Indexes
 pub mod Found
+pub mod Ends
+pub mod Cutting
+pub mod Repeating

@@ -15,13 +15,13 @@ none_kept true v e = cc
 none_kept false [] e = refl
 none_kept false (x ∷ v) e = let rest = none_kept false v refl in ap (λ (n : ℕ). 0 + (n + n)) rest ∙ omega arith
 
-passes : (n s cap : ℕ) → s ≡ n → not (ltb s (cap + 1)) ≡ not (nat_le n cap)
+pub passes : (n s cap : ℕ) → s ≡ n → not (ltb s (cap + 1)) ≡ not (nat_le n cap)
 passes n s cap e = elim (cases_lt s (cap + 1)) [
   | inl h ↦ let le : n ≤ cap = omega arith in grind (arith, nat_tests)
   | inr h ↦ let lt : cap < n = omega arith in grind (arith, nat_tests)
 ]
 
-far_past : (n cap : ℕ) → cap < n → true ≡ not (nat_le n cap)
+pub far_past : (n cap : ℕ) → cap < n → true ≡ not (nat_le n cap)
 far_past n cap h = grind (arith, nat_tests)
 
 pub passes_as : (n s cap : ℕ) (c : Bool) → s + 32 * bit_value c ≡ n → cap ≤ 16 → (c || not (ltb s (cap + 1))) ≡ not (nat_le n cap)

@@ -1,3 +1,5 @@
 pub mod Lists
 pub mod Moves
 pub mod Places
+pub mod Slices
+pub mod Repeats

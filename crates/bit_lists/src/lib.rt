@@ -8,6 +8,8 @@ pub mod joins;
 pub mod lengths;
 pub mod lists;
 pub mod places;
+pub mod repeats;
 pub mod shifts;
+pub mod slices;
 
 pub use bit_words::NoMemory;

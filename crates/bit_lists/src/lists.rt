@@ -11,6 +11,13 @@ pub struct ListParts<'a, B: Copy> {
     pub items: &'a Words<B>,
 }
 
+/// A list as bits, of the same form.
+#[derive(Drop)]
+pub struct BitList<B: Copy> {
+    pub len: Bits<B>,
+    pub items: Words<B>,
+}
+
 /// A list as bits, of the same form, and whether it passes what the items can hold or has no
 /// meaning.
 #[derive(Drop)]
