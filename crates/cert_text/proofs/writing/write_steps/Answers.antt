@@ -1,0 +1,7 @@
+use Rattle.cert_text.specs.LineForms.{step_line}
+use Rattle.cert_text.proofs.Growing.{written_more}
+use Rattle.cert_text.proofs.writing.write_steps.Goals as goal
+
+pub loop-i-preserved : goal.loop-i-preserved
+loop-i-preserved c =
+    written_more step_line c.args.steps.now c.loop-i.i c.at.result.now c.args.out.now.items c.loop-i.out.items c.write_step.new.out.items c.at.ensures c.loop-i.invariant c.in_ok-write_step.ensures

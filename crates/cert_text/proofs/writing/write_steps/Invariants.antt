@@ -1,0 +1,7 @@
+use Rattle.std.proofs.Common.{◌≡◌, ◌++◌, take, map}
+use Rattle.cert_text.specs.LineForms.{step_line}
+use Rattle.cert_text.specs.Lines.{ended}
+use Rattle.cert_text.proofs.writing.write_steps.Given as goal
+
+abbrev pub invariant-loop-i : goal.invariant-loop-i
+invariant-loop-i l = l.out.items ≡ l.fn.out.items ++ ended (map step_line (take l.i l.steps))

@@ -1,0 +1,46 @@
+//! Certificates.
+ghost use Rattle.std.specs.Prelude.{◌≡◌};
+ghost use Rattle.cert_text.specs.declared.cert.CertError.TheVariants as cert_error;
+
+use crate::NoMemory;
+use choice_tree::Selection;
+use input_space::{Cases, Sessions};
+
+/// What is claimed.
+#[derive(Clone, Copy, PartialEq, Eq, Debug, Drop)]
+pub enum Claim {
+    /// The selection's program agrees with the reference, and this is the least cost at which one
+    /// does.
+    Cost(u32),
+    /// No selection's program agrees.
+    Nothing,
+    /// So many clauses were derived, and the search didn't end.
+    Spent(u32),
+}
+
+/// A claim, and what shows it.
+#[derive(Drop)]
+pub struct Cert {
+    pub claim: Claim,
+    /// Empty unless the claim is a cost.
+    pub selection: Selection,
+    pub cases: Cases,
+    pub sessions: Sessions,
+}
+
+/// Why a text isn't read as a certificate.
+#[derive(Clone, Copy, PartialEq, Eq, Debug, Drop)]
+pub enum CertError {
+    /// The text isn't of the form; the least line at which the form can't go on.
+    Syntax(u32),
+    /// There was no memory.
+    NoMemory,
+}
+
+impl From<NoMemory> for CertError {
+    ghost from_gives = { λ _ e. e ≡ cert_error.NoMemory };
+
+    fn from(_error: NoMemory) -> CertError {
+        CertError::NoMemory
+    }
+}

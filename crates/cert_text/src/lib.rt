@@ -1,0 +1,28 @@
+//! The text of what a grader claims: the claim, its selection, the cases, and for each question its
+//! formula and what was derived from it. Such a text is read and written.
+#![tactic(auto)]
+
+mod cases;
+mod cert;
+mod choices;
+mod claims;
+mod clauses;
+mod distinct;
+mod draft;
+mod hints;
+mod laws;
+mod literals;
+mod numbers;
+mod queries;
+mod reading;
+mod words;
+mod writing;
+
+pub use cert::{Cert, CertError, Claim};
+pub use laws::one_cert;
+pub use reading::read_cert;
+use std::alloc::AllocError;
+pub use writing::write_cert;
+
+/// Want of memory, where a call has no other refusal.
+pub type NoMemory = AllocError;
