@@ -8,7 +8,6 @@ the path of the model's command line; its modules lie beside it. Each file is ma
 `--first NUMBER` with COUNT 1 repeats one. Compared are the rules with every node of their sides, else the cause with its
 line. Printed are the counts of the answers and each difference; the exit status is 1 where there is one.
 """
-import argparse
 import collections
 import os
 import random
@@ -16,6 +15,7 @@ import sys
 import tempfile
 
 import random_rules
+import unproved
 from rules_try import Harness
 
 BATCH = 4000
@@ -92,19 +92,16 @@ def kind_of(answer):
 
 
 def main():
-    words = argparse.ArgumentParser(description=__doc__, formatter_class=argparse.RawDescriptionHelpFormatter)
-    words.add_argument('seed', type=int)
-    words.add_argument('count', type=int)
-    words.add_argument('--first', type=int, default=0)
+    words = unproved.arguments(__doc__)
     given = words.parse_args()
     if not os.environ.get('MODEL'):
         words.error('MODEL is not set')
     model, counts, differing = Model(os.environ['MODEL']), collections.Counter(), 0
     with tempfile.TemporaryDirectory() as folder:
         harness = Harness(folder)
-        for first in range(given.first, given.first + given.count, BATCH):
+        for batch in unproved.in_batches(given, BATCH):
             files = []
-            for number in range(first, min(first + BATCH, given.first + given.count)):
+            for number in batch:
                 rng = random.Random('rules/%d/%d' % (given.seed, number))
                 files.append((number, random_rules.a_file(rng, number % 2 == 1).encode()))
             wanted = [model.answer(raw) for _, raw in files]
@@ -113,10 +110,7 @@ def main():
                 if want != got:
                     differing += 1
                     print('%d: %r\n  wanted %s\n  given  %s' % (number, raw, want, got))
-    for name, count in sorted(counts.items()):
-        print('%7d  %s' % (count, name))
-    print('%d files, %d differences' % (given.count, differing))
-    return 1 if differing else 0
+    return unproved.told(counts, given, 'files', differing)
 
 
 if __name__ == '__main__':

@@ -3,10 +3,9 @@
 Its input has a line for each file of rules, `r:` with the bytes in hexadecimal. It answers each by one line that begins
 with `=`: the rules with every node of their sides, the node before its parts, or the cause with its line.
 """
-import sources_try
+import unproved
 
-CRATES = ('mpy_tree', 'mpy_lexer', 'mpy_expressions', 'mpy_scopes', 'mpy_types', 'choice_tree', 'eml_match', 'eml_faults',
-          'eml_sides', 'eml_reader')
+USES = ('choice_tree', 'eml_reader', 'mpy_tree')
 PROGRAM = r'''
 //! Reads files of rules, and says what they are read as.
 #![tactic(auto)]
@@ -16,34 +15,6 @@ use eml_reader::{RuleError, read_rules};
 use mpy_tree::{ArithOp, CmpOp};
 use std::alloc::Global;
 use std::fs;
-
-fn digit(c: u8) -> u8 {
-    if c >= 97 { c - 87 } else { c - 48 }
-}
-
-fn unhex(alloc: Global, word: &str) -> Result<Vec<u8>, anyhow::Error> {
-    let digits = word.as_bytes();
-    let mut bytes = Vec::new(alloc);
-    for i in 1..digits.len() / 2 {
-        bytes.push(digit(digits[2 * i]) * 16 + digit(digits[2 * i + 1]))?;
-    }
-    Ok(bytes)
-}
-
-fn put(out: &mut String, words: &str) -> Result<(), anyhow::Error> {
-    out.push_str(words)?;
-    Ok(())
-}
-
-fn put_hex(out: &mut String, bytes: &[u8]) -> Result<(), anyhow::Error> {
-    for b in bytes {
-        for half in [*b / 16, *b % 16] {
-            let digit = if half > 9 { half + 87 } else { half + 48 };
-            out.push(char::from(digit))?;
-        }
-    }
-    Ok(())
-}
 
 fn put_number(alloc: Global, out: &mut String, number: u64) -> Result<(), anyhow::Error> {
     let digits = format!(in alloc; "{number}")?;
@@ -282,21 +253,21 @@ fn main(rt: HostRuntime) -> Result<(), anyhow::Error> {
     let alloc = rt.alloc();
     let text = fs::read_to_string(&rt, "input.txt")?;
     for line in text.lines() {
-        let bytes = unhex(alloc, line)?;
+        let bytes = unhex(alloc, line.strip_prefix("r:").unwrap_or("").as_bytes())?;
         let mut out = String::new(alloc);
         put_answer(alloc, &mut out, bytes.as_slice())?;
         println!(rt; "{out}")?;
     }
     Ok(())
 }
-'''
+''' + unproved.HELPERS
 
 
-class Harness(sources_try.Harness):
-    """The program, in a folder of its own. The current folder is the top of the repository."""
+class Harness(unproved.Harness):
+    """The program, in a folder of its own."""
 
     def __init__(self, folder):
-        super().__init__(folder, CRATES, PROGRAM)
+        super().__init__(folder, USES, PROGRAM)
 
     def answers(self, files):
         """What the program answers to these files, given in hexadecimal."""

@@ -9,7 +9,6 @@ the path of the model's command line; its modules lie beside it. Each side is ma
 without partners. Compared are the place, its target and the expression, read as a left and as a right side. Printed are
 the counts of the answers and each difference; the exit status is 1 where there is one.
 """
-import argparse
 import collections
 import os
 import random
@@ -17,6 +16,7 @@ import sys
 import tempfile
 
 import random_sides
+import unproved
 from sides_try import Harness
 
 BATCH = 20000
@@ -100,8 +100,8 @@ def compared(model, harness, seed, numbers, counts):
     for number, words, answer in zip(numbers, sides, given):
         wanted = model.answer(words)
         left, right = wanted.split(' | ')
-        counts['left', left.split(' ')[0]] += 1
-        counts['right', right.split(' ')[0]] += 1
+        counts['left ' + left.split(' ')[0]] += 1
+        counts['right ' + right.split(' ')[0]] += 1
         if answer != wanted:
             differing += 1
             print('%d: %s\n  wanted %s\n  given  %s' % (number, ' '.join(words), wanted, answer))
@@ -109,23 +109,16 @@ def compared(model, harness, seed, numbers, counts):
 
 
 def main():
-    words = argparse.ArgumentParser(description=__doc__, formatter_class=argparse.RawDescriptionHelpFormatter)
-    words.add_argument('seed', type=int)
-    words.add_argument('count', type=int)
-    words.add_argument('--first', type=int, default=0)
+    words = unproved.arguments(__doc__)
     given = words.parse_args()
     if not os.environ.get('MODEL'):
         words.error('MODEL is not set')
     model, counts, differing = Model(os.environ['MODEL']), collections.Counter(), 0
-    end = given.first + given.count
     with tempfile.TemporaryDirectory() as folder:
         harness = Harness(folder)
-        for first in range(given.first, end, BATCH):
-            differing += compared(model, harness, given.seed, range(first, min(first + BATCH, end)), counts)
-    for (mode, name), count in sorted(counts.items()):
-        print('%7d  %s %s' % (count, mode, name))
-    print('%d sides, %d differences' % (given.count, differing))
-    return 1 if differing else 0
+        for batch in unproved.in_batches(given, BATCH):
+            differing += compared(model, harness, given.seed, batch, counts)
+    return unproved.told(counts, given, 'sides', differing)
 
 
 if __name__ == '__main__':

@@ -3,12 +3,9 @@
 Its input has a line for each side, with a word for each token: the letter of its kind and its bytes in hexadecimal. It
 answers each by one line that begins with `=`: what the tokens are as a left side, ` | `, and what as a right side.
 """
-import os
-import shutil
-import subprocess
-import sys
+import unproved
 
-CRATES = ('mpy_tree', 'mpy_lexer', 'mpy_expressions', 'mpy_scopes', 'mpy_types', 'choice_tree', 'eml_sides')
+USES = ('choice_tree', 'eml_sides', 'mpy_lexer', 'mpy_tree')
 LETTERS = {'Name': 'N', 'Reserved': 'R', 'Number': 'D', 'Text': 'T', 'Mark': 'M', 'Meta': 'V'}
 PROGRAM = r'''
 //! Reads sides of rules, and says what they are read as.
@@ -21,18 +18,6 @@ use mpy_tree::{ArithOp, CmpOp};
 use std::alloc::Global;
 use std::fs;
 
-fn digit(c: u8) -> u8 {
-    if c >= 97 { c - 87 } else { c - 48 }
-}
-
-fn unhex(alloc: Global, digits: &[u8]) -> Result<Vec<u8>, anyhow::Error> {
-    let mut bytes = Vec::new(alloc);
-    for i in 0..digits.len() / 2 {
-        bytes.push(digit(digits[2 * i]) * 16 + digit(digits[2 * i + 1]))?;
-    }
-    Ok(bytes)
-}
-
 fn token(alloc: Global, word: &[u8]) -> Result<Token, anyhow::Error> {
     let kind = match word[0] {
         b'N' => Kind::Name,
@@ -44,11 +29,6 @@ fn token(alloc: Global, word: &[u8]) -> Result<Token, anyhow::Error> {
     };
     let text = Spelling::from_vec(unhex(alloc, &word[1..])?);
     Ok(Token { kind, from: 0, to: 0, text })
-}
-
-fn put(out: &mut String, words: &str) -> Result<(), anyhow::Error> {
-    out.push_str(words)?;
-    Ok(())
 }
 
 fn put_bytes(out: &mut String, bytes: &[u8]) -> Result<(), anyhow::Error> {
@@ -279,35 +259,16 @@ fn main(rt: HostRuntime) -> Result<(), anyhow::Error> {
     }
     Ok(())
 }
-'''
+''' + unproved.HELPERS
 
 
-class Harness:
-    """The program, in a folder of its own. The current folder is the top of the repository."""
+class Harness(unproved.Harness):
+    """The program, in a folder of its own."""
 
     def __init__(self, folder):
-        self.input = os.path.join(folder, 'input.txt')
-        self.crate = os.path.join(folder, 'crates/sides_try')
-        for name in CRATES:
-            to = os.path.join(folder, 'crates', name)
-            shutil.copytree(os.path.join('crates', name), to, ignore=shutil.ignore_patterns('out'))
-        os.makedirs(os.path.join(self.crate, 'src'))
-        with open('crates.txt') as listed, open(os.path.join(folder, 'crates.txt'), 'w') as out:
-            out.writelines(line for line in listed if line.split(':')[0] in CRATES)
-            out.write('sides_try: anyhow %s\n' % ' '.join(CRATES))
-        with open(os.path.join(self.crate, 'src/main.rt'), 'w') as out:
-            out.write(PROGRAM)
+        super().__init__(folder, USES, PROGRAM)
 
     def answers(self, sides):
         """What the program answers to these sides, each a list of kinds and texts of tokens."""
-        with open(self.input, 'w') as out:
-            for side in sides:
-                words = [LETTERS[kind] + text.encode().hex() for kind, text in side]
-                out.write((' '.join(words) or ' ') + '\n')
-        options = ['--steps', '1000', '--seconds', '900', '--data', 'input.txt=' + self.input]
-        run = subprocess.run(['rt', 'try'] + options, cwd=self.crate, capture_output=True, text=True)
-        given = [line.removeprefix('| ').rstrip() for line in run.stdout.splitlines()]
-        given = [line[1:] for line in given if line.startswith('=')]
-        if 'run=ended status=0' not in run.stdout + run.stderr or len(given) != len(sides):
-            sys.exit('%d answers to %d sides\n' % (len(given), len(sides)) + run.stdout[-3000:] + run.stderr[-3000:])
-        return given
+        lines = [' '.join(LETTERS[kind] + text.encode().hex() for kind, text in side) or ' ' for side in sides]
+        return super().answers(lines)

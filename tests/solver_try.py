@@ -3,12 +3,9 @@
 Its input has lines: `p VARS` begins a formula, `c LITS` adds a clause, `s BUDGET` decides the formula, and `l LITS`
 with `h HINTS` after it has the checker judge a step, which is then known. A literal is a variable or its negative.
 """
-import os
-import shutil
-import subprocess
-import sys
+import unproved
 
-CRATES = ('clause_base', 'derivation_check', 'sat_plain')
+USES = ('clause_base', 'derivation_check', 'sat_plain')
 PROGRAM = r'''
 //! Decides formulas, and judges the steps of logs.
 #![tactic(auto)]
@@ -133,32 +130,15 @@ fn main(rt: HostRuntime) -> Result<(), anyhow::Error> {
     Ok(())
 }
 '''
+MARKS = ('holds', 'refuted', 'spent', 'no ', 'good', 'not unit', 'l ', 'time ')
 
 
-class Harness:
-    """The program, in a folder of its own. The current folder is the top of the repository."""
+class Harness(unproved.Harness):
+    """The program, in a folder of its own."""
 
     def __init__(self, folder):
-        self.input = os.path.join(folder, 'input.txt')
-        self.crate = os.path.join(folder, 'crates/solver_try')
-        for name in CRATES:
-            shutil.copytree(os.path.join('crates', name), os.path.join(folder, 'crates', name), ignore=shutil.ignore_patterns('out'))
-        os.makedirs(os.path.join(self.crate, 'src'))
-        with open(os.path.join(folder, 'crates.txt'), 'w') as out:
-            out.write('clause_base: smallvec\nderivation_check: clause_base\nsat_plain: clause_base\n')
-            out.write('solver_try: clause_base derivation_check sat_plain anyhow\n')
-        with open(os.path.join(self.crate, 'src/main.rt'), 'w') as out:
-            out.write(PROGRAM)
+        super().__init__(folder, USES, PROGRAM)
 
     def lines(self, text):
-        """The lines that the program writes for an input. What is compiled runs to the end, the interpreter doesn't."""
-        with open(self.input, 'w') as out:
-            out.write(text)
-        options = ['--steps', '1000', '--seconds', '300', '--data', 'input.txt=' + self.input]
-        run = subprocess.run(['rt', 'try'] + options, cwd=self.crate, capture_output=True, text=True)
-        marks = ('holds', 'refuted', 'spent', 'no ', 'good', 'not unit', 'l ', 'time ')
-        lines = [line.removeprefix('| ').strip() for line in run.stdout.splitlines()]
-        wanted = [line for line in lines if line.startswith(marks)]
-        if 'run=ended status=0' not in run.stdout + run.stderr:
-            sys.exit(run.stdout[-2000:] + run.stderr[-2000:])
-        return wanted
+        """The lines that the program writes for an input."""
+        return [line for line in self.printed(text) if line.startswith(MARKS)]

@@ -12,7 +12,6 @@ of the inputs and some inputs by their places, and the case with whether it is a
 and both types of a conflict. Printed are the counts of the answers and each difference; the exit status is 1 where
 there is one.
 """
-import argparse
 import collections
 import itertools
 import os
@@ -21,6 +20,7 @@ import sys
 import tempfile
 
 import random_sources
+import unproved
 from sources_try import Harness
 
 BATCH = 20000
@@ -169,26 +169,19 @@ def compared(asked, harness, counts):
 
 
 def main():
-    words = argparse.ArgumentParser(description=__doc__, formatter_class=argparse.RawDescriptionHelpFormatter)
-    words.add_argument('kind', choices=('programs', 'bounds', 'cases'))
-    words.add_argument('seed', type=int)
-    words.add_argument('count', type=int)
-    words.add_argument('--first', type=int, default=0)
+    words = unproved.arguments(__doc__, ('programs', 'bounds', 'cases'))
     given = words.parse_args()
     if not os.environ.get('MODEL'):
         words.error('MODEL is not set')
     model, counts, differing = Model(os.environ['MODEL']), collections.Counter(), 0
     with tempfile.TemporaryDirectory() as folder:
         harness = Harness(folder)
-        for first in range(given.first, given.first + given.count, BATCH):
+        for batch in unproved.in_batches(given, BATCH):
             asked = Asked(model)
-            for number in range(first, min(first + BATCH, given.first + given.count)):
+            for number in batch:
                 ask_of(asked, given.kind, given.seed, number)
             differing += compared(asked, harness, counts)
-    for name, count in sorted(counts.items()):
-        print('%7d  %s' % (count, name))
-    print('%d %s, %d differences' % (given.count, given.kind, differing))
-    return 1 if differing else 0
+    return unproved.told(counts, given, given.kind, differing)
 
 
 if __name__ == '__main__':

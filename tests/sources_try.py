@@ -5,13 +5,9 @@ after it, `p BYTES` reads a program to its typing, `c BYTES` reads a case, and `
 answers each by one line that begins with `=`. With the word `time` behind it a line is read that many times, and the
 microseconds of the fastest reading stand behind the answer.
 """
-import os
-import shutil
-import subprocess
-import sys
+import unproved
 
-CRATES = ('mpy_tree', 'mpy_lexer', 'mpy_expressions', 'mpy_limits', 'mpy_parser', 'mpy_scopes', 'mpy_types', 'mpy_share',
-          'mpy_type_laws', 'bounds_reader', 'input_space', 'grade_io', 'source_files', 'task_read')
+USES = ('bounds_reader', 'input_space', 'mpy_parser', 'mpy_share', 'mpy_tree', 'mpy_types', 'task_read')
 PROGRAM = r'''
 //! Reads the sources of a task, and says what they are read as.
 #![tactic(auto)]
@@ -26,34 +22,6 @@ use std::alloc::Global;
 use std::fs;
 use std::time::Instant;
 use task_read::{TaskError, read_program};
-
-fn digit(c: u8) -> u8 {
-    if c >= 97 { c - 87 } else { c - 48 }
-}
-
-fn unhex(alloc: Global, word: &str) -> Result<Vec<u8>, anyhow::Error> {
-    let digits = word.as_bytes();
-    let mut bytes = Vec::new(alloc);
-    for i in 0..digits.len() / 2 {
-        bytes.push(digit(digits[2 * i]) * 16 + digit(digits[2 * i + 1]))?;
-    }
-    Ok(bytes)
-}
-
-fn put_hex(out: &mut String, bytes: &[u8]) -> Result<(), anyhow::Error> {
-    for b in bytes {
-        for half in [*b / 16, *b % 16] {
-            let digit = if half > 9 { half + 87 } else { half + 48 };
-            out.push(char::from(digit))?;
-        }
-    }
-    Ok(())
-}
-
-fn put(out: &mut String, words: &str) -> Result<(), anyhow::Error> {
-    out.push_str(words)?;
-    Ok(())
-}
 
 fn put_number(alloc: Global, out: &mut String, number: i64) -> Result<(), anyhow::Error> {
     let digits = format!(in alloc; "{number}")?;
@@ -220,7 +188,7 @@ fn answer(alloc: Global, out: &mut String, kind: &str, b: &Bounds, word: &str) -
         }
         return Ok(());
     }
-    let bytes = unhex(alloc, word)?;
+    let bytes = unhex(alloc, word.as_bytes())?;
     if kind == "c" {
         return put_read_case(alloc, out, b, bytes.as_slice());
     }
@@ -254,7 +222,7 @@ fn put_time(
     times: u64,
 ) -> Result<(), anyhow::Error> {
     let alloc = rt.alloc();
-    let bytes = unhex(alloc, word)?;
+    let bytes = unhex(alloc, word.as_bytes())?;
     let mut least = timed(rt, kind, b, bytes.as_slice())?;
     for _turn in 1..times {
         least = least.min(timed(rt, kind, b, bytes.as_slice())?);
@@ -281,7 +249,7 @@ fn main(rt: HostRuntime) -> Result<(), anyhow::Error> {
         }
         let mut out = String::new(alloc);
         if words[0] == "b" {
-            let bytes = unhex(alloc, words[1])?;
+            let bytes = unhex(alloc, words[1].as_bytes())?;
             match read_bounds(alloc, bytes.as_slice()) {
                 Ok(b) => {
                     put_bounds(alloc, &mut out, &b)?;
@@ -305,33 +273,11 @@ fn main(rt: HostRuntime) -> Result<(), anyhow::Error> {
     }
     Ok(())
 }
-'''
+''' + unproved.HELPERS
 
 
-class Harness:
-    """The program, in a folder of its own. The current folder is the top of the repository."""
+class Harness(unproved.Harness):
+    """The program, in a folder of its own."""
 
-    def __init__(self, folder, crates=CRATES, program=PROGRAM):
-        self.input = os.path.join(folder, 'input.txt')
-        self.crate = os.path.join(folder, 'crates/sources_try')
-        for name in crates:
-            to = os.path.join(folder, 'crates', name)
-            shutil.copytree(os.path.join('crates', name), to, ignore=shutil.ignore_patterns('out'))
-        os.makedirs(os.path.join(self.crate, 'src'))
-        with open('crates.txt') as listed, open(os.path.join(folder, 'crates.txt'), 'w') as out:
-            out.writelines(line for line in listed if line.split(':')[0] in crates)
-            out.write('sources_try: anyhow %s\n' % ' '.join(crates))
-        with open(os.path.join(self.crate, 'src/main.rt'), 'w') as out:
-            out.write(program)
-
-    def answers(self, lines):
-        """What the program answers to these lines. What is compiled runs to the end, the interpreter doesn't."""
-        with open(self.input, 'w') as out:
-            out.write(''.join(line + '\n' for line in lines))
-        options = ['--steps', '1000', '--seconds', '900', '--data', 'input.txt=' + self.input]
-        run = subprocess.run(['rt', 'try'] + options, cwd=self.crate, capture_output=True, text=True)
-        given = [line.removeprefix('| ').strip() for line in run.stdout.splitlines()]
-        given = [line[1:] for line in given if line.startswith('=')]
-        if 'run=ended status=0' not in run.stdout + run.stderr or len(given) != len(lines):
-            sys.exit('%d answers to %d lines\n' % (len(given), len(lines)) + run.stdout[-3000:] + run.stderr[-3000:])
-        return given
+    def __init__(self, folder):
+        super().__init__(folder, USES, PROGRAM)

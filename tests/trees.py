@@ -11,7 +11,6 @@ reference, and of trees of few selections the set of all costs, programs and edi
 of rewriting, without a tree. Printed are the counts of the answers and each difference; the exit status is 1 where there
 is one.
 """
-import argparse
 import collections
 import hashlib
 import itertools
@@ -21,6 +20,7 @@ import sys
 import tempfile
 
 import rule_requests
+import unproved
 from trees_try import MOST, Harness
 
 BATCH = 5000
@@ -247,10 +247,7 @@ def kind_of(answer):
 
 
 def main():
-    words = argparse.ArgumentParser(description=__doc__, formatter_class=argparse.RawDescriptionHelpFormatter)
-    words.add_argument('seed', type=int)
-    words.add_argument('count', type=int)
-    words.add_argument('--first', type=int, default=0)
+    words = unproved.arguments(__doc__)
     words.add_argument('--text', action='store_true')
     given = words.parse_args()
     if not os.environ.get('MODEL'):
@@ -258,9 +255,9 @@ def main():
     model, counts, differing = Model(os.environ['MODEL']), collections.Counter(), 0
     with tempfile.TemporaryDirectory() as folder:
         harness = Harness(folder)
-        for first in range(given.first, given.first + given.count, BATCH):
+        for batch in unproved.in_batches(given, BATCH):
             tasks = []
-            for number in range(first, min(first + BATCH, given.first + given.count)):
+            for number in batch:
                 rng = random.Random('trees/%d/%d' % (given.seed, number))
                 request = rule_requests.a_request(rng)
                 tasks.append((number, [request.files[it] for it in request.words[1:5]]))
@@ -273,10 +270,7 @@ def main():
                     print('%d: %r\n  wanted %s\n  given  %s' % (number, sources, want, got), flush=True)
                 elif given.text:
                     print(got)
-    for kind, count in sorted(counts.items()):
-        print('%7d  %s' % (count, kind))
-    print('%d tasks, %d differences' % (given.count, differing))
-    return 1 if differing else 0
+    return unproved.told(counts, given, 'tasks', differing)
 
 
 if __name__ == '__main__':

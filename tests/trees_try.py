@@ -5,11 +5,10 @@ that begins with `=`: the refusal, or of the tree the digest of its text, its gr
 and its weight, the weight of the reference, and the digest of all costs, programs and edits of selections, sorted, or `-`
 where there are more than MOST selections. `text` in front of a line gives the text of the tree instead of its digest.
 """
-import sources_try
+import unproved
 
 MOST = 2000
-CRATES = sources_try.CRATES + ('choice_tree', 'eml_match', 'selection_numbers', 'eml_sides', 'eml_faults', 'eml_reader',
-                               'eml_instances', 'eml_rewrite', 'tree_weights', 'mpy_printer')
+USES = ('choice_tree', 'input_space', 'mpy_printer', 'mpy_tree', 'selection_numbers', 'task_read', 'tree_weights')
 PROGRAM = r'''
 //! Reads tasks, and says what their weighted trees are.
 #![tactic(auto)]
@@ -24,34 +23,6 @@ use std::alloc::Global;
 use std::fs;
 use task_read::{TaskError, read_task};
 use tree_weights::{lift, weight};
-
-fn digit(c: u8) -> u8 {
-    if c >= 97 { c - 87 } else { c - 48 }
-}
-
-fn unhex(alloc: Global, word: &str) -> Result<Vec<u8>, anyhow::Error> {
-    let digits = word.as_bytes();
-    let mut bytes = Vec::new(alloc);
-    for i in 0..digits.len() / 2 {
-        bytes.push(digit(digits[2 * i]) * 16 + digit(digits[2 * i + 1]))?;
-    }
-    Ok(bytes)
-}
-
-fn put(out: &mut String, words: &str) -> Result<(), anyhow::Error> {
-    out.push_str(words)?;
-    Ok(())
-}
-
-fn put_hex(out: &mut String, bytes: &[u8]) -> Result<(), anyhow::Error> {
-    for b in bytes {
-        for half in [*b / 16, *b % 16] {
-            let digit = if half > 9 { half + 87 } else { half + 48 };
-            out.push(char::from(digit))?;
-        }
-    }
-    Ok(())
-}
 
 // A mark, a number, and the end of it.
 fn put_number(alloc: Global, out: &mut String, mark: &str, number: u64) -> Result<(), anyhow::Error> {
@@ -348,7 +319,7 @@ fn put_answer(alloc: Global, out: &mut String, words: &[&str]) -> Result<(), any
             whole = true;
         } else {
             let digits = word.strip_prefix(":").unwrap_or("");
-            texts.push(unhex(alloc, digits)?)?;
+            texts.push(unhex(alloc, digits.as_bytes())?)?;
         }
     }
     if texts.len() != 4 {
@@ -381,16 +352,11 @@ fn main(rt: HostRuntime) -> Result<(), anyhow::Error> {
     }
     Ok(())
 }
-'''.replace('MOST', str(MOST))
+'''.replace('MOST', str(MOST)) + unproved.HELPERS
 
 
-class Harness(sources_try.Harness):
-    """The program, in a folder of its own. The current folder is the top of the repository."""
+class Harness(unproved.Harness):
+    """The program, in a folder of its own."""
 
     def __init__(self, folder):
-        super().__init__(folder, CRATES, PROGRAM)
-        listed = self.crate + '/../../crates.txt'
-        with open(listed) as lines:
-            text = lines.read()
-        with open(listed, 'w') as out:
-            out.write(text.replace('sources_try: anyhow', 'sources_try: anyhow md5'))
+        super().__init__(folder, USES, PROGRAM, ('anyhow', 'md5'))

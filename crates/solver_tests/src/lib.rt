@@ -5,6 +5,8 @@
 #[cfg(test)]
 mod all_signs;
 #[cfg(test)]
+mod certificates;
+#[cfg(test)]
 mod checking;
 #[cfg(test)]
 mod clauses;

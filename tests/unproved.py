@@ -1,0 +1,112 @@
+"""Programs over crates of the repository, run unproved on a copy of them; nothing by itself.
+
+Such a program reads `input.txt` and answers each of its lines by one line that begins with `=`. HELPERS are functions
+that it may use: hexadecimal digits to bytes and back, and texts put behind others.
+"""
+import argparse
+import os
+import shutil
+import subprocess
+import sys
+
+HELPERS = r'''
+fn digit(c: u8) -> u8 {
+    if c >= 97 { c - 87 } else { c - 48 }
+}
+
+fn unhex(alloc: Global, digits: &[u8]) -> Result<Vec<u8>, anyhow::Error> {
+    let mut bytes = Vec::new(alloc);
+    for i in 0..digits.len() / 2 {
+        bytes.push(digit(digits[2 * i]) * 16 + digit(digits[2 * i + 1]))?;
+    }
+    Ok(bytes)
+}
+
+fn put_hex(out: &mut String, bytes: &[u8]) -> Result<(), anyhow::Error> {
+    for b in bytes {
+        for half in [*b / 16, *b % 16] {
+            let digit = if half > 9 { half + 87 } else { half + 48 };
+            out.push(char::from(digit))?;
+        }
+    }
+    Ok(())
+}
+
+fn put(out: &mut String, words: &str) -> Result<(), anyhow::Error> {
+    out.push_str(words)?;
+    Ok(())
+}
+'''
+
+
+def below(lines, names):
+    """These crates of the repository and all that they need, by the lines of crates.txt; no library of the kit."""
+    found = []
+    for name in names:
+        if name in lines and name not in found:
+            found += [it for it in below(lines, lines[name].split(':')[1].split()) if it not in found] + [name]
+    return found
+
+
+class Harness:
+    """A program in a folder of its own. The current folder is the top of the repository."""
+
+    def __init__(self, folder, uses, program, kit=('anyhow',)):
+        """`uses` are the crates of the repository that the program names, `kit` those of the kit."""
+        self.input = os.path.join(folder, 'input.txt')
+        self.crate = os.path.join(folder, 'crates/unproved')
+        with open('crates.txt') as listed:
+            lines = {line.split(':')[0]: line for line in listed if ':' in line and not line.startswith('#')}
+        for name in below(lines, uses):
+            to = os.path.join(folder, 'crates', name)
+            shutil.copytree(os.path.join('crates', name), to, ignore=shutil.ignore_patterns('out'))
+        os.makedirs(os.path.join(self.crate, 'src'))
+        with open(os.path.join(folder, 'crates.txt'), 'w') as out:
+            out.writelines(lines[name] for name in below(lines, uses))
+            out.write('unproved: %s %s\n' % (' '.join(kit), ' '.join(uses)))
+        with open(os.path.join(self.crate, 'src/main.rt'), 'w') as out:
+            out.write(program)
+
+    def printed(self, text):
+        """The lines that the program prints for an input. What is compiled runs to the end, the interpreter doesn't."""
+        with open(self.input, 'w') as out:
+            out.write(text)
+        options = ['--steps', '1000', '--seconds', '900', '--data', 'input.txt=' + self.input]
+        run = subprocess.run(['rt', 'try'] + options, cwd=self.crate, capture_output=True, text=True)
+        if 'run=ended status=0' not in run.stdout + run.stderr:
+            sys.exit(run.stdout[-3000:] + run.stderr[-3000:])
+        return [line.removeprefix('| ').rstrip() for line in run.stdout.splitlines()]
+
+    def answers(self, lines):
+        """What the program answers to these lines."""
+        printed = self.printed(''.join(line + '\n' for line in lines))
+        given = [line[1:] for line in printed if line.startswith('=')]
+        if len(given) != len(lines):
+            sys.exit('%d answers to %d lines\n%s' % (len(given), len(lines), '\n'.join(printed[-30:])))
+        return given
+
+
+def in_batches(given, size):
+    """The numbers from `given.first` on, `given.count` of them, in lists of at most this size."""
+    end = given.first + given.count
+    for first in range(given.first, end, size):
+        yield range(first, min(first + size, end))
+
+
+def arguments(doc, kinds=None):
+    """The parser of the words of a comparison: what kind, a seed, a count, and the number of the first case."""
+    words = argparse.ArgumentParser(description=doc, formatter_class=argparse.RawDescriptionHelpFormatter)
+    if kinds:
+        words.add_argument('kind', choices=kinds)
+    words.add_argument('seed', type=int)
+    words.add_argument('count', type=int)
+    words.add_argument('--first', type=int, default=0)
+    return words
+
+
+def told(counts, given, what, differing):
+    """Says how many answers there were of each kind; the exit status."""
+    for kind, count in sorted(counts.items()):
+        print('%7d  %s' % (count, kind))
+    print('%d %s, %d differences' % (given.count, what, differing))
+    return 1 if differing else 0
