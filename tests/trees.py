@@ -23,7 +23,7 @@ import rule_requests
 import unproved
 from trees_try import MOST, Harness
 
-BATCH = 5000
+BATCH = 500
 # The language of rules with neither guards nor deletions, and the limit by tries.
 STAGE = 6
 ONE = {'Neg': '-', 'Not': '!', 'And': '&', 'Or': '|', 'Index': 'I'}
@@ -217,7 +217,8 @@ class Model:
         try:
             task = self.grade.read_task(sources, STAGE)
         except self.grade.Refused as refused:
-            return 'refused %s %s %d;' % (refused.source, refused.cause, refused.line)
+            cause = refused.cause.replace('TypeFault', 'Type')
+            return 'refused %s %s %d;' % (refused.source, cause, refused.line)
         text, count = self.text.program(task.tree), self.rewrite.choices(task.tree)
         words = ['tree', text if whole else digest(text), 'cost', '%d;' % self.rewrite.most_cost(task.tree),
                  'choices', '%d;' % count]
