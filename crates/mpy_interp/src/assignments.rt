@@ -41,9 +41,9 @@ impl<C: Calls> Machine<'_, C> {
         ensures { Meets result (set_by self.now.limits.now (C.gives self.now.calls.now)
             (state_of frame.now) line x.now (arith self.now.limits.now op) (term_of e.now)) }
     {
-        let v = frame.get(line, x)?;
-        let w = self.eval(frame, line, e)?;
-        operate(self.alloc, self.limits, line, op, &v, &w)
+        let v = frame.find(line, x)?;
+        let w = self.value(frame, line, e)?;
+        operate(self.alloc, self.limits, line, op, v, &w)
     }
 
     /// The new value of `x` in `x.append(e)`.
@@ -52,7 +52,7 @@ impl<C: Calls> Machine<'_, C> {
             (state_of frame.now) line x.now (append self.now.limits.now) (term_of e.now)) }
     {
         let v = frame.get(line, x)?;
-        let w = self.eval(frame, line, e)?;
+        let w = self.value(frame, line, e)?;
         append_to(self.limits, line, v, &w)
     }
 
@@ -68,9 +68,9 @@ impl<C: Calls> Machine<'_, C> {
         ensures { Meets result (set_at self.now.limits.now (C.gives self.now.calls.now)
             (state_of frame.now) line x.now (term_of i.now) (term_of e.now)) }
     {
-        let w = self.eval(frame, line, e)?;
+        let w = self.value(frame, line, e)?;
         let v = frame.get(line, x)?;
-        let k = self.eval(frame, line, i)?;
+        let k = self.value(frame, line, i)?;
         replace_at(line, v, &k, &w)
     }
 
@@ -87,9 +87,9 @@ impl<C: Calls> Machine<'_, C> {
             (arith self.now.limits.now change.now.op) (term_of change.now.e.now)) }
     {
         let v = frame.get(line, place.x)?;
-        let k = self.eval(frame, line, place.i)?;
+        let k = self.value(frame, line, place.i)?;
         let old = element_at(self.alloc, line, &v, &k)?;
-        let w = self.eval(frame, line, change.e)?;
+        let w = self.value(frame, line, change.e)?;
         let new = operate(self.alloc, self.limits, line, change.op, &old, &w)?;
         replace_at(line, v, &k, &new)
     }

@@ -1,6 +1,6 @@
 //! Calls of builtin functions.
 ghost use Rattle.std.specs.Prelude.{◌≡◌};
-ghost use Rattle.mpy_interp.specs.Answers.{Meets};
+ghost use Rattle.mpy_interp.specs.Answers.{Meets, GivesNumber};
 ghost use Rattle.mpy_tree.specs.Values.{on_line};
 ghost use Rattle.mpy_tree.specs.Operations.{absolute, greatest, least, length_of};
 ghost use Rattle.mpy_tree.specs.Expressions.{apply, builtin, range_of_numbers};
@@ -8,7 +8,7 @@ ghost use Rattle.mpy_tree.specs.Expressions.{apply, builtin, range_of_numbers};
 use crate::calls::Calls;
 use crate::lists::numbers_of;
 use crate::machine::Machine;
-use crate::numbers::{make_length, make_number};
+use crate::numbers::{length_within, make_length, make_number};
 use crate::ranges::range;
 use crate::stop::{Stop, stuck};
 use mpy_tree::{Builtin, Limits, Name, Value};
@@ -58,6 +58,18 @@ fn length(l: &Limits, line: u32, v: &Value) -> Result<Value, Stop>
         Value::List(xs) => make_length(l, line, xs.len()),
         Value::Text(cs) => make_length(l, line, cs.len()),
         _ => Err(stuck(line)),
+    }
+}
+
+/// The number that `len(v)` gives, where it gives one.
+#[inline]
+pub fn length_of_value(l: &Limits, v: &Value) -> Option<i32>
+    ensures { GivesNumber result (length_of l.now v.now) }
+{
+    match v {
+        Value::List(xs) => length_within(l, xs.len()),
+        Value::Text(cs) => length_within(l, cs.len()),
+        _ => None,
     }
 }
 

@@ -1,5 +1,5 @@
 //! Comparisons, and what a value is as a test.
-ghost use Rattle.std.specs.Prelude.{◌≡◌, ◌⊎◌};
+ghost use Rattle.std.specs.Prelude.{◌≡◌, ◌⊎◌, IfSome, Ok};
 ghost use Rattle.mpy_interp.specs.Answers.{Meets};
 ghost use Rattle.mpy_tree.specs.Values.{on_line};
 ghost use Rattle.mpy_tree.specs.Operations.{holds, compare, equal, truth, has_number, is_front};
@@ -57,6 +57,23 @@ fn compare_numbers(op: CmpOp, line: u32, a: &Value, b: &Value) -> Result<bool, S
             _ => *b <= *a,
         }),
         _ => Err(stuck(line)),
+    }
+}
+
+/// Whether a comparison of two numbers holds; none for one with a list.
+#[inline]
+pub fn relate_numbers(op: CmpOp, a: i32, b: i32) -> Option<bool>
+    ensures { IfSome result (λ t. compare op (Value.Int a) (Value.Int b) ≡ Ok t) }
+{
+    match op {
+        CmpOp::Eq => Some(a == b),
+        CmpOp::Ne => Some(a != b),
+        CmpOp::Lt => Some(a < b),
+        CmpOp::Le => Some(a <= b),
+        CmpOp::Gt => Some(b < a),
+        CmpOp::Ge => Some(b <= a),
+        CmpOp::Member => None,
+        CmpOp::NotMember => None,
     }
 }
 

@@ -4,6 +4,7 @@ ghost use Rattle.mpy_tree.specs.Syntax as ast;
 ghost use Rattle.mpy_tree.specs.View.{term_of, terms_of, end_by};
 ghost use Rattle.mpy_interp.specs.Answers.{Meets, MeetsBy};
 ghost use Rattle.mpy_interp.specs.Frames.{state_of};
+ghost use Rattle.mpy_interp.specs.Operands.{value_behind};
 ghost use Rattle.mpy_tree.specs.Expressions.{value_of, values_of, maybe_value_of};
 
 use crate::calls::Calls;
@@ -12,6 +13,7 @@ use crate::frame::Frame;
 use crate::lists::{element_at, list_literal, part_between, text_literal};
 use crate::machine::Machine;
 use crate::numbers::make_number;
+use crate::operand::Operand;
 use crate::operators::{negate, operate};
 use crate::stop::{Stop, stuck};
 use mpy_tree::{ArithOp, CmpOp, Expr, Exprs, Name, Value};
@@ -26,8 +28,8 @@ impl<C: Calls> Machine<'_, C> {
         match e {
             Expr::Int(n) => make_number(self.limits, line, *n as i64),
             Expr::Bool(b) => Ok(Value::Bool(*b)),
-            Expr::Text(cs) => text_literal(self.limits, line, cs),
             Expr::Name(x) => frame.get(line, x),
+            Expr::Text(cs) => text_literal(self.limits, line, cs),
             Expr::List(es) => self.eval_list(frame, line, es),
             Expr::Neg(a) => self.eval_neg(frame, line, a),
             Expr::Not(a) => self.eval_not(frame, line, a),
@@ -37,17 +39,50 @@ impl<C: Calls> Machine<'_, C> {
             Expr::Or(a, b) => self.eval_or(frame, line, a, b),
             Expr::Cond { test, yes, no } => self.eval_cond(frame, line, test, yes, no),
             Expr::Index(a, i) => self.eval_index(frame, line, a, i),
-            Expr::Slice(a, start, end) => {
-                let v = self.eval(frame, line, a)?;
-                let from = self.eval_end(frame, line, start)?;
-                let to = self.eval_end(frame, line, end)?;
-                part_between(self.alloc, line, &v, from, to)
-            }
+            Expr::Slice(a, start, end) => self.eval_slice(frame, line, a, start, end),
             Expr::Call(f, es) => self.eval_call(frame, line, f, es),
         }
     }
 
+    /// The value of an expression, by the shortcut where it gives a number.
+    #[cycle(eval)]
+    pub fn value(&self, frame: &Frame<'_>, line: u32, e: &Expr) -> Result<Value, Stop>
+        ensures { Meets result (value_of self.now.limits.now (C.gives self.now.calls.now)
+            (state_of frame.now) line (term_of e.now)) }
+    {
+        match self.number(frame, line, e) {
+            Some(z) => Ok(Value::Int(z)),
+            None => self.eval(frame, line, e),
+        }
+    }
+
+    /// The value of a test, by the shortcut where it gives a truth.
+    #[cycle(eval)]
+    pub fn test(&self, frame: &Frame<'_>, line: u32, e: &Expr) -> Result<Value, Stop>
+        ensures { Meets result (value_of self.now.limits.now (C.gives self.now.calls.now)
+            (state_of frame.now) line (term_of e.now)) }
+    {
+        match self.truth(frame, line, e) {
+            Some(b) => Ok(Value::Bool(b)),
+            None => self.eval(frame, line, e),
+        }
+    }
+
+    // The value of an expression that an operator is applied to. A local isn't copied for it.
+    #[cycle(eval)]
+    fn operand<'f>(&self, frame: &'f Frame<'_>, line: u32, e: &Expr) -> Result<Operand<'f>, Stop>
+        ensures { MeetsBy value_behind result
+            (value_of self.now.limits.now (C.gives self.now.calls.now)
+            (state_of frame.now) line (term_of e.now)) }
+    {
+        match e {
+            Expr::Name(x) => Ok(Operand::Local(frame.find(line, x)?)),
+            _ => Ok(Operand::Made(self.eval(frame, line, e)?)),
+        }
+    }
+
     // The value of a list literal.
+    #[inline(never)]
     #[cycle(eval)]
     fn eval_list(&self, frame: &Frame<'_>, line: u32, es: &Exprs) -> Result<Value, Stop>
         ensures { Meets result (value_of self.now.limits.now (C.gives self.now.calls.now)
@@ -58,26 +93,29 @@ impl<C: Calls> Machine<'_, C> {
     }
 
     // The value of `-a`.
+    #[inline(never)]
     #[cycle(eval)]
     fn eval_neg(&self, frame: &Frame<'_>, line: u32, a: &Expr) -> Result<Value, Stop>
         ensures { Meets result (value_of self.now.limits.now (C.gives self.now.calls.now)
             (state_of frame.now) line (ast.Neg (term_of a.now))) }
     {
-        let v = self.eval(frame, line, a)?;
-        negate(self.limits, line, &v)
+        let v = self.operand(frame, line, a)?;
+        negate(self.limits, line, v.value())
     }
 
     // The value of `not a`.
+    #[inline(never)]
     #[cycle(eval)]
     fn eval_not(&self, frame: &Frame<'_>, line: u32, a: &Expr) -> Result<Value, Stop>
         ensures { Meets result (value_of self.now.limits.now (C.gives self.now.calls.now)
             (state_of frame.now) line (ast.Not (term_of a.now))) }
     {
-        let v = self.eval(frame, line, a)?;
-        Ok(Value::Bool(!is_true(&v)))
+        let v = self.operand(frame, line, a)?;
+        Ok(Value::Bool(!is_true(v.value())))
     }
 
     // The value of `a op b`.
+    #[inline(never)]
     #[cycle(eval)]
     fn eval_arith(
         &self,
@@ -90,12 +128,13 @@ impl<C: Calls> Machine<'_, C> {
         ensures { Meets result (value_of self.now.limits.now (C.gives self.now.calls.now)
             (state_of frame.now) line (ast.Arith op (term_of a.now) (term_of b.now))) }
     {
-        let v = self.eval(frame, line, a)?;
-        let w = self.eval(frame, line, b)?;
-        operate(self.alloc, self.limits, line, op, &v, &w)
+        let v = self.operand(frame, line, a)?;
+        let w = self.operand(frame, line, b)?;
+        operate(self.alloc, self.limits, line, op, v.value(), w.value())
     }
 
     // The value of a comparison.
+    #[inline(never)]
     #[cycle(eval)]
     fn eval_cmp(
         &self,
@@ -108,38 +147,41 @@ impl<C: Calls> Machine<'_, C> {
         ensures { Meets result (value_of self.now.limits.now (C.gives self.now.calls.now)
             (state_of frame.now) line (ast.Cmp op (term_of a.now) (term_of b.now))) }
     {
-        let v = self.eval(frame, line, a)?;
-        let w = self.eval(frame, line, b)?;
-        compared(line, op, &v, &w)
+        let v = self.operand(frame, line, a)?;
+        let w = self.operand(frame, line, b)?;
+        compared(line, op, v.value(), w.value())
     }
 
     // The value of `a and b`.
+    #[inline(never)]
     #[cycle(eval)]
     fn eval_and(&self, frame: &Frame<'_>, line: u32, a: &Expr, b: &Expr) -> Result<Value, Stop>
         ensures { Meets result (value_of self.now.limits.now (C.gives self.now.calls.now)
             (state_of frame.now) line (ast.And (term_of a.now) (term_of b.now))) }
     {
-        match self.eval(frame, line, a)? {
-            Value::Bool(true) => self.eval(frame, line, b),
+        match self.test(frame, line, a)? {
+            Value::Bool(true) => self.test(frame, line, b),
             Value::Bool(false) => Ok(Value::Bool(false)),
             _ => Err(stuck(line)),
         }
     }
 
     // The value of `a or b`.
+    #[inline(never)]
     #[cycle(eval)]
     fn eval_or(&self, frame: &Frame<'_>, line: u32, a: &Expr, b: &Expr) -> Result<Value, Stop>
         ensures { Meets result (value_of self.now.limits.now (C.gives self.now.calls.now)
             (state_of frame.now) line (ast.Or (term_of a.now) (term_of b.now))) }
     {
-        match self.eval(frame, line, a)? {
+        match self.test(frame, line, a)? {
             Value::Bool(true) => Ok(Value::Bool(true)),
-            Value::Bool(false) => self.eval(frame, line, b),
+            Value::Bool(false) => self.test(frame, line, b),
             _ => Err(stuck(line)),
         }
     }
 
     // The value of `yes if test else no`.
+    #[inline(never)]
     #[cycle(eval)]
     fn eval_cond(
         &self,
@@ -153,26 +195,49 @@ impl<C: Calls> Machine<'_, C> {
             (state_of frame.now) line
             (ast.Cond (term_of test.now) (term_of yes.now) (term_of no.now))) }
     {
-        let v = self.eval(frame, line, test)?;
+        let v = self.test(frame, line, test)?;
         if is_true(&v) {
-            self.eval(frame, line, yes)
+            self.value(frame, line, yes)
         } else {
-            self.eval(frame, line, no)
+            self.value(frame, line, no)
         }
     }
 
     // The value of `a[i]`.
+    #[inline(never)]
     #[cycle(eval)]
     fn eval_index(&self, frame: &Frame<'_>, line: u32, a: &Expr, i: &Expr) -> Result<Value, Stop>
         ensures { Meets result (value_of self.now.limits.now (C.gives self.now.calls.now)
             (state_of frame.now) line (ast.Index (term_of a.now) (term_of i.now))) }
     {
-        let v = self.eval(frame, line, a)?;
-        let k = self.eval(frame, line, i)?;
-        element_at(self.alloc, line, &v, &k)
+        let v = self.operand(frame, line, a)?;
+        let k = self.value(frame, line, i)?;
+        element_at(self.alloc, line, v.value(), &k)
+    }
+
+    // The value of `a[start:end]`.
+    #[inline(never)]
+    #[cycle(eval)]
+    fn eval_slice(
+        &self,
+        frame: &Frame<'_>,
+        line: u32,
+        a: &Expr,
+        start: &Option<Box<Expr>>,
+        end: &Option<Box<Expr>>,
+    ) -> Result<Value, Stop>
+        ensures { Meets result (value_of self.now.limits.now (C.gives self.now.calls.now)
+            (state_of frame.now) line (ast.Slice (term_of a.now)
+            (end_by (λ b. term_of b.value) start.now) (end_by (λ b. term_of b.value) end.now))) }
+    {
+        let v = self.operand(frame, line, a)?;
+        let from = self.eval_end(frame, line, start)?;
+        let to = self.eval_end(frame, line, end)?;
+        part_between(self.alloc, line, v.value(), from, to)
     }
 
     // The value of a call.
+    #[inline(never)]
     #[cycle(eval)]
     fn eval_call(&self, frame: &Frame<'_>, line: u32, f: &Name, es: &Exprs) -> Result<Value, Stop>
         ensures { Meets result (value_of self.now.limits.now (C.gives self.now.calls.now)
@@ -183,6 +248,7 @@ impl<C: Calls> Machine<'_, C> {
     }
 
     // The values of expressions, from left to right.
+    #[inline(never)]
     #[cycle(eval)]
     fn eval_all(&self, frame: &Frame<'_>, line: u32, es: &Exprs) -> Result<Vec<Value>, Stop>
         ensures { MeetsBy (λ v. v.items) result
@@ -191,12 +257,13 @@ impl<C: Calls> Machine<'_, C> {
     {
         let mut values = Vec::new(self.alloc);
         for e in &es.items {
-            values.push(self.eval(frame, line, e)?)?;
+            values.push(self.value(frame, line, e)?)?;
         }
         Ok(values)
     }
 
     // The value of an end of a slice, which may be missing.
+    #[inline(never)]
     #[cycle(eval)]
     fn eval_end(
         &self,
@@ -209,7 +276,7 @@ impl<C: Calls> Machine<'_, C> {
     {
         match e {
             None => Ok(None),
-            Some(e) => Ok(Some(self.eval(frame, line, e)?)),
+            Some(e) => Ok(Some(self.value(frame, line, e)?)),
         }
     }
 }

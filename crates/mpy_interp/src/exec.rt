@@ -75,7 +75,7 @@ impl<C: Calls> Machine<'_, C> {
     {
         match act {
             Act::Assign(x, e) => {
-                let v = self.eval(frame, line, e);
+                let v = self.value(frame, line, e);
                 stored(frame, x, v)
             }
             Act::Augment(x, op, e) => {
@@ -118,7 +118,7 @@ impl<C: Calls> Machine<'_, C> {
         match e {
             None => Err(faulted(FaultKind::NoValue, line)),
             Some(e) => {
-                let v = self.eval(frame, line, e)?;
+                let v = self.value(frame, line, e)?;
                 Ok(Completion::Returned(v))
             }
         }
@@ -140,7 +140,7 @@ impl<C: Calls> Machine<'_, C> {
             (state_of frame.old)) }
     {
         for arm in &arms.items {
-            let v = self.eval(frame, arm.line, &arm.test)?;
+            let v = self.test(frame, arm.line, &arm.test)?;
             if is_true(&v) {
                 return self.exec_block(frame, &arm.body);
             }
@@ -167,7 +167,7 @@ impl<C: Calls> Machine<'_, C> {
     {
         let mut left = self.limits.turns;
         'turns: loop {
-            let v = self.eval(frame, line, test)?;
+            let v = self.test(frame, line, test)?;
             if !is_true(&v) {
                 return Ok(Completion::Next);
             }

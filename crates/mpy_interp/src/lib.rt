@@ -11,9 +11,11 @@ mod frame;
 mod lists;
 mod machine;
 mod numbers;
+mod operand;
 mod operators;
 mod program;
 mod ranges;
+mod shortcuts;
 mod stop;
 
 pub use program::run;

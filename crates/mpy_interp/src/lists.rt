@@ -1,6 +1,6 @@
 //! Operators on lists and texts.
 ghost use Rattle.std.specs.Prelude.{◌≡◌, ◌*◌, ◌<◌, ◌≤◌, ◌⊎◌, MatchOption, ℕ, ◌++◌, ◌∷◌, [], length};
-ghost use Rattle.std.specs.Prelude.{map, IfOk};
+ghost use Rattle.std.specs.Prelude.{map, IfOk, Ok, Err};
 ghost use Rattle.mpy_interp.specs.Answers.{Meets, MeetsBy};
 ghost use Rattle.mpy_tree.specs.Operations.{copy_count};
 ghost use Rattle.mpy_tree.specs.Values.{on_line};
@@ -10,7 +10,7 @@ ghost use Rattle.mpy_tree.specs.Operations.{cut};
 ghost use Rattle.mpy_tree.specs.Expressions.{wholes, list_of, end_of, slice_of};
 
 use crate::stop::{Stop, faulted, stuck};
-use mpy_tree::{Chars, FaultKind, Ints, Limits, NoMemory, Value};
+use mpy_tree::{Chars, FaultKind, Halt, Ints, Limits, NoMemory, Value};
 use std::alloc::Global;
 
 /// A list, which may have at most `cap` numbers.
@@ -133,16 +133,29 @@ pub fn element_at(alloc: Global, line: u32, v: &Value, i: &Value) -> Result<Valu
     }
 }
 
+/// The number of a list at an index, if there is one.
+#[inline]
+pub fn number_in(xs: &Ints, i: i32) -> Option<i32>
+    ensures { MatchOption result
+        (element (index_in i (length xs.now)) xs.now ≡ Err (Halt.Fault FaultKind.Index))
+        (λ z. element (index_in i (length xs.now)) xs.now ≡ Ok z) }
+{
+    match place_in(i, xs.len()) {
+        None => None,
+        Some(k) => match xs.items().get(k) {
+            None => None,
+            Some(z) => Some(*z),
+        },
+    }
+}
+
 // The number of a list at an index.
 fn number_at(line: u32, xs: &Ints, i: i32) -> Result<i32, Stop>
     ensures { Meets result (on_line line (element (index_in i (length xs.now)) xs.now)) }
 {
-    match place_in(i, xs.len()) {
+    match number_in(xs, i) {
+        Some(z) => Ok(z),
         None => Err(faulted(FaultKind::Index, line)),
-        Some(k) => match xs.items().get(k) {
-            None => Err(faulted(FaultKind::Index, line)),
-            Some(z) => Ok(*z),
-        },
     }
 }
 
@@ -160,6 +173,7 @@ fn character_at(alloc: Global, line: u32, cs: &Chars, i: i32) -> Result<Value, S
 }
 
 // The place of an index among n elements.
+#[inline]
 fn place_in(i: i32, n: usize) -> Option<usize>
     ensures { result ≡ index_in i n }
 {

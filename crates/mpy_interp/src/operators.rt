@@ -5,7 +5,7 @@ ghost use Rattle.mpy_tree.specs.Values.{on_line};
 ghost use Rattle.mpy_tree.specs.Operations.{arith, sum, product, negative};
 
 use crate::lists::{join_lists, join_texts, repeat_list, repeat_text};
-use crate::numbers::{divide, make_number, modulo, raise};
+use crate::numbers::{divide, make_number, modulo, product_of, raise};
 use crate::stop::{Stop, stuck};
 use mpy_tree::{ArithOp, Limits, Value};
 use std::alloc::Global;
@@ -58,7 +58,7 @@ fn multiply(alloc: Global, l: &Limits, line: u32, a: &Value, b: &Value) -> Resul
     ensures { Meets result (on_line line (product l.now a.now b.now)) }
 {
     match (a, b) {
-        (Value::Int(a), Value::Int(b)) => make_number(l, line, *a as i64 * *b as i64),
+        (Value::Int(a), Value::Int(b)) => make_number(l, line, product_of(*a, *b)),
         (Value::List(xs), Value::Int(n)) => repeat_list(alloc, l, line, xs, *n),
         (Value::Text(cs), Value::Int(n)) => repeat_text(alloc, l, line, cs, *n),
         _ => Err(stuck(line)),

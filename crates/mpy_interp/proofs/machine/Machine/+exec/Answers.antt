@@ -7,7 +7,7 @@ use Rattle.mpy_interp.proofs.machine.Machine.+exec.Goals as goal
 
 pub exec_act-returns-in-Assign : goal.exec_act-returns-in-Assign
 exec_act-returns-in-Assign g t c =
-    ends_as c.args.self.now.limits.now (g.C.Calls.gives c.args.self.now.calls.now) c.args.act.now (Assign c.in-Assign.x c.in-Assign.e) (ast.Assign c.in-Assign.x (term_of c.in-Assign.e)) c.args.line (state_of c.args.frame.now) (state_of c.stored.new.frame) c.stored.result c.in-Assign.is (assign_is c.in-Assign.x c.in-Assign.e) (c.stored.ensures _ c.eval-v.ensures)
+    ends_as c.args.self.now.limits.now (g.C.Calls.gives c.args.self.now.calls.now) c.args.act.now (Assign c.in-Assign.x c.in-Assign.e) (ast.Assign c.in-Assign.x (term_of c.in-Assign.e)) c.args.line (state_of c.args.frame.now) (state_of c.stored.new.frame) c.stored.result c.in-Assign.is (assign_is c.in-Assign.x c.in-Assign.e) (c.stored.ensures _ c.value-v.ensures)
 
 pub exec_act-returns-in-Augment : goal.exec_act-returns-in-Augment
 exec_act-returns-in-Augment g t c =

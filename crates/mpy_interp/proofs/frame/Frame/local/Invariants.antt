@@ -1,6 +1,6 @@
 use Rattle.std.proofs.Common.{◌≡◌, drop}
 use Rattle.mpy_interp.specs.Frames.{looked}
-use Rattle.mpy_interp.proofs.frame.Frame.get.Given as goal
+use Rattle.mpy_interp.proofs.frame.Frame.local.Given as goal
 
 -- the local isn't among those so far
 abbrev pub invariant-loop-b : goal.invariant-loop-b
