@@ -15,7 +15,7 @@ use Rattle.mpy_tree.specs.declared.tree.Act.TheOpen as G
 use Rattle.mpy_tree.specs.Syntax.{Action, Branch, Branches, Statement, Block}
 use Rattle.mpy_tree.specs.Syntax as ast
 use Rattle.mpy_tree.specs.View.{term_of, maybe_term, action_of, block_of, act_step, arm_step, arms_step, stmt_step, stmts_step}
-use Rattle.mpy_interp.specs.declared.exec.Completion.{Completion}
+use Rattle.mpy_interp.specs.declared.completion.Completion.{Completion}
 use Rattle.mpy_interp.specs.declared.stop.Stop.{Stop}
 use Rattle.mpy_interp.specs.Completions.{EndsAs}
 

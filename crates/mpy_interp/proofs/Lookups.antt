@@ -1,6 +1,8 @@
 -- A frame after a local is set.
 use Rattle.std.proofs.Common.{◌≡◌, ◌≢◌, ℕ, ◌<◌, ◌≤◌, List, [], ◌∷◌, ◌++◌, length, get_or, set, Option, Some, None, Bool, true, false, cond, if◌then◌else◌, refl, sym, ap, ◌∙◌, arith, append_assoc, length-append, map, drop, ◌+◌, get_or-set_same, get_or-set_other}
 use Rattle.std.specs.Prelude.{slice_get, nat_lt}
+use Rattle.std.specs.declared.result.Result.{Result}
+use Rattle.std.specs.declared.result.Result.TheVariants.{Ok, Err}
 use Rattle.std.specs.List.{position_or_len, find}
 use Rattle.std.proofs.lemmas.List.{length-set, append-nil, drop_more, drop_all}
 use Rattle.std.proofs.lemmas.List.Folds.{position_or_len-set, find_at}
@@ -10,9 +12,15 @@ use Rattle.std.proofs.lemmas.Bool.Decides.{nat_tests}
 use Rattle.std.proofs.lemmas.Slice.Eq.{bytes_eq-Decides}
 use Rattle.mpy_tree.specs.declared.value.Value.{Value}
 use Rattle.mpy_interp.specs.declared.frame.Binding.{Binding}
-use Rattle.mpy_tree.specs.Values.{State, same_bytes, assign, nothing_set}
+use Rattle.mpy_tree.specs.declared.outcome.FaultKind.TheVariants.{Unset}
+use Rattle.mpy_tree.specs.declared.outcome.Halt.{Halt}
+use Rattle.mpy_tree.specs.Values.{◌>>=◌, State, same_bytes, assign, nothing_set, fault, on_line, set_or_fault}
 use Rattle.mpy_tree.specs.Running.{bound}
-use Rattle.mpy_interp.specs.Frames.{looked, place_of, value_in}
+use Rattle.mpy_tree.specs.Statements.{Ran, Next, Failed, store}
+use Rattle.mpy_interp.specs.declared.stop.Stop.{Stop}
+use Rattle.mpy_interp.specs.declared.stop.Stop.TheVariants as stop
+use Rattle.mpy_interp.specs.Answers.{MeetsBy}
+use Rattle.mpy_interp.specs.Frames.{Changes, changed, looked, place_of, value_in}
 
 abbrev is_of : List ℕ → Binding → Bool
 is_of y b = same_bytes y b.name.now
@@ -133,6 +141,38 @@ set_unknown bs n x v none e f = λ i y. (unknown bs n x y v (same_bytes y x) non
 -- the state after a value is written at the place of its name
 pub set_known : (bs : List Binding) (k : ℕ) (b n : Binding) (x : List ℕ) (v : Value) → place_of bs x ≡ Some k → b ≡ get_or bs k b → n.name.now ≡ b.name.now → n.value ≡ v → looked (set bs k n) ≡ assign (looked bs) x v
 set_known bs k b n x v at is e f = λ i y. (known bs k b n x y v at is e f) i
+
+-- a local that no binding has isn't set
+not_set : (bs : List Binding) (x : List ℕ) → place_of bs x ≡ None → looked bs x ≡ None
+not_set bs x none = ap value_in (none_found bs x (nat_lt (position_or_len (is_of x) bs) (length bs)) refl none)
+
+-- a local has the value that stands at its place
+set_to : (bs : List Binding) (k : ℕ) (b : Binding) (x : List ℕ) → place_of bs x ≡ Some k → b ≡ get_or bs k b → looked bs x ≡ Some b.value
+set_to bs k b x at is =
+    let p = position-Some (is_of x) bs k b at in
+    sym (looked_is bs x)
+    ∙ ap (value_at bs) at
+    ∙ ap value_in (slice_get-get_or bs k b p.0)
+    ∙ ap (λ c. value_in (Some c)) (sym is)
+
+-- what a change of a local is by the value that the local has
+abbrev change_of : State → List ℕ → ℕ → (Value → Result Value Halt) → Option Value → Ran
+change_of s x line op o = store s x (on_line line (set_or_fault o) >>= λ v. on_line line (op v))
+
+-- a change of a local that isn't set
+pub change_unset : (bs : List Binding) (x : List ℕ) (line : ℕ) (op : Value → Result Value Halt) → place_of bs x ≡ None → changed (looked bs) line x op ≡ Failed (fault Unset line)
+change_unset bs x line op none = ap (change_of (looked bs) x line op) (not_set bs x none)
+
+-- a change of a local's value where it stands
+pub change_known : {A : Type 0} (bs : List Binding) (k : ℕ) (b n : Binding) (x : List ℕ) (line : ℕ) (op : Value → Result Value Halt) (r : Result A Stop) → place_of bs x ≡ Some k → b ≡ get_or bs k b → n.name.now ≡ b.name.now → MeetsBy (λ a. n.value) r (on_line line (op b.value)) → Changes r (looked (set bs k n)) (changed (looked bs) line x op)
+change_known bs k b n x line op (Ok a) at is e h =
+    ap (change_of (looked bs) x line op) (set_to bs k b x at is)
+    ∙ ap (store (looked bs) x) h
+    ∙ ap Next (sym (set_known bs k b n x n.value at is e refl))
+change_known bs k b n x line op (Err (stop.Halted h)) at is e f =
+    ap (change_of (looked bs) x line op) (set_to bs k b x at is)
+    ∙ ap (store (looked bs) x) f
+change_known bs k b n x line op (Err stop.NoMemory) at is e f = tt
 
 -- the first value, where there is one, or else the second
 abbrev pub or_value : Option Value → Option Value → Option Value

@@ -1,9 +1,9 @@
 -- What the interpreter's answers say.
-use Rattle.std.specs.Prelude.{◌≡◌, ⊤, ℕ, List, ◌++◌, Option, Some, None, Bool, ℤ}
+use Rattle.std.specs.Prelude.{◌≡◌, ⊤, ℕ, List, ◌++◌, ◌∷◌, [], Option, Some, None, Bool, ℤ}
 use Rattle.std.specs.declared.result.Result.{Result}
 use Rattle.std.specs.declared.result.Result.TheVariants.{Ok, Err}
 use Rattle.mpy_tree.specs.declared.value.Value.{Value}
-use Rattle.mpy_tree.specs.declared.value.Value.TheVariants.{Int, Bool as Truth}
+use Rattle.mpy_tree.specs.declared.value.Value.TheVariants.{Int, Bool as Truth, Text}
 use Rattle.mpy_tree.specs.declared.outcome.Halted.{Halted}
 use Rattle.mpy_interp.specs.declared.stop.Stop.{Stop}
 use Rattle.mpy_interp.specs.declared.stop.Stop.TheVariants as stop
@@ -29,6 +29,11 @@ after done r = r >>= λ vs. Ok (done ++ vs)
 abbrev pub GivesNumber : {E : Type 0} → Option ℤ → Result Value E → Type 0
 GivesNumber None m = ⊤
 GivesNumber (Some z) m = m ≡ Ok (Int z)
+
+-- the one character of a text that was found is what the definition gives
+abbrev pub GivesCharacter : Option ℕ → Result Value Halted → Type 0
+GivesCharacter None m = ⊤
+GivesCharacter (Some c) m = m ≡ Ok (Text (c ∷ []))
 
 -- a truth that was found is what the definition gives
 abbrev pub GivesTruth : Option Bool → Result Value Halted → Type 0

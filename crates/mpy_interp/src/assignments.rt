@@ -1,18 +1,20 @@
-//! What assignments set a local to.
+//! The assignments.
 ghost use Rattle.std.specs.Prelude.{◌≡◌};
 ghost use Rattle.mpy_tree.specs.View.{term_of};
-ghost use Rattle.mpy_interp.specs.Answers.{Meets};
+ghost use Rattle.mpy_interp.specs.Completions.{EndsAs};
 ghost use Rattle.mpy_interp.specs.Frames.{state_of};
+ghost use Rattle.mpy_tree.specs.Expressions.{value_of};
 ghost use Rattle.mpy_tree.specs.Operations.{arith, append};
-ghost use Rattle.mpy_tree.specs.Statements.{set_by, set_at, set_at_by};
+ghost use Rattle.mpy_tree.specs.Statements.{store, set_by, set_at, set_at_by};
 
 use crate::calls::Calls;
+use crate::completion::Completion;
 use crate::frame::Frame;
-use crate::lists::{append_to, element_at, replace_at};
+use crate::lists::element_at;
 use crate::machine::Machine;
 use crate::operators::operate;
 use crate::stop::Stop;
-use mpy_tree::{ArithOp, Expr, Name, Value};
+use mpy_tree::{ArithOp, Expr, Name};
 
 /// The element `x[i]` of a list.
 #[derive(Drop)]
@@ -29,68 +31,106 @@ pub struct Change<'a> {
 }
 
 impl<C: Calls> Machine<'_, C> {
-    /// The new value of `x` in `x op= e`.
-    pub fn augmented(
+    /// Runs `x = e`.
+    #[inline(never)]
+    pub fn assign<'a>(
         &self,
-        frame: &Frame<'_>,
+        frame: &mut Frame<'a>,
         line: u32,
-        x: &Name,
+        x: &'a Name,
+        e: &Expr,
+    ) -> Result<Completion, Stop>
+        ensures { EndsAs result (state_of frame.new) (store (state_of frame.old) x.now
+            (value_of self.now.limits.now (C.gives self.now.calls.now)
+            (state_of frame.old) line (term_of e.now))) }
+    {
+        let v = self.value(frame, line, e)?;
+        frame.set(x, v)?;
+        Ok(Completion::Next)
+    }
+
+    /// Runs `x op= e`.
+    #[inline(never)]
+    pub fn augment<'a>(
+        &self,
+        frame: &mut Frame<'a>,
+        line: u32,
+        x: &'a Name,
         op: ArithOp,
         e: &Expr,
-    ) -> Result<Value, Stop>
-        ensures { Meets result (set_by self.now.limits.now (C.gives self.now.calls.now)
-            (state_of frame.now) line x.now (arith self.now.limits.now op) (term_of e.now)) }
+    ) -> Result<Completion, Stop>
+        ensures { EndsAs result (state_of frame.new) (store (state_of frame.old) x.now
+            (set_by self.now.limits.now (C.gives self.now.calls.now)
+            (state_of frame.old) line x.now (arith self.now.limits.now op) (term_of e.now))) }
     {
         let v = frame.find(line, x)?;
         let w = self.value(frame, line, e)?;
-        operate(self.alloc, self.limits, line, op, v, &w)
+        let new = operate(self.alloc, self.limits, line, op, v, &w)?;
+        frame.set(x, new)?;
+        Ok(Completion::Next)
     }
 
-    /// The new value of `x` in `x.append(e)`.
-    pub fn appended(&self, frame: &Frame<'_>, line: u32, x: &Name, e: &Expr) -> Result<Value, Stop>
-        ensures { Meets result (set_by self.now.limits.now (C.gives self.now.calls.now)
-            (state_of frame.now) line x.now (append self.now.limits.now) (term_of e.now)) }
-    {
-        let v = frame.get(line, x)?;
-        let w = self.value(frame, line, e)?;
-        append_to(self.limits, line, v, &w)
-    }
-
-    /// The new value of `x` in `x[i] = e`.
-    pub fn replaced(
+    /// Runs `x.append(e)`.
+    #[inline(never)]
+    pub fn append(
         &self,
-        frame: &Frame<'_>,
+        frame: &mut Frame<'_>,
+        line: u32,
+        x: &Name,
+        e: &Expr,
+    ) -> Result<Completion, Stop>
+        ensures { EndsAs result (state_of frame.new) (store (state_of frame.old) x.now
+            (set_by self.now.limits.now (C.gives self.now.calls.now)
+            (state_of frame.old) line x.now (append self.now.limits.now) (term_of e.now))) }
+    {
+        frame.find(line, x)?;
+        let w = self.value(frame, line, e)?;
+        frame.append(self.limits, line, x, &w)?;
+        Ok(Completion::Next)
+    }
+
+    /// Runs `x[i] = e`.
+    #[inline(never)]
+    pub fn put(
+        &self,
+        frame: &mut Frame<'_>,
         line: u32,
         x: &Name,
         i: &Expr,
         e: &Expr,
-    ) -> Result<Value, Stop>
-        ensures { Meets result (set_at self.now.limits.now (C.gives self.now.calls.now)
-            (state_of frame.now) line x.now (term_of i.now) (term_of e.now)) }
+    ) -> Result<Completion, Stop>
+        ensures { EndsAs result (state_of frame.new) (store (state_of frame.old) x.now
+            (set_at self.now.limits.now (C.gives self.now.calls.now)
+            (state_of frame.old) line x.now (term_of i.now) (term_of e.now))) }
     {
         let w = self.value(frame, line, e)?;
-        let v = frame.get(line, x)?;
+        frame.find(line, x)?;
         let k = self.value(frame, line, i)?;
-        replace_at(line, v, &k, &w)
+        frame.put(line, x, &k, &w)?;
+        Ok(Completion::Next)
     }
 
-    /// The new value of `x` in `x[i] op= e`.
-    pub fn replaced_by(
+    /// Runs `x[i] op= e`.
+    #[inline(never)]
+    pub fn augment_at(
         &self,
-        frame: &Frame<'_>,
+        frame: &mut Frame<'_>,
         line: u32,
         place: &Place<'_>,
         change: &Change<'_>,
-    ) -> Result<Value, Stop>
-        ensures { Meets result (set_at_by self.now.limits.now (C.gives self.now.calls.now)
-            (state_of frame.now) line place.now.x.now (term_of place.now.i.now)
-            (arith self.now.limits.now change.now.op) (term_of change.now.e.now)) }
+    ) -> Result<Completion, Stop>
+        ensures { EndsAs result (state_of frame.new)
+            (store (state_of frame.old) place.now.x.now
+            (set_at_by self.now.limits.now (C.gives self.now.calls.now)
+            (state_of frame.old) line place.now.x.now (term_of place.now.i.now)
+            (arith self.now.limits.now change.now.op) (term_of change.now.e.now))) }
     {
-        let v = frame.get(line, place.x)?;
+        let v = frame.find(line, place.x)?;
         let k = self.value(frame, line, place.i)?;
-        let old = element_at(self.alloc, line, &v, &k)?;
+        let old = element_at(self.alloc, line, v, &k)?;
         let w = self.value(frame, line, change.e)?;
         let new = operate(self.alloc, self.limits, line, change.op, &old, &w)?;
-        replace_at(line, v, &k, &new)
+        frame.put(line, place.x, &k, &new)?;
+        Ok(Completion::Next)
     }
 }

@@ -42,6 +42,7 @@ fn call_builtin(
         (Builtin::Abs, [v]) => absolute_value(l, line, v),
         (Builtin::Min, [v, w]) => lesser(line, v, w),
         (Builtin::Max, [v, w]) => greater(line, v, w),
+        (Builtin::Range, [Value::Int(b)]) => range(alloc, l, line, 0, *b, 1),
         (Builtin::Range, _) => {
             let numbers = numbers_of(alloc, line, args)?;
             range_over(alloc, l, line, &numbers)

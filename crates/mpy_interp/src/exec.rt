@@ -1,46 +1,21 @@
 //! The statements of a body.
 ghost use Rattle.std.specs.Prelude.{◌≡◌, ℕ, List};
-ghost use Rattle.std.specs.declared.result.Result.{Result};
-ghost use Rattle.mpy_tree.specs.declared.value.Value.{Value};
-ghost use Rattle.mpy_tree.specs.declared.outcome.Halted.{Halted};
 ghost use Rattle.mpy_tree.specs.Syntax as ast;
 ghost use Rattle.mpy_tree.specs.View.{term_of, maybe_term, action_of, block_of, branches_of};
 ghost use Rattle.mpy_tree.specs.View.{block_or_none};
-ghost use Rattle.mpy_interp.specs.Answers.{Meets};
 ghost use Rattle.mpy_interp.specs.Completions.{EndsAs};
 ghost use Rattle.mpy_interp.specs.Frames.{state_of};
-ghost use Rattle.mpy_tree.specs.Statements.{store, give, run_block, run_action, run_arms, run_else};
+ghost use Rattle.mpy_tree.specs.Statements.{give, run_block, run_action, run_arms, run_else};
 
 use crate::assignments::{Change, Place};
 use crate::calls::Calls;
 use crate::comparisons::is_true;
+use crate::completion::Completion;
 use crate::frame::Frame;
 use crate::lists::members_of;
 use crate::machine::Machine;
 use crate::stop::{Stop, faulted};
-use mpy_tree::{Act, Arms, Expr, FaultKind, Name, Stmts, Value};
-
-/// How statements complete, where nothing stops them.
-#[derive(Drop)]
-pub enum Completion {
-    Next,
-    Broke,
-    Continued,
-    Returned(Value),
-}
-
-// Sets a local to what was computed.
-fn stored<'a>(
-    frame: &mut Frame<'a>,
-    x: &'a Name,
-    v: Result<Value, Stop>,
-) -> Result<Completion, Stop>
-    ensures { (m : Result Value Halted) → Meets v m
-        → EndsAs result (state_of frame.new) (store (state_of frame.old) x.now m) }
-{
-    frame.set(x, v?)?;
-    Ok(Completion::Next)
-}
+use mpy_tree::{Act, Arms, Expr, FaultKind, Name, Stmts};
 
 impl<C: Calls> Machine<'_, C> {
     /// Runs a body.
@@ -74,26 +49,13 @@ impl<C: Calls> Machine<'_, C> {
             (action_of act.now) line (state_of frame.old)) }
     {
         match act {
-            Act::Assign(x, e) => {
-                let v = self.value(frame, line, e);
-                stored(frame, x, v)
-            }
-            Act::Augment(x, op, e) => {
-                let v = self.augmented(frame, line, x, *op, e);
-                stored(frame, x, v)
-            }
-            Act::Put(x, i, e) => {
-                let v = self.replaced(frame, line, x, i, e);
-                stored(frame, x, v)
-            }
+            Act::Assign(x, e) => self.assign(frame, line, x, e),
+            Act::Augment(x, op, e) => self.augment(frame, line, x, *op, e),
+            Act::Put(x, i, e) => self.put(frame, line, x, i, e),
             Act::AugmentAt(x, i, op, e) => {
-                let v = self.replaced_by(frame, line, &Place { x, i }, &Change { op: *op, e });
-                stored(frame, x, v)
+                self.augment_at(frame, line, &Place { x, i }, &Change { op: *op, e })
             }
-            Act::Append(x, e) => {
-                let v = self.appended(frame, line, x, e);
-                stored(frame, x, v)
-            }
+            Act::Append(x, e) => self.append(frame, line, x, e),
             Act::Return(e) => self.exec_return(frame, line, e),
             Act::Pass => Ok(Completion::Next),
             Act::Break => Ok(Completion::Broke),
@@ -105,6 +67,7 @@ impl<C: Calls> Machine<'_, C> {
     }
 
     // Runs a `return`.
+    #[inline(never)]
     fn exec_return(
         &self,
         frame: &Frame<'_>,
@@ -125,6 +88,7 @@ impl<C: Calls> Machine<'_, C> {
     }
 
     // Runs the first arm whose test holds, or else the last body.
+    #[inline(never)]
     #[cycle(exec)]
     fn exec_if<'a>(
         &self,
@@ -153,6 +117,7 @@ impl<C: Calls> Machine<'_, C> {
 
     // Runs a `while`.
     #[tactic(auto, using(crate::proofs::Turning::one_turn, crate::proofs::Turning::no_turn))]
+    #[inline(never)]
     #[cycle(exec)]
     fn exec_while<'a>(
         &self,
@@ -186,6 +151,7 @@ impl<C: Calls> Machine<'_, C> {
 
     // Runs a `for`.
     #[tactic(auto, using(crate::proofs::Turning::one_member))]
+    #[inline(never)]
     #[cycle(exec)]
     fn exec_for<'a>(
         &self,
@@ -199,7 +165,7 @@ impl<C: Calls> Machine<'_, C> {
             (run_action self.now.limits.now (C.gives self.now.calls.now)
             (ast.For x.now (term_of e.now) (block_of body.now)) line (state_of frame.old)) }
     {
-        let list = self.eval(frame, line, e)?;
+        let list = self.value(frame, line, e)?;
         let values = members_of(self.alloc, line, &list)?;
         let mut turns = self.limits.turns;
         for v in &values {

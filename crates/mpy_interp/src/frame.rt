@@ -3,11 +3,14 @@ ghost use Rattle.std.specs.Prelude.{◌≡◌, IfOk, OnOk, MatchOption, IfSome, 
 ghost use Rattle.mpy_interp.specs.Answers.{Meets, MeetsBy};
 ghost use Rattle.mpy_tree.specs.Values.{on_line, set_or_fault, assign};
 ghost use Rattle.mpy_tree.specs.Running.{bound};
-ghost use Rattle.mpy_interp.specs.Frames.{place_of, state_of};
+ghost use Rattle.mpy_interp.specs.Frames.{Changes, changed, place_of, state_of};
+ghost use Rattle.mpy_tree.specs.Operations.{append, put};
 
+use crate::lists::{append_to, replace_at};
 use crate::stop::{Stop, faulted};
-use mpy_tree::{FaultKind, Ints, Name, NoMemory, Value};
+use mpy_tree::{Chars, FaultKind, Ints, Limits, Name, NoMemory, Value};
 use std::alloc::Global;
+use std::mem::replace;
 
 /// A local that is set, by its name in the program.
 #[derive(Drop)]
@@ -72,6 +75,17 @@ impl<'a> Frame<'a> {
         }
     }
 
+    /// The text that a local is, if it is one.
+    #[inline]
+    pub fn text(&self, x: &Name) -> Option<&Chars>
+        ensures { IfSome result (λ cs. state_of self.now x.now ≡ Some (Value.Text cs.now)) }
+    {
+        match self.local(x)? {
+            Value::Text(cs) => Some(cs),
+            _ => None,
+        }
+    }
+
     /// The value of a local, which must be set.
     pub fn find(&self, line: u32, x: &Name) -> Result<&Value, Stop>
         ensures { MeetsBy (λ v. v.now) result
@@ -102,10 +116,50 @@ impl<'a> Frame<'a> {
         Ok(())
     }
 
+    /// An element of a list is replaced, `x[i] = w`. After a fault nothing is said of `x`.
+    pub fn put(&mut self, line: u32, x: &Name, i: &Value, w: &Value) -> Result<(), Stop>
+        ensures { Changes result (state_of self.new)
+            (changed (state_of self.old) line x.now (λ v. put v i.now w.now)) }
+    {
+        match self.place(x) {
+            Some(k) => put_in(&mut self.locals[k].value, line, i, w),
+            None => Err(faulted(FaultKind::Unset, line)),
+        }
+    }
+
+    /// A list gets one more number, `x.append(w)`. After a fault nothing is said of `x`.
+    pub fn append(&mut self, l: &Limits, line: u32, x: &Name, w: &Value) -> Result<(), Stop>
+        ensures { Changes result (state_of self.new)
+            (changed (state_of self.old) line x.now (λ v. append l.now v w.now)) }
+    {
+        match self.place(x) {
+            Some(k) => append_in(&mut self.locals[k].value, l, line, w),
+            None => Err(faulted(FaultKind::Unset, line)),
+        }
+    }
+
     // Where the binding of a name stands.
     fn place(&self, x: &Name) -> Option<usize>
         ensures { result ≡ place_of self.now.locals.items x.now }
     {
         self.locals.iter().position(|b| x.is(b.name))
     }
+}
+
+// Replaces an element of a list where it stands.
+fn put_in(v: &mut Value, line: u32, i: &Value, w: &Value) -> Result<(), Stop>
+    ensures { MeetsBy (λ _. v.new) result (on_line line (put v.old i.now w.now)) }
+{
+    let old = replace(v, Value::Int(0));
+    *v = replace_at(line, old, i, w)?;
+    Ok(())
+}
+
+// Gives a list one more number where it stands.
+fn append_in(v: &mut Value, l: &Limits, line: u32, w: &Value) -> Result<(), Stop>
+    ensures { MeetsBy (λ _. v.new) result (on_line line (append l.now v.old w.now)) }
+{
+    let old = replace(v, Value::Int(0));
+    *v = append_to(l, line, old, w)?;
+    Ok(())
 }

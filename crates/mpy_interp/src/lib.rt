@@ -5,6 +5,7 @@ mod assignments;
 mod builtins;
 mod calls;
 mod comparisons;
+mod completion;
 mod eval;
 mod exec;
 mod frame;

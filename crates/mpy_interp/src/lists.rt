@@ -1,6 +1,6 @@
 //! Operators on lists and texts.
 ghost use Rattle.std.specs.Prelude.{◌≡◌, ◌*◌, ◌<◌, ◌≤◌, ◌⊎◌, MatchOption, ℕ, ◌++◌, ◌∷◌, [], length};
-ghost use Rattle.std.specs.Prelude.{map, IfOk, Ok, Err};
+ghost use Rattle.std.specs.Prelude.{map, IfOk, IfSome, Ok, Err};
 ghost use Rattle.mpy_interp.specs.Answers.{Meets, MeetsBy};
 ghost use Rattle.mpy_tree.specs.Operations.{copy_count};
 ghost use Rattle.mpy_tree.specs.Values.{on_line};
@@ -156,6 +156,20 @@ fn number_at(line: u32, xs: &Ints, i: i32) -> Result<i32, Stop>
     match number_in(xs, i) {
         Some(z) => Ok(z),
         None => Err(faulted(FaultKind::Index, line)),
+    }
+}
+
+/// The byte of a text at an index, if there is one.
+#[inline]
+pub fn byte_in(cs: &Chars, i: i32) -> Option<u8>
+    ensures { IfSome result (λ c. element (index_in i (length cs.now)) cs.now ≡ Ok c) }
+{
+    match place_in(i, cs.len()) {
+        None => None,
+        Some(k) => match cs.bytes().get(k) {
+            None => None,
+            Some(c) => Some(*c),
+        },
     }
 }
 
@@ -320,7 +334,7 @@ pub fn members_of(alloc: Global, line: u32, v: &Value) -> Result<Vec<Value>, Sto
 fn number_values(alloc: Global, xs: &[i32]) -> Result<Vec<Value>, NoMemory>
     ensures { IfOk result (λ r. r.items ≡ numbers xs.now) }
 {
-    let mut values = Vec::new(alloc);
+    let mut values = Vec::with_capacity(alloc, xs.len())?;
     for x in xs {
         values.push(Value::Int(*x))?;
     }
@@ -331,7 +345,7 @@ fn number_values(alloc: Global, xs: &[i32]) -> Result<Vec<Value>, NoMemory>
 fn text_values(alloc: Global, texts: Vec<Chars>) -> Result<Vec<Value>, NoMemory>
     ensures { IfOk result (λ r. r.items ≡ map Value.Text texts.items) }
 {
-    let mut values = Vec::new(alloc);
+    let mut values = Vec::with_capacity(alloc, texts.len())?;
     for t in texts {
         values.push(Value::Text(t))?;
     }

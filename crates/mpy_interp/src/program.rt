@@ -6,7 +6,7 @@ ghost use Rattle.mpy_tree.specs.Running.{no_calls, found, enter, evaluated};
 ghost use Rattle.mpy_tree.specs.Outcomes.{run_outcome};
 
 use crate::calls::Calls;
-use crate::exec::Completion;
+use crate::completion::Completion;
 use crate::frame::Frame;
 use crate::machine::Machine;
 use crate::stop::{Stop, faulted, stuck};

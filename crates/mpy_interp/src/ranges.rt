@@ -50,7 +50,7 @@ fn numbers_from(alloc: Global, a: i32, c: i32, count: u64) -> Result<Vec<i32>, N
     requires { (k : ℕ) → k < count → FitsSigned w32 (a +ℤ (c *ℤ pos k)) }
     ensures { IfOk result (λ r. r.items ≡ progression a c count) }
 {
-    let mut numbers = Vec::new(alloc);
+    let mut numbers = Vec::with_capacity(alloc, count as usize)?;
     let mut next = a as i64;
     for _k in 0..count {
         numbers.push(next as i32)?;

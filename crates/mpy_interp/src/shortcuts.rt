@@ -3,7 +3,8 @@
 ghost use Rattle.std.specs.Prelude.{◌≡◌, IfSome};
 ghost use Rattle.mpy_tree.specs.Syntax as ast;
 ghost use Rattle.mpy_tree.specs.View.{term_of, terms_of};
-ghost use Rattle.mpy_interp.specs.Answers.{GivesNumber, GivesTruth, length_given};
+ghost use Rattle.mpy_interp.specs.Answers.{GivesCharacter, GivesNumber, GivesTruth};
+ghost use Rattle.mpy_interp.specs.Answers.{length_given};
 ghost use Rattle.mpy_interp.specs.Frames.{state_of};
 ghost use Rattle.mpy_tree.specs.Expressions.{value_of};
 
@@ -11,7 +12,7 @@ use crate::builtins::length_of_value;
 use crate::calls::Calls;
 use crate::comparisons::relate_numbers;
 use crate::frame::Frame;
-use crate::lists::number_in;
+use crate::lists::{byte_in, number_in};
 use crate::machine::Machine;
 use crate::numbers::{number_by, within};
 use mpy_tree::{ArithOp, Builtin, CmpOp, Expr, Exprs, Name, Value};
@@ -109,14 +110,51 @@ impl<C: Calls> Machine<'_, C> {
         }
     }
 
-    // Whether a comparison of numbers holds, if that is found.
+    // Whether a comparison of numbers or of characters holds, if that is found.
     fn relation(&self, frame: &Frame<'_>, line: u32, op: CmpOp, a: &Expr, b: &Expr) -> Option<bool>
         ensures { GivesTruth result (value_of self.now.limits.now (C.gives self.now.calls.now)
             (state_of frame.now) line (ast.Cmp op (term_of a.now) (term_of b.now))) }
     {
-        let v = self.number(frame, line, a)?;
-        let w = self.number(frame, line, b)?;
-        relate_numbers(op, v, w)
+        match self.number(frame, line, a) {
+            Some(v) => relate_numbers(op, v, self.number(frame, line, b)?),
+            None => self.relation_of_characters(frame, line, op, a, b),
+        }
+    }
+
+    // Whether two characters are equal, or aren't, if that is found.
+    fn relation_of_characters(
+        &self,
+        frame: &Frame<'_>,
+        line: u32,
+        op: CmpOp,
+        a: &Expr,
+        b: &Expr,
+    ) -> Option<bool>
+        ensures { GivesTruth result (value_of self.now.limits.now (C.gives self.now.calls.now)
+            (state_of frame.now) line (ast.Cmp op (term_of a.now) (term_of b.now))) }
+    {
+        let c = self.character(frame, line, a)?;
+        let d = self.character(frame, line, b)?;
+        match op {
+            CmpOp::Eq => Some(c == d),
+            CmpOp::Ne => Some(c != d),
+            _ => None,
+        }
+    }
+
+    // The character that an expression gives, if it is `a[i]` of a name's text and it is found.
+    fn character(&self, frame: &Frame<'_>, line: u32, e: &Expr) -> Option<u8>
+        ensures { GivesCharacter result (value_of self.now.limits.now
+            (C.gives self.now.calls.now) (state_of frame.now) line (term_of e.now)) }
+    {
+        match e {
+            Expr::Index(a, i) => {
+                let cs = frame.text(name_in(a)?)?;
+                let k = self.number(frame, line, i)?;
+                byte_in(cs, k)
+            }
+            _ => None,
+        }
     }
 }
 

@@ -7,23 +7,23 @@ use Rattle.mpy_interp.proofs.machine.Machine.+exec.Goals as goal
 
 pub exec_act-returns-in-Assign : goal.exec_act-returns-in-Assign
 exec_act-returns-in-Assign g t c =
-    ends_as c.args.self.now.limits.now (g.C.Calls.gives c.args.self.now.calls.now) c.args.act.now (Assign c.in-Assign.x c.in-Assign.e) (ast.Assign c.in-Assign.x (term_of c.in-Assign.e)) c.args.line (state_of c.args.frame.now) (state_of c.stored.new.frame) c.stored.result c.in-Assign.is (assign_is c.in-Assign.x c.in-Assign.e) (c.stored.ensures _ c.value-v.ensures)
+    ends_as c.args.self.now.limits.now (g.C.Calls.gives c.args.self.now.calls.now) c.args.act.now (Assign c.in-Assign.x c.in-Assign.e) (ast.Assign c.in-Assign.x (term_of c.in-Assign.e)) c.args.line (state_of c.args.frame.now) (state_of c.assign.new.frame) c.assign.result c.in-Assign.is (assign_is c.in-Assign.x c.in-Assign.e) c.assign.ensures
 
 pub exec_act-returns-in-Augment : goal.exec_act-returns-in-Augment
 exec_act-returns-in-Augment g t c =
-    ends_as c.args.self.now.limits.now (g.C.Calls.gives c.args.self.now.calls.now) c.args.act.now (Augment c.in-Augment.x c.in-Augment.op c.in-Augment.e) (ast.Augment c.in-Augment.x c.in-Augment.op (term_of c.in-Augment.e)) c.args.line (state_of c.args.frame.now) (state_of c.stored-in-Augment.new.frame) c.stored-in-Augment.result c.in-Augment.is (augment_is c.in-Augment.x c.in-Augment.op c.in-Augment.e) (c.stored-in-Augment.ensures _ c.augmented-v.ensures)
+    ends_as c.args.self.now.limits.now (g.C.Calls.gives c.args.self.now.calls.now) c.args.act.now (Augment c.in-Augment.x c.in-Augment.op c.in-Augment.e) (ast.Augment c.in-Augment.x c.in-Augment.op (term_of c.in-Augment.e)) c.args.line (state_of c.args.frame.now) (state_of c.augment.new.frame) c.augment.result c.in-Augment.is (augment_is c.in-Augment.x c.in-Augment.op c.in-Augment.e) c.augment.ensures
 
 pub exec_act-returns-in-Put : goal.exec_act-returns-in-Put
 exec_act-returns-in-Put g t c =
-    ends_as c.args.self.now.limits.now (g.C.Calls.gives c.args.self.now.calls.now) c.args.act.now (Put c.in-Put.x c.in-Put.i c.in-Put.e) (ast.Put c.in-Put.x (term_of c.in-Put.i) (term_of c.in-Put.e)) c.args.line (state_of c.args.frame.now) (state_of c.stored-in-Put.new.frame) c.stored-in-Put.result c.in-Put.is (put_is c.in-Put.x c.in-Put.i c.in-Put.e) (c.stored-in-Put.ensures _ c.replaced-v.ensures)
+    ends_as c.args.self.now.limits.now (g.C.Calls.gives c.args.self.now.calls.now) c.args.act.now (Put c.in-Put.x c.in-Put.i c.in-Put.e) (ast.Put c.in-Put.x (term_of c.in-Put.i) (term_of c.in-Put.e)) c.args.line (state_of c.args.frame.now) (state_of c.put.new.frame) c.put.result c.in-Put.is (put_is c.in-Put.x c.in-Put.i c.in-Put.e) c.put.ensures
 
 pub exec_act-returns-in-AugmentAt : goal.exec_act-returns-in-AugmentAt
 exec_act-returns-in-AugmentAt g t c =
-    ends_as c.args.self.now.limits.now (g.C.Calls.gives c.args.self.now.calls.now) c.args.act.now (AugmentAt c.in-AugmentAt.x c.in-AugmentAt.i c.in-AugmentAt.op c.in-AugmentAt.e) (ast.AugmentAt c.in-AugmentAt.x (term_of c.in-AugmentAt.i) c.in-AugmentAt.op (term_of c.in-AugmentAt.e)) c.args.line (state_of c.args.frame.now) (state_of c.stored-in-AugmentAt.new.frame) c.stored-in-AugmentAt.result c.in-AugmentAt.is (augment_at_is c.in-AugmentAt.x c.in-AugmentAt.i c.in-AugmentAt.op c.in-AugmentAt.e) (c.stored-in-AugmentAt.ensures _ c.replaced_by-v.ensures)
+    ends_as c.args.self.now.limits.now (g.C.Calls.gives c.args.self.now.calls.now) c.args.act.now (AugmentAt c.in-AugmentAt.x c.in-AugmentAt.i c.in-AugmentAt.op c.in-AugmentAt.e) (ast.AugmentAt c.in-AugmentAt.x (term_of c.in-AugmentAt.i) c.in-AugmentAt.op (term_of c.in-AugmentAt.e)) c.args.line (state_of c.args.frame.now) (state_of c.augment_at.new.frame) c.augment_at.result c.in-AugmentAt.is (augment_at_is c.in-AugmentAt.x c.in-AugmentAt.i c.in-AugmentAt.op c.in-AugmentAt.e) c.augment_at.ensures
 
 pub exec_act-returns-in-Append : goal.exec_act-returns-in-Append
 exec_act-returns-in-Append g t c =
-    ends_as c.args.self.now.limits.now (g.C.Calls.gives c.args.self.now.calls.now) c.args.act.now (Append c.in-Append.x c.in-Append.e) (ast.Append c.in-Append.x (term_of c.in-Append.e)) c.args.line (state_of c.args.frame.now) (state_of c.stored-in-Append.new.frame) c.stored-in-Append.result c.in-Append.is (append_is c.in-Append.x c.in-Append.e) (c.stored-in-Append.ensures _ c.appended-v.ensures)
+    ends_as c.args.self.now.limits.now (g.C.Calls.gives c.args.self.now.calls.now) c.args.act.now (Append c.in-Append.x c.in-Append.e) (ast.Append c.in-Append.x (term_of c.in-Append.e)) c.args.line (state_of c.args.frame.now) (state_of c.append.new.frame) c.append.result c.in-Append.is (append_is c.in-Append.x c.in-Append.e) c.append.ensures
 
 pub exec_act-returns-in-Return : goal.exec_act-returns-in-Return
 exec_act-returns-in-Return g t c =

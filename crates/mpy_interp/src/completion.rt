@@ -1,0 +1,12 @@
+//! How statements complete.
+
+use mpy_tree::Value;
+
+/// How statements complete, where nothing stops them.
+#[derive(Drop)]
+pub enum Completion {
+    Next,
+    Broke,
+    Continued,
+    Returned(Value),
+}
