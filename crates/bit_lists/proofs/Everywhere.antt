@@ -43,9 +43,13 @@ and_assoc : (a b c : Bool) → ((a && b) && c) ≡ (a && (b && c))
 and_assoc true b c = refl
 and_assoc false b c = refl
 
-or_none : (a : Bool) → (a || false) ≡ a
+pub or_none : (a : Bool) → (a || false) ≡ a
 or_none true = refl
 or_none false = refl
+
+pub or_both : (a : Bool) → (a || a) ≡ a
+or_both true = refl
+or_both false = refl
 
 and_none : (a : Bool) → (a && true) ≡ a
 and_none true = refl
@@ -81,13 +85,13 @@ unfolding every
 every_all zero T h = refl
 every_all (suc j) T h = let rest = every_all j T (λ k l. h k (omega arith)) in let last = h j (omega arith) in cc
 
-less_suc : (k n : ℕ) → ltb (suc k) (suc n) ≡ ltb k n
+pub less_suc : (k n : ℕ) → ltb (suc k) (suc n) ≡ ltb k n
 less_suc k n = grind (arith, nat_tests)
 
-less_none : (k : ℕ) → ltb k 0 ≡ false
+pub less_none : (k : ℕ) → ltb k 0 ≡ false
 less_none k = grind (arith, nat_tests)
 
-less_first : (n : ℕ) → ltb 0 (suc n) ≡ true
+pub less_first : (n : ℕ) → ltb 0 (suc n) ≡ true
 less_first n = grind (arith, nat_tests)
 
 -- the items of a list within a length

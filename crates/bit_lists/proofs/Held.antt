@@ -53,6 +53,9 @@ module _ {S B : Type 0} {owns : S → B → Type 0} where
   pub word_as : {s : S} {m n : ℕ} {w : List B} → n ≡ m → IsWordIn owns s n w → IsWordIn owns s m w
   word_as e h = record { owned = h.owned; width = h.width ∙ e }
 
+  pub words_as : {s : S} {m n : ℕ} {w : List (List B)} → n ≡ m → AreWordsIn owns s n w → AreWordsIn owns s m w
+  words_as {s} {m} {n} {w} e h = subst (λ (k : ℕ). AreWordsIn owns s k w) e h
+
   -- the width of what is read at a place
   pub width_at : {s : S} {n : ℕ} {w : List (List B)} → AreWordsIn owns s n w → (f : B → Bool) (k : ℕ) → k < length (map (map f) w) → length (get_or (map (map f) w) k []) ≡ n
   width_at {s} {n} {w} h f k l =

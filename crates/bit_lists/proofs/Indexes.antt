@@ -21,7 +21,7 @@ power_six k =
     let i = power_double (suc (suc (suc (suc (suc k))))) in
     ap (λ (n : ℕ). 2 ^ n) e ∙ omega arith
 
-more_within : (p q : ℕ) (z : ℤ) → p ≤ q → is_within p z ≡ true → is_within q z ≡ true
+pub more_within : (p q : ℕ) (z : ℤ) → p ≤ q → is_within p z ≡ true → is_within q z ≡ true
 more_within p q (pos m) h e = grind (arith, nat_tests)
 more_within p q (negsuc m) h e = grind (arith, nat_tests)
 

@@ -9,3 +9,6 @@ pub mod Found
 pub mod Ends
 pub mod Cutting
 pub mod Repeating
+pub mod Ranging
+pub mod Within
+pub mod Constant

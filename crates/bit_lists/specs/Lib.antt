@@ -3,3 +3,4 @@ pub mod Moves
 pub mod Places
 pub mod Slices
 pub mod Repeats
+pub mod Ranges

@@ -48,7 +48,7 @@ fn agrees_at<L: Logic>(
 
 /// Whether a place lies within a list and two words there are the same.
 #[tactic(auto, using(crate::proofs::Held::steps))]
-fn found_at<L: Logic>(
+pub fn found_at<L: Logic>(
     g: &mut L,
     place: usize,
     len: &Bits<L::Bit>,

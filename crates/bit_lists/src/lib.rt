@@ -3,11 +3,14 @@
 
 pub mod choices;
 pub mod compare;
+pub mod constants;
 pub mod items;
 pub mod joins;
 pub mod lengths;
 pub mod lists;
+pub mod parts;
 pub mod places;
+pub mod ranges;
 pub mod repeats;
 pub mod shifts;
 pub mod slices;
