@@ -1,7 +1,7 @@
 //! Whether a text stands in another.
 
-ghost use Rattle.std.specs.Prelude.{◌≡◌, ◌<◌, ◌≤◌, ◌+◌, ℕ, Bool, List, length, map, drop, not, ◌&&◌};
-ghost use Rattle.std.specs.Prelude.{◌||◌, nat_lt, nat_eq, IfOk};
+ghost use Rattle.std.specs.Prelude.{◌≡◌, ◌<◌, ◌≤◌, ◌+◌, ℕ, Bool, List, length, map, drop, not};
+ghost use Rattle.std.specs.Prelude.{◌&&◌, ◌||◌, nat_lt, nat_eq, IfOk};
 ghost use Rattle.mpy_tree.specs.Operations.{is_front, is_part};
 ghost use Rattle.bit_words.specs.Logic.{Extends, OwnsAll};
 ghost use Rattle.bit_words.specs.Words.{nat_of, nat_read};
