@@ -1,11 +1,17 @@
-//! The answer to a task.
+//! The command `grade`, over files and an output; and the answer to a task.
 #![tactic(auto)]
 
+mod command;
 mod failing;
+mod grading;
 mod run;
+mod words;
 
+pub use command::grade;
+pub use grading::{Graded, answer_status, grade_texts};
 pub use run::{Run, answer};
 use std::alloc::AllocError;
+pub use words::GradeWords;
 
 /// Want of memory, where a call has no other refusal.
 pub type NoMemory = AllocError;

@@ -1,8 +1,8 @@
 mod Claims
 mod DecidingLaws
 mod Decimals
-mod Endings
 mod KnownLengths
+mod OneCommand
 pub mod OneOutcome
 mod ReadingLaws
 mod SampleLaws

@@ -1,43 +1,24 @@
 -- What the texts of a command spell is one thing, and what comes of them is one.
-use Rattle.std.proofs.Common.{◌≡◌, ◌≢◌, ◌≤◌, ◌<◌, ◌⊎◌, ℕ, suc, List, [], ◌∷◌, length, refl, sym, ap, subst, ◌∙◌, arith, inl, inr, Option, Some, None, false}
-use Rattle.std.proofs.lemmas.Option.{same_Some}
+use Rattle.std.proofs.Common.{◌≡◌, ℕ, suc, List, [], ◌∷◌, sym, ◌∙◌}
 use Rattle.mpy_tree.specs.declared.outcome.Outcome as run
-use Rattle.mpy_tree.specs.declared.refusal.Cause.TheVariants as cause
-use Rattle.mpy_tree.specs.declared.refusal.Source.{Source}
 use Rattle.mpy_tree.specs.declared.refusal.Source.TheVariants as source
 use Rattle.mpy_tree.specs.declared.refusal.Refusal.{Refusal}
 use Rattle.mpy_tree.specs.declared.value.Value.{Value}
-use Rattle.mpy_tree.specs.Syntax.{Routine}
 use Rattle.bounds_reader.specs.declared.params.Param.{Param}
-use Rattle.input_space.specs.Cases.{SpellsCase}
-use Rattle.input_space.proofs.OneCase.{one_case}
-use Rattle.source_files.specs.Files.{SourceFile}
-use Rattle.source_files.specs.Texts.{AllFit, IsFirstLong, IsTooLong}
-use Rattle.task_read.specs.Sources.{entry_at}
-use Rattle.task_read.specs.Steps.{Step, IsOne}
-use Rattle.task_read.proofs.OneStep.{one_bounds_step, one_program_step}
-use Rattle.task_read.proofs.OneStep as task
-use Rattle.task_read.proofs.Steps.{one_done, one_refuse, one_then}
-use Rattle.grade_top.specs.Decisions.{graded_step, never, run_step, sample_texts, spelled_step, task_step, value_step, values_step}
-use Rattle.grade_top.specs.Ends.{IsDecided, IsFirstRefusal, Outcome, Answered, Ran, Refused, Unasked}
-use Rattle.grade_top.specs.Files.{files_of}
-use Rattle.grade_top.specs.OneOutcome.{IsNoRefusal}
 use Rattle.input_space.specs.Tasks.{Task}
+use Rattle.input_space.proofs.OneCase.{one_case}
+use Rattle.source_files.specs.Texts.{AllFit}
+use Rattle.task_read.specs.Sources.{entry_at}
+use Rattle.task_read.specs.Steps.{IsOne}
+use Rattle.task_read.proofs.OneStep.{one_bounds_step, one_program_step}
+use Rattle.task_read.proofs.Steps.{one_done, one_refuse, one_then}
+use Rattle.file_commands.specs.Ends.{IsFirstRefusal}
+use Rattle.file_commands.proofs.FirstRefusals as first
+use Rattle.grade_core.specs.Decisions.{task_step}
+use Rattle.grade_core.proofs.OneGrading.{one_graded_step, one_never, one_task_step}
+use Rattle.grade_top.specs.Commands.{AnswerOf, file_command}
+use Rattle.grade_top.specs.Decisions.{run_step, sample_texts, spelled_step, value_step, values_step}
 use Rattle.grade_top.specs.Words.{Command, Grade, Run, Sample, Nothing, RunWords}
-
-pub one_never : {A : Type 0} → IsOne (never {A = A})
-one_never = record { gives = λ a b x y. absurd x; refuses = λ q r x y. absurd x; not_both = λ a r x y. x }
-
-pub one_task_step : (ts : List (List ℕ)) → IsOne (task_step ts)
-one_task_step [] = one_never
-one_task_step (a ∷ []) = one_never
-one_task_step (a ∷ b ∷ []) = one_never
-one_task_step (a ∷ b ∷ c ∷ []) = one_never
-one_task_step (a ∷ b ∷ c ∷ d ∷ []) = task.one_task_step a b c d
-one_task_step (a ∷ b ∷ c ∷ d ∷ e ∷ ts) = one_never
-
-pub one_graded_step : (ts : List (List ℕ)) → IsOne (graded_step ts)
-one_graded_step ts = one_then _ _ (one_task_step ts) (λ k. one_then _ _ (one_refuse _ _) (λ some. one_done k))
 
 same_first : (v w : Value) → v ∷ [] ≡ w ∷ [] → v ≡ w
 same_first v w h = cc
@@ -70,75 +51,25 @@ one_run_step w (a ∷ b ∷ []) =
     one_then _ _ (one_values 1 x.params w.values) (λ vs. one_done _))))
 one_run_step w (a ∷ b ∷ c ∷ ts) = one_never
 
--- LENGTHS
+-- WHAT COMES OF THE TEXTS
 
-pub long_fits : (fs : List SourceFile) (ts : List (List ℕ)) (s : Source) → AllFit ts → IsFirstLong fs ts s → ⊥
-long_fits [] ts s fit long = long
-long_fits (f ∷ fs) [] s fit long = long
-long_fits (f ∷ fs) (t ∷ ts) s fit long = elim long [
-  | inl here ↦ omega (arith, fit.0, here.0)
-  | inr later ↦ long_fits fs ts s fit.1 later.1
-]
+pub one_refuses : (c : Command) (ts : List (List ℕ)) (q r : Refusal) → (file_command c).refuses ts q → (file_command c).refuses ts r → q ≡ r
+one_refuses (Grade g) ts q r a b = (one_graded_step ts).refuses q r a b
+one_refuses (Sample n) ts q r a b = (one_graded_step (sample_texts n)).refuses q r a b
+one_refuses (Run w) ts q r a b = (one_run_step w ts).refuses q r a b
+one_refuses Nothing ts q r a b = absurd a
 
-one_long : (fs : List SourceFile) (ts : List (List ℕ)) (s other : Source) → IsFirstLong fs ts s → IsFirstLong fs ts other → s ≡ other
-one_long [] ts s other a b = absurd a
-one_long (f ∷ fs) [] s other a b = absurd a
-one_long (f ∷ fs) (t ∷ ts) s other a b = elim a [
-  | inl here ↦ elim b [
-    | inl there ↦ sym here.1 ∙ there.1
-    | inr later ↦ absurd (omega (arith, here.0, later.0))
-  ]
-  | inr later ↦ elim b [
-    | inl there ↦ absurd (omega (arith, there.0, later.0))
-    | inr latest ↦ one_long fs ts s other later.1 latest.1
-  ]
-]
+pub not_both : (c : Command) (ts : List (List ℕ)) (r : Refusal) (a : AnswerOf c) → (file_command c).decides ts a → (file_command c).refuses ts r → ⊥
+not_both (Grade g) ts r a decided refused = (one_graded_step ts).not_both a.task r decided.task refused
+not_both (Sample n) ts r a decided refused = (one_graded_step (sample_texts n)).not_both a.task r decided.task refused
+not_both (Run w) ts r a decided refused = (one_run_step w ts).not_both a r decided refused
+not_both Nothing ts r a decided refused = refused
 
-same_refusal : (q r : Refusal) → q.source ≡ r.source → q.cause ≡ r.cause → q.line ≡ r.line → q ≡ r
-same_refusal q r s c l = λ i. record { source = s i; cause = c i; line = l i }
+pub one_refusal : (c : Command) (ts : List (List ℕ)) (q r : Refusal) → IsFirstRefusal (file_command c) ts q → IsFirstRefusal (file_command c) ts r → q ≡ r
+one_refusal c ts q r a b = first.one_refusal (file_command c) ts (one_refuses c ts) q r a b
 
-one_too_long : (fs : List SourceFile) (ts : List (List ℕ)) (q r : Refusal) → IsTooLong fs ts q → IsTooLong fs ts r → q ≡ r
-one_too_long fs ts q r a b =
-    same_refusal q r (one_long fs ts q.source r.source a.long b.long) (a.cause_is ∙ sym b.cause_is) (a.line_is ∙ sym b.line_is)
-
-one_decided : (c : Command) (ts : List (List ℕ)) (q r : Refusal) → IsDecided c ts (Refused q) → IsDecided c ts (Refused r) → q ≡ r
-one_decided (Grade g) ts q r a b = (one_graded_step ts).refuses q r a b
-one_decided (Sample n) ts q r a b = (one_graded_step (sample_texts n)).refuses q r a b
-one_decided (Run w) ts q r a b = (one_run_step w ts).refuses q r a b
-one_decided Nothing ts q r a b = absurd a
-
-pub one_refusal : (c : Command) (ts : List (List ℕ)) (q r : Refusal) → IsFirstRefusal c ts q → IsFirstRefusal c ts r → q ≡ r
-one_refusal c ts q r a b = elim a [
-  | inl long ↦ elim b [
-    | inl other ↦ one_too_long (files_of c) ts q r long other
-    | inr said ↦ absurd (long_fits (files_of c) ts q.source said.0 long.long)
-  ]
-  | inr said ↦ elim b [
-    | inl other ↦ absurd (long_fits (files_of c) ts r.source said.0 other.long)
-    | inr also ↦ one_decided c ts q r said.1 also.1
-  ]
-]
-
-not_both_decided : (c : Command) (ts : List (List ℕ)) (r : Refusal) (o : Outcome) → IsDecided c ts (Refused r) → IsDecided c ts o → IsNoRefusal o → ⊥
-not_both_decided (Grade g) ts r (Answered k a) refused decided other = (one_graded_step ts).not_both k r decided.0 refused
-not_both_decided (Grade g) ts r (Ran o) refused decided other = decided
-not_both_decided (Grade g) ts r (Refused q) refused decided other = other
-not_both_decided (Grade g) ts r Unasked refused decided other = decided
-not_both_decided (Run w) ts r (Answered k a) refused decided other = decided
-not_both_decided (Run w) ts r (Ran o) refused decided other = (one_run_step w ts).not_both o r decided refused
-not_both_decided (Run w) ts r (Refused q) refused decided other = other
-not_both_decided (Run w) ts r Unasked refused decided other = decided
-not_both_decided (Sample n) ts r (Answered k a) refused decided other = (one_graded_step (sample_texts n)).not_both k r decided.0 refused
-not_both_decided (Sample n) ts r (Ran o) refused decided other = decided
-not_both_decided (Sample n) ts r (Refused q) refused decided other = other
-not_both_decided (Sample n) ts r Unasked refused decided other = decided
-not_both_decided Nothing ts r o refused decided other = refused
-
-pub not_refused_and_decided : (c : Command) (ts : List (List ℕ)) (r : Refusal) (o : Outcome) → IsFirstRefusal c ts r → AllFit ts → IsDecided c ts o → IsNoRefusal o → ⊥
-not_refused_and_decided c ts r o first fit decided other = elim first [
-  | inl long ↦ long_fits (files_of c) ts r.source fit long.long
-  | inr said ↦ not_both_decided c ts r o said.1 decided other
-]
+pub not_refused_and_decided : (c : Command) (ts : List (List ℕ)) (r : Refusal) (a : AnswerOf c) → IsFirstRefusal (file_command c) ts r → AllFit ts → (file_command c).decides ts a → ⊥
+not_refused_and_decided c ts r a is_first fit decided = first.not_first (file_command c) ts r (not_both c ts r a decided) fit is_first
 
 pub one_task : (ts : List (List ℕ)) (k other : Task) → (task_step ts).gives k → (task_step ts).gives other → k ≡ other
 one_task ts k other a b = (one_task_step ts).gives k other a b

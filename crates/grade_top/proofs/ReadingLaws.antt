@@ -1,44 +1,14 @@
--- What the texts of a command are read to, step after step.
-use Rattle.std.proofs.Common.{◌≡◌, ◌≢◌, ◌⊎◌, ℕ, suc, ◌+◌, List, [], ◌∷◌, ◌++◌, length, map, get_or, refl, sym, ap, subst, ◌∙◌, arith, inl, inr, drop, Result, Ok, Err, IsErrAnd, MatchResult, Vec, zero, ◌<◌, ◌≤◌, drop_of_length-le, append-nil}
+-- What the texts and words of `run` are read to, step after step.
+use Rattle.std.proofs.Common.{◌≡◌, ◌≢◌, ℕ, suc, ◌+◌, List, [], ◌∷◌, ◌++◌, length, map, get_or, refl, sym, ap, subst, arith, inl, inr, drop, Vec, zero, ◌<◌, ◌≤◌, drop_of_length-le, append-nil}
 use Rattle.std.specs.declared.alloc.Global.{Global}
 use Rattle.std.proofs.lemmas.List.{append_assoc}
 use Rattle.mpy_tree.specs.declared.refusal.Refusal.{Refusal}
 use Rattle.mpy_tree.specs.declared.value.Value.{Value}
+use Rattle.bounds_reader.specs.declared.params.Param.{Param}
 use Rattle.input_space.specs.Cases.{SpellsCase}
 use Rattle.input_space.proofs.OneCase.{one_case}
-use Rattle.source_files.specs.Fetches.{StopsAs}
-use Rattle.task_read.specs.declared.error.TaskError.{TaskError}
-use Rattle.task_read.specs.declared.error.TaskError.TheVariants as task_error
-use Rattle.task_read.specs.Errors.{RefusesAs, stop_of}
 use Rattle.source_files.specs.Views.{texts_of}
-use Rattle.source_files.specs.declared.stop.Stop.{Stop}
-use Rattle.source_files.specs.declared.stop.Stop.TheVariants as stop
-use Rattle.bounds_reader.specs.declared.params.Param.{Param}
 use Rattle.grade_top.specs.Decisions.{value_step, values_step}
-
--- what a step refuses is refused by all of it
-pub stops_in : (P Q : Refusal → Type 0) → ((r : Refusal) → P r → Q r) → (s : Stop) → StopsAs P s → StopsAs Q s
-stops_in P Q more (stop.Refused r) h = more r h
-stops_in P Q more stop.Failed h = h
-stops_in P Q more stop.NoMemory h = h
-
--- a step of a call that stopped
-pub stopped : {T : Type 0} (X : T → Type 0) (P Q : Refusal → Type 0) (r : Result T Stop) (s : Stop) → IsErrAnd r (λ t. t ≡ s) → StopsAs P s → ((q : Refusal) → P q → Q q) → MatchResult r X (StopsAs Q)
-stopped X P Q (Ok x) s is h more = absurd is
-stopped X P Q (Err t) s is h more = subst (StopsAs Q) (sym is) (stops_in P Q more s h)
-
--- what a reader of tasks refuses
-pub stopped_by : (P Q : Refusal → Type 0) → ((r : Refusal) → P r → Q r) → (e : TaskError) → RefusesAs P e → StopsAs Q (stop_of e)
-stopped_by P Q more (task_error.Refused r) h = more r h
-stopped_by P Q more task_error.NoMemory h = tt
-
--- THE TASK OF FOUR TEXTS
-
-pub four_texts : (xs : List (Vec ℕ Global)) (a b c d : Vec ℕ Global) (s t u v : List ℕ) → length xs ≡ 4
-    → a ≡ get_or xs 0 a → b ≡ get_or xs 1 b → c ≡ get_or xs 2 c → d ≡ get_or xs 3 d → s ≡ a.items → t ≡ b.items → u ≡ c.items → v ≡ d.items
-    → s ∷ t ∷ u ∷ v ∷ [] ≡ texts_of xs
-four_texts (i ∷ j ∷ k ∷ l ∷ []) a b c d s t u v len ia ib ic id fa fb fc fd = cc
-four_texts xs a b c d s t u v len ia ib ic id fa fb fc fd = absurd (omega arith)
 
 pub two_texts : (xs : List (Vec ℕ Global)) (a b : Vec ℕ Global) (s t : List ℕ) → length xs ≡ 2
     → a ≡ get_or xs 0 a → b ≡ get_or xs 1 b → s ≡ a.items → t ≡ b.items → s ∷ t ∷ [] ≡ texts_of xs

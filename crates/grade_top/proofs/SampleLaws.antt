@@ -22,7 +22,8 @@ use Rattle.feedback_text.specs.AnswerViews.{StandsFor, failure_of}
 use Rattle.feedback_text.specs.ReportViews.{edit_of}
 use Rattle.sample_maker.specs.Samples.{bounds_text, reference_text, rules_text, submission_text}
 use Rattle.sample_maker.proofs.Lengths.{bounds_short, reference_short, rules_short, submission_short}
-use Rattle.grade_top.specs.Decisions.{graded_step, sample_texts}
+use Rattle.grade_core.specs.Decisions.{graded_step}
+use Rattle.grade_top.specs.Decisions.{sample_texts}
 use Rattle.grade_top.specs.Outcomes.{IsSampleOf, Summarizes}
 use Rattle.grade_top.specs.Reports.{sample_lines}
 

@@ -1,57 +1,25 @@
--- What is decided for the texts of a command: the first refusal, or what is graded or run.
-use Rattle.std.specs.Prelude.{◌≡◌, ◌≢◌, ◌⊎◌, ℕ, suc, List, [], ◌∷◌, length, Option, false}
+-- What is decided for the texts of `run`, and the texts of a sample.
+use Rattle.std.specs.Prelude.{◌≡◌, ◌≢◌, ℕ, suc, List, [], ◌∷◌, length, false}
 use Rattle.mpy_tree.specs.declared.outcome.Outcome as run
 use Rattle.mpy_tree.specs.declared.refusal.Cause.TheVariants as cause
 use Rattle.mpy_tree.specs.declared.refusal.Source.TheVariants as source
-use Rattle.mpy_tree.specs.declared.refusal.Refusal.{Refusal}
-use Rattle.mpy_tree.specs.declared.typing.Fact.{Fact}
-use Rattle.mpy_tree.specs.declared.typing.Ty.{Ty}
 use Rattle.mpy_tree.specs.declared.value.Value.{Value}
 use Rattle.mpy_tree.specs.Fitting.{type_of}
 use Rattle.mpy_tree.specs.Outcomes.{run_outcome}
-use Rattle.mpy_tree.specs.SetTypes.{called, results}
-use Rattle.mpy_tree.specs.Syntax.{Routine}
-use Rattle.mpy_tree.specs.TypeSets.{only}
-use Rattle.mpy_tree.specs.Typings.{set_of}
 use Rattle.bounds_reader.specs.declared.bounds.Bounds.{Bounds}
 use Rattle.bounds_reader.specs.declared.params.Param.{Param}
 use Rattle.input_space.specs.Cases.{SpellsCase}
 use Rattle.input_space.specs.Inputs.{param_type, is_within}
-use Rattle.input_space.specs.Tasks.{HasWanted, Task, entry_line}
-use Rattle.task_read.specs.Sources.{Typed, bounds_step, program_step, entry_at, refusal}
+use Rattle.task_read.specs.Sources.{bounds_step, entry_at, program_step, refusal}
 use Rattle.sample_maker.specs.Samples.{bounds_text, reference_text, rules_text}
 use Rattle.sample_maker.specs.Samples.{submission_text}
 use Rattle.task_read.specs.Steps.{Step, ◌>>=◌, done, refuse_if}
-use Rattle.task_read.specs.TaskSteps as task
+use Rattle.grade_core.specs.Decisions.{never}
 use Rattle.grade_top.specs.Words.{RunWords}
-
--- texts that aren't those of the command's files
-abbrev pub never : {A : Type 0} → Step A
-never = record { gives = λ a. ⊥; refuses = λ r. ⊥ }
-
--- GRADE
-
--- the task that the texts spell
-abbrev pub task_step : List (List ℕ) → Step Task
-task_step (bounds ∷ reference ∷ submission ∷ rules ∷ []) =
-    task.task_step bounds reference submission rules
-task_step _ = never
-
--- a task that nothing refuses: its reference gives a value on some input
-abbrev pub graded_step : List (List ℕ) → Step Task
-graded_step texts = do
-  k ← task_step texts
-  some ← refuse_if (HasWanted k → ⊥)
-      (refusal source.Reference cause.EmptyReference (entry_line k.bounds k.reference))
-  done k
-
--- SAMPLE
 
 -- the four texts of a number
 abbrev pub sample_texts : ℕ → List (List ℕ)
 sample_texts n = bounds_text ∷ reference_text n ∷ submission_text n ∷ rules_text ∷ []
-
--- RUN
 
 -- the value that a word spells
 abbrev pub spelled_step : ℕ → List ℕ → Step Value

@@ -1,7 +1,6 @@
 pub mod Claims
+pub mod Commands
 pub mod Decisions
-pub mod Ends
-pub mod Files
 pub mod OneOutcome
 pub mod Outcomes
 pub mod Reports

@@ -4,8 +4,10 @@ use Rattle.mpy_tree.specs.declared.outcome.Outcome as run
 use Rattle.mpy_tree.specs.declared.refusal.Refusal.{Refusal}
 use Rattle.input_space.specs.Tasks.{Task}
 use Rattle.source_files.specs.Texts.{AllFit}
-use Rattle.grade_top.specs.Decisions.{run_step, task_step}
-use Rattle.grade_top.specs.Ends.{IsDecided, IsFirstRefusal, Outcome, Refused}
+use Rattle.file_commands.specs.Ends.{IsFirstRefusal}
+use Rattle.grade_core.specs.Decisions.{task_step}
+use Rattle.grade_top.specs.Commands.{AnswerOf, file_command}
+use Rattle.grade_top.specs.Decisions.{run_step}
 use Rattle.grade_top.specs.Words.{Command, RunWords}
 
 -- the texts of `grade` spell one task at most
@@ -24,15 +26,10 @@ RunOnce =
 abbrev pub HaveOneRefusal : Type 0
 HaveOneRefusal =
     (c : Command) (ts : List (List ℕ)) (r other : Refusal)
-    → IsFirstRefusal c ts r → IsFirstRefusal c ts other → r ≡ other
-
--- another outcome than a refusal
-abbrev pub IsNoRefusal : Outcome → Type 0
-IsNoRefusal (Refused r) = ⊥
-IsNoRefusal o = Unit {0}
+    → IsFirstRefusal (file_command c) ts r → IsFirstRefusal (file_command c) ts other → r ≡ other
 
 -- no texts are both refused and answered
 abbrev pub NotRefusedAndDecided : Type 0
 NotRefusedAndDecided =
-    (c : Command) (ts : List (List ℕ)) (r : Refusal) (o : Outcome)
-    → IsFirstRefusal c ts r → AllFit ts → IsDecided c ts o → IsNoRefusal o → ⊥
+    (c : Command) (ts : List (List ℕ)) (r : Refusal) (a : AnswerOf c)
+    → IsFirstRefusal (file_command c) ts r → AllFit ts → (file_command c).decides ts a → ⊥

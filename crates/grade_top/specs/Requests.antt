@@ -1,20 +1,10 @@
 -- The words of a request, as the program keeps them.
 use Rattle.std.specs.Prelude.{map}
 use Rattle.std.specs.String.{string_bytes}
-use Rattle.grade_top.specs.Words.{GradeWords, RunWords, Command, Grade, Run, Sample}
-use Rattle.grade_top.specs.declared.words.GradeWords as code_grade
+use Rattle.grade_core.specs.Requests.{grade_of}
+use Rattle.grade_top.specs.Words.{RunWords, Command, Grade, Run, Sample}
 use Rattle.grade_top.specs.declared.words.RunWords as code_run
 use Rattle.grade_top.specs.declared.words.Command as code_command
-
-abbrev pub grade_of : code_grade.GradeWords → GradeWords
-grade_of w = record {
-  bounds = w.bounds.now;
-  reference = w.reference.now;
-  submission = w.submission.now;
-  rules = w.rules.now;
-  cert = w.cert.now;
-  budget = w.budget;
-}
 
 abbrev pub run_of : code_run.RunWords → RunWords
 run_of w = record {

@@ -9,21 +9,24 @@ ghost use Rattle.mpy_tree.specs.declared.refusal.Refusal.{Refusal};
 ghost use Rattle.input_space.specs.Tasks.{Task};
 ghost use Rattle.source_files.specs.Fetches.{CallsInOrder};
 ghost use Rattle.source_files.specs.Texts.{Tells};
-ghost use Rattle.grade_top.specs.Claims.{AreTold, IsGraded, IsSaid, IsUsage, NoFault};
-ghost use Rattle.grade_top.specs.Decisions.{graded_step, run_step, sample_texts};
-ghost use Rattle.grade_top.specs.Ends.{Ends, IsFirstRefusal, Ran, Refused};
-ghost use Rattle.grade_top.specs.Files.{files_of};
-ghost use Rattle.grade_top.specs.Words.{Asks, Command, Grade, GradeWords, Nothing, Run};
-ghost use Rattle.grade_top.specs.Words.{RunWords, Sample};
+ghost use Rattle.file_commands.specs.Claims.{AreTold, IsSaid, NoFault};
+ghost use Rattle.file_commands.specs.Ends.{Ends, IsFirstRefusal};
+ghost use Rattle.grade_core.specs.Claims.{IsGraded};
+ghost use Rattle.grade_core.specs.Decisions.{graded_step};
+ghost use Rattle.grade_core.specs.Words.{GradeWords};
+ghost use Rattle.grade_top.specs.Claims.{IsUsage};
+ghost use Rattle.grade_top.specs.Commands.{file_command, files_of, line_of};
+ghost use Rattle.grade_top.specs.Decisions.{run_step, sample_texts};
+ghost use Rattle.grade_top.specs.Reports.{run_text};
+ghost use Rattle.grade_top.specs.Words.{Asks, Command, Grade, Nothing, Run, RunWords, Sample};
 
 mod command;
-mod grade;
 mod laws;
-mod outcome;
 mod report;
 mod run;
 mod sample;
 mod typed;
+mod values;
 mod words;
 
 pub use grade_io::{Status, status_number};
@@ -46,7 +49,7 @@ pub fn grade_top<S: Shelf, K: Sink>(
 ) -> Status
     // What the status means, and what stands in the output and in the files.
     ensures ends { (c : Command) → Asks (map string_bytes words.now.items) c
-        → Ends c (devices (S.seen shelf.old) (K.seen out.old))
+        → Ends (file_command c) (devices (S.seen shelf.old) (K.seen out.old))
         (devices (S.seen shelf.new) (K.seen out.new)) result }
     // The calls of the command's words, in order, each once, up to some point.
     ensures calls { (c : Command) → Asks (map string_bytes words.now.items) c
@@ -60,7 +63,7 @@ pub fn grade_top<S: Shelf, K: Sink>(
     // A task that nothing refuses is graded, unless a device failed or memory lacked.
     ensures graded { (g : GradeWords) (ts : List (List ℕ)) (k : Task)
         → Asks (map string_bytes words.now.items) (Grade g)
-        → AreTold (devices (S.seen shelf.old) (K.seen out.old)) (Grade g) ts
+        → AreTold (devices (S.seen shelf.old) (K.seen out.old)) (files_of (Grade g)) ts
         → (graded_step ts).gives k
         → NoFault (devices (S.seen shelf.old) (K.seen out.old))
         (devices (S.seen shelf.new) (K.seen out.new))
@@ -75,19 +78,19 @@ pub fn grade_top<S: Shelf, K: Sink>(
     // A run that nothing refuses is told, unless a device failed or memory lacked.
     ensures ran { (w : RunWords) (ts : List (List ℕ)) (o : RunOutcome)
         → Asks (map string_bytes words.now.items) (Run w)
-        → AreTold (devices (S.seen shelf.old) (K.seen out.old)) (Run w) ts
+        → AreTold (devices (S.seen shelf.old) (K.seen out.old)) (files_of (Run w)) ts
         → (run_step w ts).gives o
         → NoFault (devices (S.seen shelf.old) (K.seen out.old))
         (devices (S.seen shelf.new) (K.seen out.new))
-        → IsSaid (Run w) (Ran o) (K.seen out.old) (K.seen out.new) result }
+        → IsSaid (run_text o) Status.Correct (K.seen out.old) (K.seen out.new) result }
     // Where a refusal is the first, it is answered and its line written, unless a device failed or
     // memory lacked; by `ends` a refusal is answered for texts for which it is the first alone.
     ensures refused { (c : Command) (ts : List (List ℕ)) (r : Refusal)
         → Asks (map string_bytes words.now.items) c
-        → Tells (S.seen shelf.old) (files_of c) ts → IsFirstRefusal c ts r
+        → Tells (S.seen shelf.old) (files_of c) ts → IsFirstRefusal (file_command c) ts r
         → NoFault (devices (S.seen shelf.old) (K.seen out.old))
         (devices (S.seen shelf.new) (K.seen out.new))
-        → IsSaid c (Refused r) (K.seen out.old) (K.seen out.new) result }
+        → IsSaid (line_of c r) Status.Refused (K.seen out.old) (K.seen out.new) result }
 {
     match words::read_words(words) {
         Some(command) => command::answer(alloc, &command, shelf, out),

@@ -1,99 +1,59 @@
 //! The command `run`.
-ghost use Rattle.std.specs.Prelude.{◌≡◌, ◌≢◌, ◌≤◌, ◌∷◌, ◌++◌, [], length, map, MatchOption};
-ghost use Rattle.std.specs.Prelude.{MatchResult, OnOk};
-ghost use Rattle.mpy_tree.specs.declared.value.Value.{Value as AnyValue};
-ghost use Rattle.std.specs.String.{string_bytes};
-ghost use Rattle.source_files.specs.Fetches.{StopsAs};
-ghost use Rattle.source_files.specs.Texts.{AllFit};
-ghost use Rattle.source_files.specs.Views.{texts_of};
-ghost use Rattle.grade_top.specs.Decisions.{run_step, spelled_step, value_step, values_step};
-ghost use Rattle.grade_top.specs.Outcomes.{IsReport};
+ghost use Rattle.std.specs.Prelude.{◌≡◌, IfErr, IfOk, MatchResult, length};
+ghost use Rattle.grade_io.specs.Devices.{devices};
+ghost use Rattle.source_files.specs.Fetches.{CallsInOrder, FilesKept, IsLongSource, OnRefused};
+ghost use Rattle.source_files.specs.Fetches.{ReadFaults, StopsAs};
+ghost use Rattle.source_files.specs.Files.{file as source_file};
+ghost use Rattle.source_files.specs.Texts.{AllFit, AreHeld};
+ghost use Rattle.source_files.specs.Views.{file_of, texts_of};
+ghost use Rattle.file_commands.specs.Commands.{Refused};
+ghost use Rattle.file_commands.specs.Ends.{ComesOfFiles, Ends};
+ghost use Rattle.file_commands.specs.Reports.{IsFound, ReportsFiles};
+ghost use Rattle.grade_top.specs.Commands.{run_command as command_run, run_files, run_line};
+ghost use Rattle.grade_top.specs.Commands.{run_word};
+ghost use Rattle.grade_top.specs.Decisions.{run_step};
+ghost use Rattle.grade_top.specs.Reports.{value_refusal_text};
 ghost use Rattle.grade_top.specs.Requests.{run_of};
-ghost use Rattle.grade_top.specs.Words.{Run};
 
-use crate::outcome::Report;
 use crate::report::run_text;
 use crate::typed::read_typed;
+use crate::values::read_values;
 use crate::words::RunWords;
-use bounds_reader::Param;
-use grade_io::Status;
-use input_space::{CaseError, is_within, param_type, read_case};
+use file_commands::{Lines, Report, end};
+use grade_io::{Shelf, Sink, Status};
 use mpy_interp::run;
-use mpy_tree::{Cause, NoMemory, Outcome, Source, Value, Values};
-use source_files::{Stop, refused};
+use mpy_tree::{Cause, NoMemory, Outcome, Refusal, Source};
+use source_files::{File, Stop, fetch_all, refused};
 use std::alloc::Global;
-use task_read::read_task_bounds;
+use task_read::{read_task_bounds, refusal_text};
 
-/// A value may have this many bytes.
-const MOST_BYTES: usize = 1_073_741_824;
-
-/// The value that a word spells, which is the one of a number.
-fn spelled(alloc: Global, number: u32, word: &str) -> Result<Value, Stop>
-    ensures { MatchResult result (spelled_step number word.now).gives
-        (StopsAs (spelled_step number word.now).refuses) }
+fn file(source: Source, word: &str) -> File<'_>
+    ensures { file_of result ≡ source_file source word.now }
 {
-    if word.len() > MOST_BYTES {
-        return Err(Stop::NoMemory);
-    }
-    let no_value = refused(Source::Word(number), Cause::Syntax, 0);
-    match read_case(alloc, word.as_bytes()) {
-        Ok(case) => match only(case.values.into_vec()) {
-            Some(value) => Ok(value),
-            None => Err(no_value),
-        },
-        Err(CaseError::NoCase) => Err(no_value),
-        Err(CaseError::NoMemory) => Err(Stop::NoMemory),
-    }
+    File { source, word }
 }
 
-/// The one value of a list that has one.
-fn only(mut values: Vec<Value>) -> Option<Value>
-    ensures { MatchOption result ((v : AnyValue) → values.items ≢ v ∷ [])
-        (λ v. values.items ≡ v ∷ []) }
+/// The texts of the bounds and of the program.
+fn fetch<S: Shelf>(
+    alloc: Global,
+    words: &RunWords<'_>,
+    shelf: &mut S,
+) -> Result<Vec<Vec<u8>>, Stop>
+    ensures fit { IfOk result (λ v. AllFit (texts_of v.items)) }
+    ensures held { IfOk result (λ v. AreHeld (S.seen shelf.old) (run_files (run_of words.now))
+        (texts_of v.items)) }
+    ensures long { IfErr result (OnRefused (IsLongSource (run_files (run_of words.now))
+        (S.seen shelf.old) (S.seen shelf.new))) }
+    ensures calls { CallsInOrder (run_files (run_of words.now)) (S.seen shelf.old)
+        (S.seen shelf.new) }
+    ensures kept { FilesKept (S.seen shelf.old) (S.seen shelf.new) }
+    ensures faults { ReadFaults result (S.seen shelf.old) (S.seen shelf.new) }
 {
-    if values.len() == 1 {
-        values.pop()
-    } else {
-        None
-    }
-}
-
-/// The value of a number, for a parameter.
-fn read_value(alloc: Global, number: u32, param: &Param, word: &str) -> Result<Value, Stop>
-    ensures { MatchResult result (value_step number param.now word.now).gives
-        (StopsAs (value_step number param.now word.now).refuses) }
-{
-    let value = spelled(alloc, number, word)?;
-    if value.ty() != param_type(param) {
-        return Err(refused(Source::Word(number), Cause::TypeFault, 0));
-    }
-    if !is_within(param, &value) {
-        return Err(refused(Source::Word(number), Cause::BoundRange, 0));
-    }
-    Ok(value)
-}
-
-/// The values of all parameters, one after the other.
-fn read_values(alloc: Global, params: &[Param], words: &[String]) -> Result<Values, Stop>
-    requires same { length words.now ≡ length params.now }
-    requires few { length params.now ≤ 4 }
-    ensures { MatchResult result (values_step 1 params.now (map string_bytes words.now)).gives
-        (StopsAs (values_step 1 params.now (map string_bytes words.now)).refuses) }
-{
-    let mut values = Vec::new(alloc);
-    for (i, param) in params.iter().enumerate() {
-        let value = read_value(alloc, i as u32 + 1, param, &words[i])?;
-        push(&mut values, value)?;
-    }
-    Ok(Values::from_vec(values))
-}
-
-// One value more.
-fn push(values: &mut Vec<Value>, value: Value) -> Result<(), NoMemory>
-    ensures { OnOk result (values.new.items ≡ values.old.items ++ value ∷ []) }
-{
-    values.push(value)?;
-    Ok(())
+    let files = [
+        file(Source::Bounds, words.bounds),
+        file(Source::Reference, words.program),
+    ];
+    fetch_all(alloc, &files, shelf)
 }
 
 /// How the program of the texts ends on the values.
@@ -124,15 +84,10 @@ fn outcome(alloc: Global, words: &RunWords<'_>, texts: &[Vec<u8>]) -> Result<Out
 }
 
 /// What is written of a run.
-pub(crate) fn run_report(
-    alloc: Global,
-    words: &RunWords<'_>,
-    texts: &[Vec<u8>],
-) -> Result<Report, Stop>
+fn report_texts(alloc: Global, words: &RunWords<'_>, texts: &[Vec<u8>]) -> Result<Report, Stop>
     requires two { length texts.now ≡ 2 }
     requires fit { AllFit (texts_of texts.now) }
-    ensures { MatchResult result (IsReport (Run (run_of words.now)) (texts_of texts.now))
-        (StopsAs (run_step (run_of words.now) (texts_of texts.now)).refuses) }
+    ensures { IsFound (command_run (run_of words.now)) (texts_of texts.now) result }
 {
     let outcome = outcome(alloc, words, texts)?;
     let text = run_text(alloc, &outcome)?;
@@ -140,4 +95,73 @@ pub(crate) fn run_report(
         status: Status::Correct,
         text,
     })
+}
+
+/// Fetches the files, and runs the program.
+fn find_report<S: Shelf>(
+    alloc: Global,
+    words: &RunWords<'_>,
+    shelf: &mut S,
+) -> Result<Report, Stop>
+    ensures found { IfOk result (ReportsFiles (command_run (run_of words.now))
+        (S.seen shelf.old) (S.seen shelf.new)) }
+    ensures refused { IfErr result (OnRefused (λ r. ComesOfFiles (command_run (run_of words.now))
+        (S.seen shelf.old) (S.seen shelf.new) (Refused r))) }
+    ensures calls { CallsInOrder (run_files (run_of words.now)) (S.seen shelf.old)
+        (S.seen shelf.new) }
+    ensures kept { FilesKept (S.seen shelf.old) (S.seen shelf.new) }
+    ensures faults { ReadFaults result (S.seen shelf.old) (S.seen shelf.new) }
+{
+    let texts = fetch(alloc, words, shelf)?;
+    report_texts(alloc, words, &texts)
+}
+
+/// The word that names a source, if it is a file of the command.
+fn word<'a>(words: &RunWords<'a>, source: Source) -> &'a str
+    ensures { result.now ≡ run_word (run_of words.now) source }
+{
+    match source {
+        Source::Bounds => words.bounds,
+        Source::Reference => words.program,
+        _ => "",
+    }
+}
+
+/// The line of a refusal of a value, by its number.
+fn value_line(alloc: Global, number: u32, cause: Cause) -> Result<Vec<u8>, NoMemory>
+    ensures { IfOk result (λ v. v.items ≡ value_refusal_text number cause) }
+{
+    let text = format!(in alloc; "refused value {number}: {}\n", cause.name())?;
+    Ok(text.into_bytes())
+}
+
+impl Lines for RunWords<'_> {
+    ghost use Rattle.grade_top.specs.Commands.{run_command};
+    ghost use Rattle.grade_top.specs.Requests.{run_of};
+
+    ghost line_of = { λ w. (run_command (run_of w)).line };
+
+    fn line(&self, alloc: Global, refusal: &Refusal) -> Result<Vec<u8>, NoMemory> {
+        match refusal.source {
+            Source::Word(number) => value_line(alloc, number, refusal.cause),
+            source => refusal_text(alloc, word(self, source), refusal),
+        }
+    }
+}
+
+/// Runs a program on values: its files are fetched in order and read, and how it ends is written.
+pub(crate) fn run_command<S: Shelf, K: Sink>(
+    alloc: Global,
+    words: &RunWords<'_>,
+    shelf: &mut S,
+    out: &mut K,
+) -> Status
+    ensures ends { Ends (command_run (run_of words.now))
+        (devices (S.seen shelf.old) (K.seen out.old))
+        (devices (S.seen shelf.new) (K.seen out.new)) result }
+    ensures calls { CallsInOrder (run_files (run_of words.now)) (S.seen shelf.old)
+        (S.seen shelf.new) }
+{
+    let found = find_report(alloc, words, shelf);
+    end(alloc, words, found, out)
 }

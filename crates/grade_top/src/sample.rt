@@ -1,24 +1,27 @@
 //! The command `sample`.
-ghost use Rattle.std.specs.Prelude.{◌≡◌, ◌≤◌, [], IfOk, MatchResult, length};
-ghost use Rattle.input_space.specs.TaskParts.{task_with};
+ghost use Rattle.std.specs.Prelude.{◌≡◌, ◌≤◌, [], IfOk, length};
+ghost use Rattle.grade_io.specs.Devices.{ShelfState, devices};
 ghost use Rattle.mpy_limits.specs.Limits.{all_statements};
-ghost use Rattle.source_files.specs.Fetches.{StopsAs};
-ghost use Rattle.grade_top.specs.Decisions.{graded_step, sample_texts};
+ghost use Rattle.input_space.specs.TaskParts.{task_with};
+ghost use Rattle.file_commands.specs.Ends.{Ends};
+ghost use Rattle.file_commands.specs.Reports.{IsFound};
 ghost use Rattle.feedback_text.specs.AnswerViews.{IsReported};
-ghost use Rattle.grade_top.specs.Outcomes.{IsReport, IsSampleOf, Summarizes};
+ghost use Rattle.grade_top.specs.Commands.{sample_command as command_sample};
+ghost use Rattle.grade_top.specs.Outcomes.{IsSampleOf, Summarizes};
 ghost use Rattle.grade_top.specs.Reports.{sample_lines};
-ghost use Rattle.grade_top.specs.Words.{Sample};
 
-use crate::grade::{Graded, decide, status};
-use crate::outcome::Report;
 use choice_tree::{Selection, edits, plain};
 use feedback_text::{Answer, report};
+use file_commands::{Lines, Report, end};
+use grade_core::{Graded, answer_status, grade_texts};
+use grade_io::{Sink, Status};
 use input_space::Task;
 use mpy_limits::statements_count;
-use mpy_tree::NoMemory;
+use mpy_tree::{NoMemory, Refusal, Source};
 use sample_maker::sample;
 use source_files::Stop;
 use std::alloc::Global;
+use task_read::refusal_text;
 
 /// The budget by which a sample is graded.
 const BUDGET: u32 = 200_000;
@@ -80,10 +83,9 @@ fn text(alloc: Global, number: u32, graded: &Graded) -> Result<Vec<u8>, NoMemory
 }
 
 /// What is written of the sample of a number.
-pub(crate) fn sample_report(alloc: Global, number: u32) -> Result<Report, Stop>
+fn find_report(alloc: Global, number: u32) -> Result<Report, Stop>
     requires { number ≤ 65535 }
-    ensures { MatchResult result (IsReport (Sample number) [])
-        (StopsAs (graded_step (sample_texts number)).refuses) }
+    ensures { IsFound (command_sample number) [] result }
 {
     let made = sample(alloc, number)?;
     let texts = [
@@ -92,10 +94,42 @@ pub(crate) fn sample_report(alloc: Global, number: u32) -> Result<Report, Stop>
         made.submission.into_vec(),
         made.rules.into_vec(),
     ];
-    let graded = decide(alloc, &texts, BUDGET)?;
+    let graded = grade_texts(alloc, &texts, BUDGET)?;
     let text = text(alloc, number, &graded)?;
     Ok(Report {
-        status: status(&graded.answer),
+        status: answer_status(&graded.answer),
         text,
     })
+}
+
+/// The sources of a sample, which are no files.
+#[derive(Clone, Copy)]
+struct SampleSources;
+
+impl Lines for SampleSources {
+    ghost use Rattle.mpy_tree.specs.Refusals.{refusal_text};
+    ghost use Rattle.grade_top.specs.Commands.{sample_word};
+
+    ghost line_of = { λ s r. refusal_text (sample_word r.source) r };
+
+    fn line(&self, alloc: Global, refusal: &Refusal) -> Result<Vec<u8>, NoMemory> {
+        let name = match refusal.source {
+            Source::Bounds => "bounds",
+            Source::Reference => "reference",
+            Source::Submission => "submission",
+            Source::Rules => "rules",
+            Source::Cert | Source::Word(_) => "",
+        };
+        refusal_text(alloc, name, refusal)
+    }
+}
+
+/// Grades the sample of a number, and writes a summary. No file is touched.
+pub(crate) fn sample_command<K: Sink>(alloc: Global, number: u32, out: &mut K) -> Status
+    requires { number ≤ 65535 }
+    ensures { (shelf : ShelfState) → Ends (command_sample number)
+        (devices shelf (K.seen out.old)) (devices shelf (K.seen out.new)) result }
+{
+    let found = find_report(alloc, number);
+    end(alloc, &SampleSources, found, out)
 }

@@ -1,9 +1,15 @@
 -- the words ask for the command that was read
 use Rattle.grade_top.specs.Requests.{command_of}
 use Rattle.grade_top.specs.Words.{Grade, Nothing, Run, Sample}
-use Rattle.grade_top.proofs.Claims.{graded, no_usage, ran, refused, sampled}
-use Rattle.grade_top.proofs.Endings.{asks_something, is_asked, one_command, read_failed}
+use Rattle.file_commands.proofs.Claims.{read_failed}
+use Rattle.grade_core.proofs.GradeClaims.{graded}
+use Rattle.grade_top.specs.Commands.{file_command}
+use Rattle.grade_top.proofs.Claims.{no_usage, ran, refused, sampled}
+use Rattle.grade_top.proofs.OneCommand.{asks_something, one_command}
 use Rattle.grade_top.proofs.grade_top.Goals as goal
+
+pub answer-requires : goal.answer-requires
+answer-requires g c = record { words = _; asks = c.in-Some.ensures.found }
 
 pub returns-in-Some-clause-ends : goal.returns-in-Some-clause-ends
 returns-in-Some-clause-ends g c = λ d asks. rw (one_command _ d (command_of c.in-Some.command) asks (rw c.deref.ensures.value at c.in-Some.ensures.found)) c.answer.ensures.ends
@@ -13,15 +19,15 @@ returns-in-Some-clause-calls g c = λ d asks. rw (one_command _ d (command_of c.
 
 pub returns-in-Some-clause-usage : goal.returns-in-Some-clause-usage
 returns-in-Some-clause-usage g c = λ is.
-    absurd (no_usage (command_of c.in-Some.command) _ _ c.answer.result (asks_something (command_of c.in-Some.command) (is_asked c.in-Some.command)) c.answer.ensures.ends is)
+    absurd (no_usage (command_of c.in-Some.command) _ _ c.answer.result (asks_something c.in-Some.command) c.answer.ensures.ends is)
 
 pub returns-in-Some-clause-no_form : goal.returns-in-Some-clause-no_form
 returns-in-Some-clause-no_form g c = λ none.
-    absurd (asks_something (command_of c.in-Some.command) (is_asked c.in-Some.command) (one_command _ (command_of c.in-Some.command) Nothing (rw c.deref.ensures.value at c.in-Some.ensures.found) none))
+    absurd (asks_something c.in-Some.command (one_command _ (command_of c.in-Some.command) Nothing (rw c.deref.ensures.value at c.in-Some.ensures.found) none))
 
 pub returns-in-Some-clause-read_failed : goal.returns-in-Some-clause-read_failed
 returns-in-Some-clause-read_failed g c = λ is.
-    read_failed (command_of c.in-Some.command) _ _ c.answer.result (is_asked c.in-Some.command) c.answer.ensures.ends is
+    read_failed (file_command (command_of c.in-Some.command)) _ _ c.answer.result c.answer.ensures.ends is
 
 pub returns-in-Some-clause-graded : goal.returns-in-Some-clause-graded
 returns-in-Some-clause-graded g c = λ words ts k asks told given sure.

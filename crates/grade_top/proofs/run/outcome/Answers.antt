@@ -6,7 +6,8 @@ use Rattle.source_files.specs.Views.{texts_of}
 use Rattle.grade_top.specs.Requests.{run_of}
 use Rattle.grade_top.specs.Views.{typed_of}
 use Rattle.grade_top.proofs.DecidingLaws.{at_count, at_program, at_values, run_given}
-use Rattle.grade_top.proofs.ReadingLaws.{stopped, two_texts}
+use Rattle.file_commands.proofs.Stopping.{stopped}
+use Rattle.grade_top.proofs.ReadingLaws.{two_texts}
 use Rattle.grade_top.proofs.run.outcome.Goals as goal
 
 pub returns-in_err-typed : goal.returns-in_err-typed

@@ -1,0 +1,4 @@
+pub mod Claims
+pub mod Endings
+pub mod FirstRefusals
+pub mod Stopping

@@ -1,0 +1,10 @@
+//! Commands that read files: what their texts decide, and how the call ends that writes it.
+#![tactic(auto)]
+
+mod ending;
+mod lines;
+mod report;
+
+pub use ending::end;
+pub use lines::Lines;
+pub use report::Report;

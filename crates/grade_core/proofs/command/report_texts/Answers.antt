@@ -1,0 +1,13 @@
+-- the report is that of the answer
+use Rattle.input_space.specs.TaskParts.{task_with}
+use Rattle.grade_core.proofs.command.report_texts.Goals as goal
+
+pub returns : goal.returns
+returns c =
+    let k = task_with c.in_ok-graded.graded.task in
+    let shown = c.in_ok-text.ensures in
+    record {
+      answer = record { task = k; answer = shown.answer };
+      decided = record { task = c.in_ok-graded.ensures.task; answer = c.in_ok-graded.ensures.answered shown.answer shown.stands };
+      shows = record { text = shown.text_is; status = c.answer_status.ensures k shown.answer shown.stands };
+    }

@@ -1,0 +1,13 @@
+-- What the grading of a task answers, in the words of a reader.
+use Rattle.grade_io.specs.declared.status.Status.{Status}
+use Rattle.grade_io.specs.declared.status.Status.TheVariants as status
+use Rattle.input_space.specs.Agreement.{Agrees}
+use Rattle.input_space.specs.Tasks.{Task, NoneAgrees}
+
+-- the answer to a task that nothing refuses; want of memory stays possible
+abbrev pub IsGraded : Task → Status → Type 0
+IsGraded k status.Correct = Agrees k.bounds k.reference k.submission
+IsGraded k status.Corrected = Agrees k.bounds k.reference k.submission → ⊥
+IsGraded k status.NoCorrection = NoneAgrees k
+IsGraded k status.NoMemory = Unit {0}
+IsGraded k _ = ⊥

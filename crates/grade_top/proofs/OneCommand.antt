@@ -1,0 +1,72 @@
+-- Words ask for one command.
+use Rattle.std.proofs.Common.{◌≡◌, sym, ap, ◌∙◌, arith, refl, List, [], ◌∷◌, ℕ}
+use Rattle.std.specs.Fmt.{decimal}
+use Rattle.std.proofs.lemmas.Fmt.{decimal_injective}
+use Rattle.grade_core.specs.Words.{GradeWords}
+use Rattle.grade_top.specs.Requests.{command_of}
+use Rattle.grade_top.specs.declared.words.Command as code_command
+use Rattle.grade_top.specs.Words.{Command, Grade, Run, Sample, Nothing, RunWords, AsksGrade, AsksRun, AsksSample, Asks, grade_words, run_words, sample_words}
+
+make : (bounds reference submission rules cert : List ℕ) (budget : ℕ) → GradeWords
+make bounds reference submission rules cert budget = record { bounds = bounds; reference = reference; submission = submission; rules = rules; cert = cert; budget = budget }
+
+made : (g h : GradeWords) → grade_words g ≡ grade_words h → g.budget ≡ h.budget → make g.bounds g.reference g.submission g.rules g.cert g.budget ≡ make h.bounds h.reference h.submission h.rules h.cert h.budget
+made g h words budget = cc
+
+-- words ask for one thing
+same_words : (words : List (List ℕ)) (g h : GradeWords) → AsksGrade words g → AsksGrade words h → g ≡ h
+unfolding make
+same_words words g h asks other =
+    let e : grade_words g ≡ grade_words h = sym asks.0 ∙ other.0 in
+    let text : decimal g.budget ≡ decimal h.budget = cc in
+    let budget : g.budget ≡ h.budget = decimal_injective g.budget h.budget (omega (arith, asks.1.most)) (omega (arith, other.1.most)) text in
+    made g h e budget
+
+make_run : (bounds program : List ℕ) (values : List (List ℕ)) → RunWords
+make_run bounds program values = record { bounds = bounds; program = program; values = values }
+
+made_run : (w v : RunWords) → run_words w ≡ run_words v → make_run w.bounds w.program w.values ≡ make_run v.bounds v.program v.values
+made_run w v words = cc
+
+same_run : (words : List (List ℕ)) (w v : RunWords) → AsksRun words w → AsksRun words v → w ≡ v
+unfolding make_run
+same_run words w v asks other = made_run w v (sym asks.0 ∙ other.0)
+
+not_both : (words : List (List ℕ)) (g : GradeWords) (w : RunWords) → AsksGrade words g → AsksRun words w → ⊥
+not_both words g w grade run = let no : grade_words g ≡ run_words w = sym grade.0 ∙ run.0 in cc
+
+same_sample : (words : List (List ℕ)) (m n : ℕ) → AsksSample words m → AsksSample words n → m ≡ n
+same_sample words m n asks other =
+    let e : sample_words m ≡ sample_words n = sym asks.0 ∙ other.0 in
+    let text : decimal m ≡ decimal n = cc in
+    decimal_injective m n (omega (arith, asks.1)) (omega (arith, other.1)) text
+
+no_grade_sample : (words : List (List ℕ)) (g : GradeWords) (n : ℕ) → AsksGrade words g → AsksSample words n → ⊥
+no_grade_sample words g n grade sample = let no : grade_words g ≡ sample_words n = sym grade.0 ∙ sample.0 in cc
+
+no_run_sample : (words : List (List ℕ)) (w : RunWords) (n : ℕ) → AsksRun words w → AsksSample words n → ⊥
+no_run_sample words w n run sample = let no : run_words w ≡ sample_words n = sym run.0 ∙ sample.0 in cc
+
+pub one_command : (words : List (List ℕ)) (c d : Command) → Asks words c → Asks words d → c ≡ d
+one_command words (Grade g) (Grade h) asks other = ap Grade (same_words words g h asks other)
+one_command words (Grade g) (Run w) asks other = absurd (not_both words g w asks other)
+one_command words (Grade g) (Sample n) asks other = absurd (no_grade_sample words g n asks other)
+one_command words (Grade g) Nothing asks other = absurd (other.no_grade g asks)
+one_command words (Run w) (Grade g) asks other = absurd (not_both words g w other asks)
+one_command words (Run w) (Run v) asks other = ap Run (same_run words w v asks other)
+one_command words (Run w) (Sample n) asks other = absurd (no_run_sample words w n asks other)
+one_command words (Run w) Nothing asks other = absurd (other.no_run w asks)
+one_command words (Sample n) (Grade g) asks other = absurd (no_grade_sample words g n other asks)
+one_command words (Sample n) (Run w) asks other = absurd (no_run_sample words w n other asks)
+one_command words (Sample m) (Sample n) asks other = ap Sample (same_sample words m n asks other)
+one_command words (Sample n) Nothing asks other = absurd (other.no_sample n asks)
+one_command words Nothing (Grade h) asks other = absurd (asks.no_grade h other)
+one_command words Nothing (Run w) asks other = absurd (asks.no_run w other)
+one_command words Nothing (Sample n) asks other = absurd (asks.no_sample n other)
+one_command words Nothing Nothing asks other = refl
+
+-- a command that was read is one
+pub asks_something : (c : code_command.Command) → command_of c ≡ Nothing → ⊥
+asks_something (code_command.TheVariants.Grade w) is = cc
+asks_something (code_command.TheVariants.Run w) is = cc
+asks_something (code_command.TheVariants.Sample n) is = cc
