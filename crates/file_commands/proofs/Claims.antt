@@ -1,6 +1,6 @@
 -- What follows from how a command ends.
 use Rattle.std.proofs.Common.{◌≡◌, ◌⊎◌, ℕ, List, [], ◌∷◌, refl, sym, ap, subst, ◌∙◌, inl, inr}
-use Rattle.grade_io.specs.Devices.{Devices, ShelfState, SinkState, Rose}
+use Rattle.grade_io.specs.Devices.{Devices, ShelfState, Rose}
 use Rattle.grade_io.specs.Written.{Wrote}
 use Rattle.grade_io.specs.declared.status.Status.{Status}
 use Rattle.grade_io.specs.declared.status.Status.TheVariants as status

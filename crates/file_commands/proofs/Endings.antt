@@ -1,19 +1,17 @@
 -- From what was found of a command and written to how the command ends.
-use Rattle.std.proofs.Common.{◌≡◌, ◌<◌, suc, sym, ap, subst, refl, inl, inr, Result, Ok, Err, IfOk, IfErr, IsErrAnd, List, [], ◌∷◌, ℕ, length, take, append-nil, None, Some}
+use Rattle.std.proofs.Common.{◌≡◌, ◌<◌, sym, ap, subst, refl, inl, inr, Result, Ok, Err, IfOk, IfErr, List, [], ℕ, length, append-nil, None, Some}
 use Rattle.std.specs.Prelude.{Option}
 use Rattle.grade_io.specs.Devices.{Devices, ShelfState, SinkState, added, devices}
 use Rattle.grade_io.specs.Says.{IsOfText, Says}
 use Rattle.grade_io.specs.declared.status.Status.{Status}
 use Rattle.grade_io.specs.declared.status.Status.TheVariants as status
-use Rattle.mpy_tree.specs.declared.refusal.Refusal.{Refusal}
-use Rattle.source_files.specs.Fetches.{CallsInOrder, FilesKept, IsLongSource, OnRefused, ReadFaults}
-use Rattle.source_files.specs.Files.{SourceFile}
+use Rattle.source_files.specs.Fetches.{CallsInOrder, FilesKept, OnRefused, ReadFaults}
 use Rattle.source_files.specs.Texts.{AllFit, AreHeld}
 use Rattle.source_files.specs.declared.stop.Stop.{Stop}
 use Rattle.source_files.specs.declared.stop.Stop.TheVariants as stop
 use Rattle.file_commands.specs.Commands.{FileCommand, Outcome, Answered, Refused, status_of, text_of}
 use Rattle.file_commands.specs.Ends.{ComesOfFiles, Ends, EndsInSilence, ReadWell}
-use Rattle.file_commands.specs.Reports.{IsFound, IsReport, IsWritten, ReportsFiles, Shows}
+use Rattle.file_commands.specs.Reports.{IsFound, IsWritten, ReportsFiles, Shows}
 use Rattle.file_commands.specs.declared.report.Report.{Report}
 
 -- STATUSES OF ANSWERS
@@ -45,42 +43,14 @@ files_of_text c before after (Err s) own is = tt
 
 -- WHAT IS FOUND OF THE FETCHED TEXTS COMES OF THE FILES
 
--- as many texts as files
-pub as_many : (shelf : ShelfState) (fs : List SourceFile) (ts : List (List ℕ)) → AreHeld shelf fs ts → length ts ≡ length fs
-as_many shelf [] [] held = refl
-as_many shelf [] (t ∷ ts) held = absurd held
-as_many shelf (f ∷ fs) [] held = absurd held
-as_many shelf (f ∷ fs) (t ∷ ts) held = ap suc (as_many shelf fs ts held.1)
-
-module _ {A : Type 0} (c : FileCommand A) (before after : ShelfState) where
-  pub found_files : (ts : List (List ℕ)) (found : Result Report Stop) → AllFit ts → AreHeld before c.files ts → IsFound c ts found → IfOk found (ReportsFiles c before after)
-  found_files ts (Ok r) fit held is = record {
-    answer = is.answer;
-    comes = record { texts = ts; held = held; comes = (fit, is.decided) };
-    shows = is.shows;
-  }
-  found_files ts (Err s) fit held is = tt
-
-  pub refused_files : (ts : List (List ℕ)) (found : Result Report Stop) → AllFit ts → AreHeld before c.files ts → IsFound c ts found
-      → IfErr found (OnRefused (λ r. ComesOfFiles c before after (Refused r)))
-  refused_files ts (Ok r) fit held is = tt
-  refused_files ts (Err (stop.Refused q)) fit held is = record { texts = ts; held = held; comes = inr (fit, is) }
-  refused_files ts (Err stop.Failed) fit held is = tt
-  refused_files ts (Err stop.NoMemory) fit held is = tt
-
-  pub found_faults : (ts : List (List ℕ)) (found : Result Report Stop) → IsFound c ts found → after.faults ≡ before.faults → ReadFaults found before after
-  found_faults ts (Ok r) is still = still
-  found_faults ts (Err (stop.Refused q)) is still = still
-  found_faults ts (Err stop.Failed) is still = absurd is
-  found_faults ts (Err stop.NoMemory) is still = still
-
-  -- a fetch stops at a file that is too long
-  pub long_stops : {T : Type 0} (s : Stop) (found : Result T Stop) → IsErrAnd found (λ t. t ≡ s) → OnRefused (IsLongSource c.files before after) s
-      → IfErr found (OnRefused (λ r. ComesOfFiles c before after (Refused r)))
-  long_stops s (Ok x) is long = tt
-  long_stops (stop.Refused q) (Err t) is long = rw is (record { texts = long.texts; held = long.held; comes = inl (long.long, long.taken) })
-  long_stops stop.Failed (Err t) is long = rw is tt
-  long_stops stop.NoMemory (Err t) is long = rw is tt
+pub found_files : {A : Type 0} (c : FileCommand A) (before after : ShelfState) (ts : List (List ℕ)) (found : Result Report Stop) → AllFit ts → AreHeld before c.files ts
+    → IsFound c ts found → IfOk found (ReportsFiles c before after)
+found_files c before after ts (Ok r) fit held is = record {
+  answer = is.answer;
+  comes = record { texts = ts; held = held; comes = (fit, is.decided) };
+  shows = is.shows;
+}
+found_files c before after ts (Err s) fit held is = tt
 
 -- HOW THE CALL ENDS
 
