@@ -20,7 +20,6 @@ use Rattle.grade_core.specs.Commands.{status_of}
 use Rattle.grade_core.specs.Decisions.{graded_step}
 use Rattle.grade_core.proofs.GradeClaims.{graded_as}
 use Rattle.grade_core.proofs.OneGrading.{one_graded_step}
-use Rattle.grade_top.specs.Claims.{IsUsage}
 use Rattle.grade_top.specs.Commands.{AnswerOf, file_command, files_of, line_of, run_command, run_files, sample_command, usage_command}
 use Rattle.grade_top.specs.Decisions.{run_step, sample_texts}
 use Rattle.grade_top.specs.Reports.{run_text, usage_text}
@@ -48,11 +47,6 @@ no_usage c before after s some ends is = claim.never_usage (file_command c) befo
 pub usage_ends : (shelf : ShelfState) (before after : SinkState) (s : Status) → Says usage_text status.Usage before after s → Ends usage_command (devices shelf before) (devices shelf after) s
 usage_ends shelf before after s says =
     said usage_command (λ a. tt) (devices shelf before) (devices shelf after) (Answered tt) s refl (record { texts = []; held = tt; comes = (tt, tt) }) says refl
-
-pub usage_said : (before after : SinkState) (s : Status) → Says usage_text status.Usage before after s → IsUsage s
-usage_said before after status.WriteFailed says = tt
-usage_said before after status.NoMemory says = tt
-usage_said before after s says = subst IsUsage (sym says.0) tt
 
 -- ANSWERS
 

@@ -1,10 +1,11 @@
--- the words ask for the command that was read
+-- the words ask for the command that was read, or for nothing
 use Rattle.grade_top.specs.Requests.{command_of}
 use Rattle.grade_top.specs.Words.{Grade, Nothing, Run, Sample}
+use Rattle.grade_io.specs.Devices.{devices}
 use Rattle.file_commands.proofs.Claims.{read_failed}
 use Rattle.grade_core.proofs.GradeClaims.{graded}
 use Rattle.grade_top.specs.Commands.{file_command}
-use Rattle.grade_top.proofs.Claims.{no_usage, ran, refused, sampled}
+use Rattle.grade_top.proofs.Claims.{no_usage, ran, refused, sampled, usage_ends}
 use Rattle.grade_top.proofs.OneCommand.{asks_something, one_command}
 use Rattle.grade_top.proofs.grade_top.Goals as goal
 
@@ -44,3 +45,13 @@ returns-in-Some-clause-ran g c = λ words ts o asks told given sure.
 pub returns-in-Some-clause-refused : goal.returns-in-Some-clause-refused
 returns-in-Some-clause-refused g c = λ d ts r asks tells first sure.
     refused d ts r _ _ c.answer.result (rw (one_command _ (command_of c.in-Some.command) d (rw c.deref.ensures.value at c.in-Some.ensures.found) asks) at c.answer.ensures.ends) tells first sure
+
+pub returns-in-None-clause-ends : goal.returns-in-None-clause-ends
+returns-in-None-clause-ends g c = λ d asks. rw (one_command _ d Nothing asks (rw c.deref.ensures.value at c.in-None.ensures.none))
+    (usage_ends (g.S.Shelf.seen c.args.shelf.now) (g.K.Sink.seen c.args.out.now) (g.K.Sink.seen c.usage.new.out) c.usage.result c.usage.ensures)
+
+pub returns-in-None-clause-refused : goal.returns-in-None-clause-refused
+returns-in-None-clause-refused g c = λ d ts r asks tells first sure.
+    refused d ts r (devices (g.S.Shelf.seen c.args.shelf.now) (g.K.Sink.seen c.args.out.now)) (devices (g.S.Shelf.seen c.args.shelf.now) (g.K.Sink.seen c.usage.new.out)) c.usage.result
+    (rw (one_command _ d Nothing asks (rw c.deref.ensures.value at c.in-None.ensures.none))
+    (usage_ends (g.S.Shelf.seen c.args.shelf.now) (g.K.Sink.seen c.args.out.now) (g.K.Sink.seen c.usage.new.out) c.usage.result c.usage.ensures)) tells first sure

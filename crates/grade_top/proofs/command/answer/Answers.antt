@@ -5,6 +5,18 @@ use Rattle.grade_top.proofs.command.answer.Goals as goal
 pub grade-requires : goal.grade-requires
 grade-requires g c = (rw c.in-Grade.is at c.requires.asks).1
 
+pub returns-in-Grade-clause-ends : goal.returns-in-Grade-clause-ends
+returns-in-Grade-clause-ends g c = rw c.in-Grade.is c.grade.ensures.ends
+
+pub returns-in-Grade-clause-calls : goal.returns-in-Grade-clause-calls
+returns-in-Grade-clause-calls g c = rw c.in-Grade.is c.grade.ensures.calls
+
+pub returns-in-Run-clause-ends : goal.returns-in-Run-clause-ends
+returns-in-Run-clause-ends g c = rw c.in-Run.is c.run_command.ensures.ends
+
+pub returns-in-Run-clause-calls : goal.returns-in-Run-clause-calls
+returns-in-Run-clause-calls g c = rw c.in-Run.is c.run_command.ensures.calls
+
 pub returns-in-Sample-clause-ends : goal.returns-in-Sample-clause-ends
 returns-in-Sample-clause-ends g c = rw c.in-Sample.is (c.sample_command.ensures (g.S.Shelf.seen c.args.shelf.now))
 
