@@ -1,5 +1,5 @@
 -- From what a search finds to the answer to a task.
-use Rattle.std.proofs.Common.{◌≡◌, ℕ, zero, suc, ◌+◌, ◌<◌, ◌≤◌, Bool, true, false, List, [], ◌∷◌, Option, None, Some, All, length, map, slice_get, refl, sym, ap, subst, ◌∙◌, arith, inl, inr}
+use Rattle.std.proofs.Common.{◌≡◌, ℕ, ◌≤◌, true, List, [], ◌∷◌, Option, None, Some, All, map, refl, sym, ap, subst, arith, inl, inr}
 use Rattle.std.specs.List.{Contains}
 use Rattle.std.specs.Option.{is_some}
 use Rattle.std.proofs.lemmas.Bool.{cases_lt}
@@ -8,7 +8,6 @@ use Rattle.mpy_tree.specs.declared.outcome.Outcome.TheVariants as outcome
 use Rattle.mpy_tree.specs.declared.value.Value.{Value}
 use Rattle.mpy_tree.specs.Shapes.{program_shape}
 use Rattle.mpy_tree.specs.Syntax.{Routine}
-use Rattle.mpy_tree.specs.Trees.{Tree}
 use Rattle.choice_tree.specs.declared.selection.Choice.{Choice}
 use Rattle.choice_tree.specs.Choices.{member_of}
 use Rattle.choice_tree.specs.Contexts.{elsewhere, outermost}
@@ -19,7 +18,7 @@ use Rattle.choice_tree.proofs.SelectionLaws.{made_by_selections}
 use Rattle.eml_faults.specs.FaultLaws.{IsSmall}
 use Rattle.eml_faults.proofs.Faultless.{primes_kept, small_kept}
 use Rattle.input_space.specs.declared.case.Case.{Case}
-use Rattle.input_space.specs.Agreement.{Agrees, EndsSomewhere, IsInput, ends_on}
+use Rattle.input_space.specs.Agreement.{Agrees, IsInput, ends_on}
 use Rattle.input_space.specs.Inputs.{inputs}
 use Rattle.input_space.specs.Tasks.{HasWanted, IsBestOf, IsSound, NoneAgrees, Rewrites, Task, setting, tree_of}
 use Rattle.cegis_loop.specs.Answers.{IsLeast, NoneBelow}
@@ -28,8 +27,7 @@ use Rattle.list_questions.specs.TaskSpace.{Meets, SelectionMeets, case_of, is_wa
 use Rattle.list_questions.proofs.Chosen.{all_if_contained, contained_if, contained_map, contained_was, first_contained, map_contains}
 use Rattle.list_questions.proofs.SelectionLaws.{all_meet, all_selection_meet}
 use Rattle.list_questions.proofs.TableLaws.{end_wanted, wanted_end, was_wanted}
-use Rattle.feedback_text.specs.Answers.{Edit, edit_tree}
-use Rattle.feedback_text.specs.AnswerViews.{Makes}
+use Rattle.feedback_text.specs.Answers.{edit_tree}
 use Rattle.grade_core.specs.Runs.{IsBestSelection, SomeFails}
 use Rattle.grade_core.proofs.FreeRewritings.{free_is_whole, kept_whole}
 

@@ -1,8 +1,7 @@
 -- The first kept case on which a submission fails.
-use Rattle.std.proofs.Common.{◌≡◌, ◌≢◌, ℕ, ◌<◌, List, Some, All, map, slice_get, refl, sym, ap, subst, ◌∙◌}
+use Rattle.std.proofs.Common.{◌≡◌, ℕ, ◌<◌, List, Some, All, slice_get, sym, ap, subst, ◌∙◌}
 use Rattle.std.specs.List.{Contains}
 use Rattle.std.proofs.lemmas.List.Elements.{All-contains}
-use Rattle.mpy_tree.specs.declared.outcome.Outcome.TheVariants as outcome
 use Rattle.input_space.specs.declared.case.Case.{Case}
 use Rattle.input_space.specs.Agreement.{IsInput, ends_on}
 use Rattle.input_space.specs.Tasks.{IsFailureOf, Task}

@@ -1,5 +1,5 @@
 -- What follows from how `grade` ends.
-use Rattle.std.proofs.Common.{◌≡◌, ℕ, List, refl, sym, subst, ◌∙◌}
+use Rattle.std.proofs.Common.{◌≡◌, ℕ, List, sym, subst, ◌∙◌}
 use Rattle.grade_io.specs.Devices.{Devices}
 use Rattle.grade_io.specs.declared.status.Status.{Status}
 use Rattle.grade_io.specs.declared.status.Status.TheVariants as status

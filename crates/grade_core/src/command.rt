@@ -62,11 +62,7 @@ fn fetch<S: Shelf>(
 }
 
 // What is written of what the texts decide.
-fn report_texts(
-    alloc: Global,
-    words: &GradeWords<'_>,
-    texts: &[Vec<u8>],
-) -> Result<Report, Stop>
+fn report_texts(alloc: Global, words: &GradeWords<'_>, texts: &[Vec<u8>]) -> Result<Report, Stop>
     requires four { length texts.now ≡ 4 }
     requires fit { AllFit (texts_of texts.now) }
     ensures { IsFound (grade_command (grade_of words.now)) (texts_of texts.now) result }

@@ -1,5 +1,5 @@
 -- What follows from how a command ends.
-use Rattle.std.proofs.Common.{◌≡◌, ℕ, List, [], refl, sym, ap, subst}
+use Rattle.std.proofs.Common.{◌≡◌, ℕ, List, [], refl, subst}
 use Rattle.grade_io.specs.Devices.{Devices, ShelfState, SinkState, devices}
 use Rattle.grade_io.specs.Says.{Says}
 use Rattle.grade_io.specs.Written.{Wrote}

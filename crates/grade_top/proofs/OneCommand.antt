@@ -1,5 +1,5 @@
 -- Words ask for one command.
-use Rattle.std.proofs.Common.{◌≡◌, sym, ap, ◌∙◌, arith, refl, List, [], ◌∷◌, ℕ}
+use Rattle.std.proofs.Common.{◌≡◌, sym, ap, ◌∙◌, arith, refl, List, ℕ}
 use Rattle.std.specs.Fmt.{decimal}
 use Rattle.std.proofs.lemmas.Fmt.{decimal_injective}
 use Rattle.grade_core.specs.Words.{GradeWords}

@@ -6,7 +6,6 @@ use Rattle.mpy_tree.specs.declared.refusal.Source.TheVariants as source
 use Rattle.mpy_tree.specs.declared.value.Value.{Value}
 use Rattle.mpy_tree.specs.Fitting.{type_of}
 use Rattle.mpy_tree.specs.Outcomes.{run_outcome}
-use Rattle.bounds_reader.specs.declared.bounds.Bounds.{Bounds}
 use Rattle.bounds_reader.specs.declared.params.Param.{Param}
 use Rattle.input_space.specs.Cases.{SpellsCase}
 use Rattle.input_space.specs.Inputs.{param_type, is_within}

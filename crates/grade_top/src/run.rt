@@ -34,11 +34,7 @@ fn file(source: Source, word: &str) -> File<'_>
 }
 
 /// The texts of the bounds and of the program.
-fn fetch<S: Shelf>(
-    alloc: Global,
-    words: &RunWords<'_>,
-    shelf: &mut S,
-) -> Result<Vec<Vec<u8>>, Stop>
+fn fetch<S: Shelf>(alloc: Global, words: &RunWords<'_>, shelf: &mut S) -> Result<Vec<Vec<u8>>, Stop>
     ensures fit { IfOk result (λ v. AllFit (texts_of v.items)) }
     ensures held { IfOk result (λ v. AreHeld (S.seen shelf.old) (run_files (run_of words.now))
         (texts_of v.items)) }
@@ -98,11 +94,7 @@ fn report_texts(alloc: Global, words: &RunWords<'_>, texts: &[Vec<u8>]) -> Resul
 }
 
 /// Fetches the files, and runs the program.
-fn find_report<S: Shelf>(
-    alloc: Global,
-    words: &RunWords<'_>,
-    shelf: &mut S,
-) -> Result<Report, Stop>
+fn find_report<S: Shelf>(alloc: Global, words: &RunWords<'_>, shelf: &mut S) -> Result<Report, Stop>
     ensures found { IfOk result (ReportsFiles (command_run (run_of words.now))
         (S.seen shelf.old) (S.seen shelf.new)) }
     ensures refused { IfErr result (OnRefused (λ r. ComesOfFiles (command_run (run_of words.now))

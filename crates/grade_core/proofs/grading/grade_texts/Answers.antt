@@ -1,10 +1,6 @@
 -- the answer is right, or the reference gives no value
-use Rattle.std.proofs.Common.{◌≡◌, ap, sym, subst}
-use Rattle.mpy_tree.specs.View.{routines_of}
-use Rattle.bounds_reader.specs.declared.bounds.Bounds.{Bounds}
 use Rattle.input_space.specs.TaskParts.{task_with}
 use Rattle.source_files.specs.Views.{texts_of}
-use Rattle.grade_core.specs.Runs.{IsRight}
 use Rattle.grade_core.proofs.DecidingLaws.{empty_reference, given_reported, given_wanted, graded_given, stands_right}
 use Rattle.grade_core.proofs.grading.grade_texts.Goals as goal
 

@@ -1,10 +1,9 @@
 -- the questions are those of the task
-use Rattle.std.proofs.Common.{◌≡◌, ◌∙◌, List, None, ap, subst, sym}
-use Rattle.input_space.specs.declared.case.Case.{Case}
+use Rattle.std.proofs.Common.{◌≡◌, None, ap, subst}
 use Rattle.input_space.specs.TaskParts.{task_with}
 use Rattle.input_space.specs.Tasks.{Task}
 use Rattle.cegis_loop.specs.Answers.{IsAnswer}
-use Rattle.list_questions.specs.Asking.{Asking, task_of}
+use Rattle.list_questions.specs.Asking.{task_of}
 use Rattle.list_questions.specs.TaskSpace.{space}
 use Rattle.grade_core.proofs.run.search.Goals as goal
 

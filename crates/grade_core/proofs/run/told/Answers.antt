@@ -1,7 +1,6 @@
 -- what the search found, as the answer to the task
-use Rattle.std.proofs.Common.{◌≡◌, ◌<◌, ℕ, arith, refl, subst}
-use Rattle.choice_tree.specs.declared.selection.Choice.{Choice}
-use Rattle.cegis_loop.specs.Answers.{IsLeast, Means}
+use Rattle.std.proofs.Common.{arith, refl, subst}
+use Rattle.cegis_loop.specs.Answers.{IsLeast}
 use Rattle.input_space.specs.TaskParts.{task_with}
 use Rattle.list_questions.specs.TaskSpace.{space, wanted_inputs}
 use Rattle.grade_core.proofs.AnswerLaws.{best_selection, none_agree, none_wanted, some_fails, some_wanted, submission_best}

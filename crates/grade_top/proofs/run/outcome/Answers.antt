@@ -1,5 +1,4 @@
 -- each step that stops is the first
-use Rattle.std.proofs.Common.{◌≡◌, ◌≢◌, length, map, arith}
 use Rattle.std.specs.String.{string_bytes}
 use Rattle.std.proofs.lemmas.List.{length-map}
 use Rattle.source_files.specs.Views.{texts_of}

@@ -1,5 +1,5 @@
 -- what was found is written
-use Rattle.std.proofs.Common.{◌<◌, length, arith}
+use Rattle.std.proofs.Common.{arith}
 use Rattle.grade_io.specs.Devices.{devices}
 use Rattle.file_commands.proofs.Endings.{ends_fetched, files_of_text}
 use Rattle.grade_top.specs.Commands.{run_command}

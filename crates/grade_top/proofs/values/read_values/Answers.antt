@@ -1,5 +1,5 @@
 -- a value more, one that is refused, and the end
-use Rattle.std.proofs.Common.{map, arith, refl, ◌≡◌, ◌∷◌, ◌+◌, drop}
+use Rattle.std.proofs.Common.{map, arith}
 use Rattle.std.specs.String.{string_bytes}
 use Rattle.file_commands.proofs.Stopping.{stopped}
 use Rattle.grade_top.proofs.ReadingLaws.{all_read, item_at, mapped_at, read_on, value_refused}
