@@ -1,0 +1,4 @@
+pub mod Sequences
+pub mod Operations
+pub mod Parts
+pub mod Typed

@@ -1,0 +1,75 @@
+//! Lists of given numbers.
+
+ghost use Rattle.std.specs.Prelude.{◌≡◌, ◌≤◌, ◌<◌, ℕ, Bool, List, [], length, map, take, nat_le};
+ghost use Rattle.std.specs.Prelude.{if◌then◌else◌, IfOk};
+ghost use Rattle.mpy_tree.specs.Expressions.{list_of};
+ghost use Rattle.bit_lists.specs.Lists.{AreWordsIn};
+ghost use Rattle.sym_values.specs.Forms.{form_for};
+ghost use Rattle.sym_values.specs.Operations.{number_read};
+ghost use Rattle.sym_values.specs.Reading.{OutcomeReads};
+ghost use Rattle.sym_values.specs.Results.{IsOutcomeIn};
+
+use bit_lists::lengths::{constant_length, count_of};
+use bit_words::NoMemory;
+use bit_words::bitwise::zeros;
+use bit_words::logic::Logic;
+use bit_words::words::Words;
+use mpy_tree::{Limits, Ty};
+use std::alloc::Global;
+use sym_values::{SymOutcome, SymValue};
+
+/// The words, and behind them zeros up to a count.
+pub fn padded<L: Logic>(
+    alloc: Global,
+    g: &L,
+    words: Words<L::Bit>,
+    width: usize,
+    count: usize,
+) -> Result<Words<L::Bit>, NoMemory>
+    requires within { length words ≤ count }
+    requires words { AreWordsIn L.owns g.now width words }
+    ensures made { IfOk result (λ r. AreWordsIn L.owns g.now width r) }
+    ensures many { IfOk result (λ r. length r ≡ count) }
+    ensures front { IfOk result (λ r. take (length words) r ≡ words) }
+{
+    let mut padded = words;
+    for _ in padded.len()..count {
+        let nothing = zeros(alloc, g, width)?;
+        padded.push(nothing)?;
+    }
+    Ok(padded)
+}
+
+/// The words, or none of them where there are more than a count.
+fn all_or_none<B: Copy>(alloc: Global, words: &Words<B>, count: usize) -> Result<Words<B>, NoMemory>
+    ensures { IfOk result (λ r. r ≡ (if nat_le (length words.now) count then words.now else [])) }
+{
+    if words.len() <= count {
+        words.copy()
+    } else {
+        Ok(Words::new(alloc))
+    }
+}
+
+/// The list of these numbers, or Length.
+pub fn list_literal<L: Logic>(
+    alloc: Global,
+    g: &L,
+    limits: &Limits,
+    numbers: &Words<L::Bit>,
+) -> Result<SymOutcome<L::Bit>, NoMemory>
+    requires { AreWordsIn L.owns g.now limits.now.width numbers.now }
+    ensures made { IfOk result (λ r. IsOutcomeIn L.owns g.now (form_for limits.now Ty.List) r) }
+    ensures value { IfOk result (λ r. (vs : List Bool) → OutcomeReads (L.reads g.now vs) r
+        (list_of limits.now (map (number_read L.reads g.now vs) numbers.now))) }
+{
+    let cap = limits.cap as usize;
+    let words = all_or_none(alloc, numbers, cap)?;
+    let len = constant_length(alloc, g, count_of(&words))?;
+    let items = padded(alloc, g, words, limits.width as usize, cap)?;
+    let fault = g.constant(numbers.len() > cap);
+    Ok(SymOutcome {
+        value: SymValue::List { len, items },
+        fault,
+    })
+}
