@@ -75,7 +75,7 @@ reads_like f (sym_value.Text m xs) len items h l =
 abbrev pub held : {B : Type 0} → Limits → SymValue B → List (List Bool) → Result Value Halt
 held l x ws = cond (nat_le (length ws) l.cap) (Ok (value_of_kind x ws)) (Err (Fault kind.Length))
 
-chosen : (b fault : Bool) (r : Reading) (v : Value) (h : Halt) → fault ≡ not b → (b ≡ true → r ≡ sure v) → IsOutcome fault r (cond b (Ok v) (Err h))
+pub chosen : (b fault : Bool) (r : Reading) (v : Value) (h : Halt) → fault ≡ not b → (b ≡ true → r ≡ sure v) → IsOutcome fault r (cond b (Ok v) (Err h))
 chosen true fault r v h e k = (e, k refl)
 chosen false fault r v h e k = e
 

@@ -12,7 +12,7 @@ use Rattle.mpy_tree.specs.declared.outcome.FaultKind.TheVariants as kind
 use Rattle.mpy_tree.specs.declared.outcome.Halt.{Halt}
 use Rattle.mpy_tree.specs.declared.outcome.Halt.TheVariants.{Fault}
 use Rattle.mpy_tree.specs.Expressions.{list_of, wholes}
-use Rattle.mpy_tree.specs.Operations.{is_zero, list_within, progression, range, range_count}
+use Rattle.mpy_tree.specs.Operations.{is_zero, list_within, progression, range, range_count, text_within}
 use Rattle.mpy_tree.specs.Values.{◌>>=◌}
 use Rattle.bit_words.specs.Words.{int_of, nat_of}
 use Rattle.bit_lists.specs.Lists.{AreWordsIn}
@@ -20,7 +20,7 @@ use Rattle.bit_lists.specs.Ranges.{RangeIs}
 use Rattle.bit_lists.proofs.Held.{no_words}
 use Rattle.sym_values.specs.declared.value.SymValue.TheVariants as sym_value
 use Rattle.sym_values.specs.Reading.{IsOutcome, read, Reading, sure}
-use Rattle.list_values.proofs.Meanings.{held_is, list_held, reads_like}
+use Rattle.list_values.proofs.Meanings.{chosen, held_is, list_held, reads_like}
 
 -- the words of a literal, or none of them
 few_by : {B : Type 0} (b : Bool) (ws ns : List (List B)) (cap : ℕ) → ws ≡ cond b ns [] → (b ≡ true → length ns ≤ cap) → length ws ≤ cap
@@ -84,3 +84,7 @@ range_gives f l a b c still over fault len items e h fine is =
 -- a list whose bits read as before
 pub list_reads : {B : Type 0} (f f' : B → Bool) (len : List B) (items : List (List B)) → map f' len ≡ map f len → map (map f') items ≡ map (map f) items → read f' (sym_value.List len items) ≡ read f (sym_value.List len items)
 list_reads f f' len items e h = rw (e, h) refl
+
+-- a text that is given, or Length
+pub text_literal_is : (l : Limits) (cs : List ℕ) (fault : Bool) (r : Reading) → fault ≡ nat_lt l.cap (length cs) → (nat_le (length cs) l.cap ≡ true → r ≡ sure (val.Text cs)) → IsOutcome fault r (text_within l cs)
+text_literal_is l cs fault r e h = chosen (nat_le (length cs) l.cap) fault r (val.Text cs) (Fault kind.Length) (e ∙ past (length cs) l.cap) h

@@ -90,6 +90,28 @@ first_number l len items e =
     let range = l.cap_range in
     alike_first l.cap l.width items widths (omega arith)
 
+-- their items have some bits
+pub list_wide : {B : Type 0} (l : Limits) (x : SymValue B) → form_of x ≡ form_for l ty.List
+    → 0 < item_width (items_of x)
+list_wide l (sym_value.Int word) e = absurd cc
+list_wide l (sym_value.Bool bit) e = absurd cc
+list_wide l (sym_value.List len items) e =
+    let range = l.width_range in
+    let first = first_number l len items e in
+    omega arith
+list_wide l (sym_value.Text len items) e = absurd cc
+
+pub text_wide : {B : Type 0} (l : Limits) (x : SymValue B) → form_of x ≡ form_for l ty.Text
+    → 0 < item_width (items_of x)
+text_wide l (sym_value.Int word) e = absurd cc
+text_wide l (sym_value.Bool bit) e = absurd cc
+text_wide l (sym_value.List len items) e = absurd cc
+text_wide l (sym_value.Text len items) e =
+    let widths : lengths items ≡ replicate l.cap 7 = cc in
+    let range = l.cap_range in
+    let first = alike_first l.cap 7 items widths (omega arith) in
+    omega arith
+
 -- numbers and texts may be in lists and texts
 pub number_for_list : {B : Type 0} (l : Limits) (x : SymValue B) (word : List B)
     → form_of x ≡ form_for l ty.List → length word ≡ l.width → IsWordFor word x
