@@ -1,5 +1,5 @@
 //! How large a program may be, and the first line on which one is larger.
-ghost use Rattle.std.specs.Prelude.{◌≡◌, ◌<◌, ◌++◌, ◌∷◌, IfNone, IfSome, drop, length, map};
+ghost use Rattle.std.specs.Prelude.{◌≡◌, ◌<◌, ◌≤◌, ◌++◌, ◌∷◌, IfNone, IfSome, drop, length, map};
 ghost use Rattle.std.specs.Prelude.{nat_lt, take};
 ghost use Rattle.std.specs.List.{flat_map, list_any};
 ghost use Rattle.mpy_tree.specs.Leasts.{lesser, least};
@@ -396,6 +396,7 @@ fn functions_limit(found: Option<u32>, funcs: &[Func]) -> Option<u32>
 /// more than a program may have.
 pub fn statements_count(program: &Prog) -> Option<u32>
     ensures found { IfSome result (λ n. n ≡ length (all_statements (routines_of program.now))) }
+    ensures few { IfSome result (λ n. n ≤ 200) }
     ensures none { IfNone result (200 < length (all_statements (routines_of program.now))) }
 {
     match statement_of_functions(program.funcs.items.as_slice(), MAX_STATEMENTS) {

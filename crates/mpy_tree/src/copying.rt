@@ -1,6 +1,6 @@
 //! Copies of trees.
 
-ghost use Rattle.std.specs.Prelude.{◌≡◌, IfOk, map};
+ghost use Rattle.std.specs.Prelude.{◌≡◌, IfOk, Ok, map};
 ghost use Rattle.mpy_tree.specs.View.{block_or_none, term_of, end_by, terms_of, maybe_term};
 ghost use Rattle.mpy_tree.specs.View.{block_of, action_of, branches_of, branch_of, statement_of};
 ghost use Rattle.mpy_tree.specs.View.{routine_of, routines_of};
@@ -8,6 +8,17 @@ ghost use Rattle.mpy_tree.specs.View.{routine_of, routines_of};
 use crate::NoMemory;
 use crate::tree::{Act, Arm, Arms, Expr, Exprs, Func, Funcs, Prog, Stmt, Stmts};
 use std::alloc::Global;
+
+// Both, where both were made. What was made of a tree is dropped here, as a value of any type,
+// since a walk through the drop of a tree goes through all of its kinds.
+fn both<A: Drop, B: Drop>(
+    a: Result<A, NoMemory>,
+    b: Result<B, NoMemory>,
+) -> Result<(A, B), NoMemory>
+    ensures { IfOk result (λ r. (a ≡ Ok r.0) × (b ≡ Ok r.1)) }
+{
+    Ok((a?, b?))
+}
 
 /// An equal expression.
 #[cycle(copy_expr)]
@@ -22,21 +33,36 @@ pub fn copy_expr(alloc: Global, e: &Expr) -> Result<Expr, NoMemory>
         Expr::List(es) => Ok(Expr::List(copy_exprs(alloc, es)?)),
         Expr::Neg(a) => Ok(Expr::Neg(copy_boxed(alloc, a)?)),
         Expr::Not(a) => Ok(Expr::Not(copy_boxed(alloc, a)?)),
-        Expr::Arith(op, a, b) => Ok(Expr::Arith(*op, copy_boxed(alloc, a)?, copy_boxed(alloc, b)?)),
-        Expr::Cmp(op, a, b) => Ok(Expr::Cmp(*op, copy_boxed(alloc, a)?, copy_boxed(alloc, b)?)),
-        Expr::And(a, b) => Ok(Expr::And(copy_boxed(alloc, a)?, copy_boxed(alloc, b)?)),
-        Expr::Or(a, b) => Ok(Expr::Or(copy_boxed(alloc, a)?, copy_boxed(alloc, b)?)),
-        Expr::Cond { test, yes, no } => Ok(Expr::Cond {
-            test: copy_boxed(alloc, test)?,
-            yes: copy_boxed(alloc, yes)?,
-            no: copy_boxed(alloc, no)?,
-        }),
-        Expr::Index(a, b) => Ok(Expr::Index(copy_boxed(alloc, a)?, copy_boxed(alloc, b)?)),
-        Expr::Slice(a, from, to) => Ok(Expr::Slice(
-            copy_boxed(alloc, a)?,
-            copy_end(alloc, from)?,
-            copy_end(alloc, to)?,
-        )),
+        Expr::Arith(op, a, b) => {
+            let (a, b) = both(copy_boxed(alloc, a), copy_boxed(alloc, b))?;
+            Ok(Expr::Arith(*op, a, b))
+        }
+        Expr::Cmp(op, a, b) => {
+            let (a, b) = both(copy_boxed(alloc, a), copy_boxed(alloc, b))?;
+            Ok(Expr::Cmp(*op, a, b))
+        }
+        Expr::And(a, b) => {
+            let (a, b) = both(copy_boxed(alloc, a), copy_boxed(alloc, b))?;
+            Ok(Expr::And(a, b))
+        }
+        Expr::Or(a, b) => {
+            let (a, b) = both(copy_boxed(alloc, a), copy_boxed(alloc, b))?;
+            Ok(Expr::Or(a, b))
+        }
+        Expr::Cond { test, yes, no } => {
+            let arms = both(copy_boxed(alloc, yes), copy_boxed(alloc, no));
+            let (test, (yes, no)) = both(copy_boxed(alloc, test), arms)?;
+            Ok(Expr::Cond { test, yes, no })
+        }
+        Expr::Index(a, b) => {
+            let (a, b) = both(copy_boxed(alloc, a), copy_boxed(alloc, b))?;
+            Ok(Expr::Index(a, b))
+        }
+        Expr::Slice(a, from, to) => {
+            let ends = both(copy_end(alloc, from), copy_end(alloc, to));
+            let (a, (from, to)) = both(copy_boxed(alloc, a), ends)?;
+            Ok(Expr::Slice(a, from, to))
+        }
         Expr::Call(f, es) => Ok(Expr::Call(f.copy()?, copy_exprs(alloc, es)?)),
     }
 }
@@ -133,8 +159,7 @@ fn copy_arms(alloc: Global, arms: &Arms) -> Result<Arms, NoMemory>
 fn copy_arm(alloc: Global, arm: &Arm) -> Result<Arm, NoMemory>
     ensures { IfOk result (λ r. branch_of r ≡ branch_of arm.now) }
 {
-    let test = copy_expr(alloc, &arm.test)?;
-    let body = copy_stmts(alloc, &arm.body)?;
+    let (test, body) = both(copy_expr(alloc, &arm.test), copy_stmts(alloc, &arm.body))?;
     Ok(Arm {
         line: arm.line,
         test,
@@ -150,18 +175,34 @@ fn copy_act(alloc: Global, act: &Act) -> Result<Act, NoMemory>
     match act {
         Act::Assign(x, e) => Ok(Act::Assign(x.copy()?, copy_expr(alloc, e)?)),
         Act::Augment(x, op, e) => Ok(Act::Augment(x.copy()?, *op, copy_expr(alloc, e)?)),
-        Act::Put(x, i, e) => Ok(Act::Put(x.copy()?, copy_expr(alloc, i)?, copy_expr(alloc, e)?)),
+        Act::Put(x, i, e) => {
+            let x = x.copy()?;
+            let (i, e) = both(copy_expr(alloc, i), copy_expr(alloc, e))?;
+            Ok(Act::Put(x, i, e))
+        }
         Act::AugmentAt(x, i, op, e) => {
-            Ok(Act::AugmentAt(x.copy()?, copy_expr(alloc, i)?, *op, copy_expr(alloc, e)?))
+            let x = x.copy()?;
+            let (i, e) = both(copy_expr(alloc, i), copy_expr(alloc, e))?;
+            Ok(Act::AugmentAt(x, i, *op, e))
         }
         Act::Append(x, e) => Ok(Act::Append(x.copy()?, copy_expr(alloc, e)?)),
         Act::Return(e) => Ok(Act::Return(copy_maybe(alloc, e)?)),
         Act::Pass => Ok(Act::Pass),
         Act::Break => Ok(Act::Break),
         Act::Continue => Ok(Act::Continue),
-        Act::If(arms, last) => Ok(Act::If(copy_arms(alloc, arms)?, copy_else(alloc, last)?)),
-        Act::While(e, b) => Ok(Act::While(copy_expr(alloc, e)?, copy_stmts(alloc, b)?)),
-        Act::For(x, e, b) => Ok(Act::For(x.copy()?, copy_expr(alloc, e)?, copy_stmts(alloc, b)?)),
+        Act::If(arms, last) => {
+            let (arms, last) = both(copy_arms(alloc, arms), copy_else(alloc, last))?;
+            Ok(Act::If(arms, last))
+        }
+        Act::While(e, b) => {
+            let (e, b) = both(copy_expr(alloc, e), copy_stmts(alloc, b))?;
+            Ok(Act::While(e, b))
+        }
+        Act::For(x, e, b) => {
+            let x = x.copy()?;
+            let (e, b) = both(copy_expr(alloc, e), copy_stmts(alloc, b))?;
+            Ok(Act::For(x, e, b))
+        }
     }
 }
 
