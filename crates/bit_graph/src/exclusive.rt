@@ -28,7 +28,8 @@ impl Graph {
     }
 
     /// One of two sources and not both, by gates that are there: those of the sources, or those of
-    /// the one and the other's opposite. So a negation of either bit finds the same gates.
+    /// the one and the other's opposite. So a negation of either bit finds the same gates. With a
+    /// constant no gate is looked for.
     pub(crate) fn find_differ(&self, a: Source, b: Source) -> Option<GraphBit>
         requires left { Owns self.now (positive_bit a) }
         requires right { Owns self.now (positive_bit b) }
@@ -47,6 +48,12 @@ impl Graph {
             source: b,
             positive: true,
         };
+        if a == Source::Constant {
+            return Some(self.not(second));
+        }
+        if b == Source::Constant {
+            return Some(self.not(first));
+        }
         if let Some(bit) = self.find_xor(first, second) {
             return Some(bit);
         }
