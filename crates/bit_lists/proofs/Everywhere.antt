@@ -2,7 +2,7 @@
 use Rattle.std.proofs.Common.{◌≡◌, ℕ, zero, suc, ◌+◌, ◌<◌, ◌≤◌, Bool, true, false, List, [], ◌∷◌, length, map, take, refl, sym, ap, ◌∙◌, arith, get_or, eqb, ltb}
 use Rattle.std.specs.Prelude.{not, ◌&&◌, ◌||◌, ℤ, pos}
 use Rattle.std.proofs.Math.ListN.{get_or-map}
-use Rattle.std.proofs.lemmas.List.{length-map}
+use Rattle.std.proofs.lemmas.List.{length-map, take-map}
 use Rattle.std.proofs.lemmas.Bool.{eq-eqb}
 use Rattle.std.proofs.lemmas.Bool.Decides.{nat_tests}
 use Rattle.std.specs.Cmp.Lexicographic.{pointwise}
@@ -146,17 +146,12 @@ some_step S j a s r e h k = let more = some_more j S in cc
 pub every_step : (T : ℕ → Bool) (first : Bool) (j : ℕ) (a t r : Bool) → r ≡ (a && t) → a ≡ (first && every j T) → t ≡ T j → r ≡ (first && every (j + 1) T)
 every_step T first j a t r e h k = let more = every_more j T in let turned = and_assoc first (every j T) (T j) in cc
 
-map_taken : {A B : Type 0} (f : A → B) (n : ℕ) (xs : List A) → map f (take n xs) ≡ take n (map f xs)
-map_taken f zero xs = refl
-map_taken f (suc n) [] = refl
-map_taken f (suc n) (x ∷ xs) = ap (λ v. f x ∷ v) (map_taken f n xs)
-
 -- two lists of words within their lengths
 pub same_words : (xs ys : List (List Bool)) (n m j : ℕ) → j ≡ length xs → length ys ≡ length xs → n ≤ length xs → m ≤ length ys
     → (eqb n m && every j (λ k. not (ltb k n) || eqb (nat_of (get_or xs k [])) (nat_of (get_or ys k [])))) ≡ pointwise eqb (map nat_of (take n xs)) (map nat_of (take m ys))
 same_words xs ys n m j end long h k =
-    let left = map_taken nat_of n xs in
-    let right = map_taken nat_of m ys in
+    let left = sym (take-map nat_of n xs) in
+    let right = sym (take-map nat_of m ys) in
     let many : length (map nat_of xs) ≡ length xs = simp length-map refl in
     let also : length (map nat_of ys) ≡ length ys = simp length-map refl in
     let items = every_same j (λ k. not (ltb k n) || eqb (nat_of (get_or xs k [])) (nat_of (get_or ys k []))) (λ k. not (ltb k n) || eqb (get_or (map nat_of xs) k 0) (get_or (map nat_of ys) k 0))
@@ -169,7 +164,7 @@ same_words xs ys n m j end long h k =
 pub word_within : (z : List Bool) (xs : List (List Bool)) (n j : ℕ) → j ≡ length xs → 0 < length z → ((k : ℕ) → k < length xs → length (get_or xs k []) ≡ length z)
     → some j (λ k. ltb k n && eqb (nat_of z) (nat_of (get_or xs k []))) ≡ has_number (int_of z) (map int_of (take n xs))
 word_within z xs n j end wide alike =
-    let taken = map_taken int_of n xs in
+    let taken = sym (take-map int_of n xs) in
     let many : length (map int_of xs) ≡ length xs = simp length-map refl in
     let items = some_same j (λ k. ltb k n && eqb (nat_of z) (nat_of (get_or xs k []))) (λ k. ltb k n && int_eq (int_of z) (get_or (map int_of xs) k (pos 0)))
     (λ k l. let x = get_or-map int_of xs k [] in let same = same_numbers z (get_or xs k []) wide (alike k (omega arith)) in cc) in

@@ -1,6 +1,6 @@
 -- Lists end to end, and a list with one item more, by their items.
 use Rattle.std.proofs.Common.{◌≡◌, ℕ, zero, suc, ◌+◌, ◌-◌, ◌<◌, ◌≤◌, Bool, true, false, List, [], ◌∷◌, ◌++◌, length, take, refl, sym, ap, ◌∙◌, arith, get_or, cond, ltb, eqb, inl, inr, length-append, subst}
-use Rattle.std.proofs.lemmas.Bool.{cases_lt}
+use Rattle.std.proofs.lemmas.Bool.{cases_lt, leb-true}
 use Rattle.std.proofs.lemmas.Bool.Decides.{nat_tests}
 use Rattle.std.proofs.lemmas.List.{ext_get_or, get_or-take, get_or_append_left, get_or-append_right}
 use Rattle.bit_lists.specs.declared.shifts.Direction.TheVariants.{Up}
@@ -60,9 +60,6 @@ appended_is xs new w n long h item =
           chosen_here i n _ _ here ∙ sym (get_or-append_right (take n xs) (w ∷ []) n i [] first high ∙ ap (λ j. get_or (w ∷ []) j []) start)
     ])
 
-le_of : (n cap : ℕ) → nat_le n cap ≡ true → n ≤ cap
-le_of n cap h = grind (arith, nat_tests)
-
 pub joined_within : (xs ys raised new : List (List Bool)) (n m total cap : ℕ) (fault : Bool) → length ys ≡ length xs → length new ≡ length xs → cap ≡ length xs → n ≤ length xs → m ≤ length ys
     → fault ≡ not (nat_le (n + m) cap) → (nat_le (n + m) cap ≡ true → total ≡ n + m)
     → IsMoved Up n ys raised → ((k : ℕ) → k < length xs → get_or new k [] ≡ cond (ltb k n) (get_or xs k []) (get_or raised k []))
@@ -75,7 +72,7 @@ joined_within xs ys raised new n m total cap fault alike long many h k e sum up 
       passes = e ∙ ap (λ (l : ℕ). not (nat_le l cap)) (sym both);
       reads_as = λ small.
           let fits : nat_le (n + m) cap ≡ true = ap (λ (l : ℕ). nat_le l cap) (sym both) ∙ small in
-          let le = le_of (n + m) cap fits in
+          let le = leb-true (n + m) cap fits in
           ap (λ (l : ℕ). take l new) (sum fits) ∙ joined_is xs ys raised new n m alike long h (omega arith) up item;
     }
 
@@ -90,7 +87,7 @@ appended_within xs new w n total cap fault long many h e sum item =
       passes = e ∙ ap (λ (l : ℕ). not (nat_le l cap)) (sym both);
       reads_as = λ small.
           let fits : nat_le (n + 1) cap ≡ true = ap (λ (l : ℕ). nat_le l cap) (sym both) ∙ small in
-          let le = le_of (n + 1) cap fits in
+          let le = leb-true (n + 1) cap fits in
           ap (λ (l : ℕ). take l new) (sum fits) ∙ appended_is xs new w n long (omega arith) item;
     }
 

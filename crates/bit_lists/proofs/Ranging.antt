@@ -5,7 +5,7 @@ use Rattle.std.specs.Int.Signed.{lt_z}
 use Rattle.std.proofs.Math.IntN.{negsuc-*ℤ-pos, pos-*ℤ-pos}
 use Rattle.std.proofs.Math.Nat.{le-div_iff_mul-le, min-eq_left, min-eq_right, mul_comm}
 use Rattle.std.proofs.lemmas.Int.{ints}
-use Rattle.std.proofs.lemmas.Bool.{cases_lt}
+use Rattle.std.proofs.lemmas.Bool.{cases_lt, le-ltb, leb-true, lt-ltb, ltb-false, ltb-true}
 use Rattle.std.proofs.lemmas.Bool.Decides.{nat_tests}
 use Rattle.std.proofs.lemmas.List.{ext_get_or, get_or-map, get_or-take, get_or_append_left, length-map, map_push}
 use Rattle.std.proofs.Math.Seq.{get_or-append_seam}
@@ -17,18 +17,6 @@ use Rattle.bit_words.proofs.Naturals.{power_double}
 use Rattle.bit_lists.specs.Ranges.{RangeIs}
 use Rattle.bit_lists.proofs.Indexes.{more_within}
 use Rattle.bit_lists.proofs.Joining.{length_taken}
-
-less_yes : (i n : ℕ) → i < n → ltb i n ≡ true
-less_yes i n h = grind (arith, nat_tests)
-
-less_no : (i n : ℕ) → n ≤ i → ltb i n ≡ false
-less_no i n h = grind (arith, nat_tests)
-
-less_of : (i n : ℕ) → ltb i n ≡ true → i < n
-less_of i n h = grind (arith, nat_tests)
-
-not_less_of : (i n : ℕ) → ltb i n ≡ false → n ≤ i
-not_less_of i n h = grind (arith, nat_tests)
 
 -- how far two numbers are apart
 gap_of : (a b : ℤ) → ((d : ℕ) × (b ≡ a +ℤ pos d)) ⊎ ((d : ℕ) × (a ≡ b +ℤ pos (suc d)))
@@ -52,19 +40,19 @@ lower_no x y d e = grind (arith, ints)
 -- a number p above a beside one that is d above a
 rising : (a b : ℤ) (p d : ℕ) → b ≡ a +ℤ pos d → lt_z (a +ℤ pos p) b ≡ ltb p d
 rising a b p d e = elim (cases_lt p d) [
-  | inl lt ↦ lower_yes (a +ℤ pos p) b (d - suc p) (omega (arith, ints)) ∙ sym (less_yes p d lt)
-  | inr le ↦ lower_no (a +ℤ pos p) b (p - d) (omega (arith, ints)) ∙ sym (less_no p d le)
+  | inl lt ↦ lower_yes (a +ℤ pos p) b (d - suc p) (omega (arith, ints)) ∙ sym (lt-ltb p d lt)
+  | inr le ↦ lower_no (a +ℤ pos p) b (p - d) (omega (arith, ints)) ∙ sym (le-ltb p d le)
 ]
 
 falling : (a b : ℤ) (p d : ℕ) → a ≡ b +ℤ pos d → lt_z b (a +ℤ neg_ℤ (pos p)) ≡ ltb p d
 falling a b p d e = elim (cases_lt p d) [
-  | inl lt ↦ lower_yes b (a +ℤ neg_ℤ (pos p)) (d - suc p) (omega (arith, ints)) ∙ sym (less_yes p d lt)
-  | inr le ↦ lower_no b (a +ℤ neg_ℤ (pos p)) (p - d) (omega (arith, ints)) ∙ sym (less_no p d le)
+  | inl lt ↦ lower_yes b (a +ℤ neg_ℤ (pos p)) (d - suc p) (omega (arith, ints)) ∙ sym (lt-ltb p d lt)
+  | inr le ↦ lower_no b (a +ℤ neg_ℤ (pos p)) (p - d) (omega (arith, ints)) ∙ sym (le-ltb p d le)
 ]
 
 zero_or : (d : ℕ) → cond (ltb 0 d) d 0 ≡ d
-zero_or zero = ap (λ b. cond b 0 0) (less_no 0 0 (omega arith))
-zero_or (suc d) = ap (λ b. cond b (suc d) 0) (less_yes 0 (suc d) (omega arith))
+zero_or zero = ap (λ b. cond b 0 0) (le-ltb 0 0 (omega arith))
+zero_or (suc d) = ap (λ b. cond b (suc d) 0) (lt-ltb 0 (suc d) (omega arith))
 
 far_up : (a b : ℤ) (d : ℕ) → b ≡ a +ℤ pos d → cond (lt_z a b) (nat_abs (b -ℤ a)) 0 ≡ d
 far_up a b d e =
@@ -90,13 +78,13 @@ before_at a b (pos c) k =
     ap (λ (z : ℤ). lt_z (a +ℤ z) b) way
     ∙ elim (gap_of a b) [
       | inl (d, e) ↦ rising a b (k * c) d e ∙ ap (ltb (k * c)) (sym (far_up a b d e))
-      | inr (d, e) ↦ lower_no (a +ℤ pos (k * c)) b (suc d + k * c) (omega (arith, ints)) ∙ sym (less_no (k * c) 0 (omega arith)) ∙ ap (ltb (k * c)) (sym (not_up a b (suc d) e))
+      | inr (d, e) ↦ lower_no (a +ℤ pos (k * c)) b (suc d + k * c) (omega (arith, ints)) ∙ sym (le-ltb (k * c) 0 (omega arith)) ∙ ap (ltb (k * c)) (sym (not_up a b (suc d) e))
     ]
 before_at a b (negsuc c) k =
     let way = negsuc-*ℤ-pos c k ∙ ap (λ (n : ℕ). neg_ℤ (pos n)) (mul_comm (suc c) k) in
     ap (λ (z : ℤ). lt_z b (a +ℤ z)) way
     ∙ elim (gap_of a b) [
-      | inl (d, e) ↦ lower_no b (a +ℤ neg_ℤ (pos (k * suc c))) (d + k * suc c) (omega (arith, ints)) ∙ sym (less_no (k * suc c) 0 (omega arith)) ∙ ap (ltb (k * suc c)) (sym (not_down a b d e))
+      | inl (d, e) ↦ lower_no b (a +ℤ neg_ℤ (pos (k * suc c))) (d + k * suc c) (omega (arith, ints)) ∙ sym (le-ltb (k * suc c) 0 (omega arith)) ∙ ap (ltb (k * suc c)) (sym (not_down a b d e))
       | inr (d, e) ↦ falling a b (k * suc c) (suc d) e ∙ ap (ltb (k * suc c)) (sym (far_down a b d e))
     ]
 
@@ -105,12 +93,12 @@ count_at d m k some =
     let whole = le-div_iff_mul-le {k = m} {x = suc k} {y = d + (m - 1)} some in
     let more : suc k * m ≡ m + k * m = omega arith in
     elim (cases_lt (k * m) d) [
-      | inl lt ↦ let fits : suc k ≤ (d + (m - 1)) / m = whole.1 (omega arith) in less_yes (k * m) d lt ∙ sym (less_yes k ((d + (m - 1)) / m) (omega arith))
+      | inl lt ↦ let fits : suc k ≤ (d + (m - 1)) / m = whole.1 (omega arith) in lt-ltb (k * m) d lt ∙ sym (lt-ltb k ((d + (m - 1)) / m) (omega arith))
       | inr le ↦
-          less_no (k * m) d le
+          le-ltb (k * m) d le
           ∙ elim (cases_lt k ((d + (m - 1)) / m)) [
             | inl above ↦ let large : suc k * m ≤ d + (m - 1) = whole.0 (omega arith) in absurd (omega arith)
-            | inr least ↦ sym (less_no k ((d + (m - 1)) / m) least)
+            | inr least ↦ sym (le-ltb k ((d + (m - 1)) / m) least)
           ]
     ]
 
@@ -125,8 +113,8 @@ before_count a b c k h = before_at a b c k ∙ count_at (ahead a b c) (nat_abs c
 
 -- a number between two that are small is small
 inside_of : (p : ℕ) (z : ℤ) → is_within p z ≡ true → (n : ℕ) × (z +ℤ pos p ≡ pos n) × (n < p + p)
-inside_of p (pos m) h = let small = less_of m p h in (m + p, omega (arith, ints), omega arith)
-inside_of p (negsuc m) h = let small = less_of m p h in (p - suc m, omega (arith, ints), omega arith)
+inside_of p (pos m) h = let small = ltb-true m p h in (m + p, omega (arith, ints), omega arith)
+inside_of p (negsuc m) h = let small = ltb-true m p h in (p - suc m, omega (arith, ints), omega arith)
 
 between : (p : ℕ) (x z y : ℤ) (i j : ℕ) → z ≡ x +ℤ pos i → y ≡ z +ℤ pos j → is_within p x ≡ true → is_within p y ≡ true → is_within p z ≡ true
 between p x z y i j e f h k =
@@ -214,15 +202,15 @@ goes_on p a b c number next k true more some h l m s sum e =
     let step : next ≡ a +ℤ (c *ℤ pos (k + 1)) = sum (sum_within_fits p number c here m) ∙ ap (λ (z : ℤ). z +ℤ c) (s.reads refl) ∙ next_number a c k in
     record { counted = e ∙ ap (λ (z : ℤ). before c z b) step ∙ before_count a b c (k + 1) some; reads = λ t. step }
 goes_on p a b c number next k false more some h l m s sum e =
-    let least = not_less_of k (range_count a b c) (sym s.counted) in
-    record { counted = e ∙ sym (less_no (k + 1) (range_count a b c) (omega arith)); reads = λ t. dead e t }
+    let least = ltb-false k (range_count a b c) (sym s.counted) in
+    record { counted = e ∙ sym (le-ltb (k + 1) (range_count a b c) (omega arith)); reads = λ t. dead e t }
 
 -- one more of the numbers that are counted
 pub counts_on : (a b c number : ℤ) (k len next : ℕ) (alive : Bool) → At a b c number k alive → len ≡ min (range_count a b c) k → next ≡ cond alive (k + 1) len → next ≡ min (range_count a b c) (k + 1)
 counts_on a b c number k len next true s e f =
-    let lt = less_of k (range_count a b c) (sym s.counted) in f ∙ sym (min-eq_right (omega arith))
+    let lt = ltb-true k (range_count a b c) (sym s.counted) in f ∙ sym (min-eq_right (omega arith))
 counts_on a b c number k len next false s e f =
-    let least = not_less_of k (range_count a b c) (sym s.counted) in
+    let least = ltb-false k (range_count a b c) (sym s.counted) in
     f ∙ e ∙ min-eq_left least ∙ sym (min-eq_left (omega arith))
 
 length_below : (n : ℕ) → length (below n) ≡ n
@@ -251,10 +239,8 @@ listed_are a c new n fits item =
     get_or-map int_of (take n new) i [] (pos 0) (omega arith) ∙ ap int_of (get_or-take n new i [] lt) ∙ item i lt
     ∙ sym (get_or-map (λ (k : ℕ). a +ℤ (c *ℤ pos k)) (below n) i 0 (pos 0) (omega arith) ∙ ap (λ (k : ℕ). a +ℤ (c *ℤ pos k)) (below_at n i lt)))
 
-le_of : (n cap : ℕ) → nat_le n cap ≡ true → n ≤ cap
-le_of n cap h = grind (arith, nat_tests)
-
-passing : (n cap : ℕ) → ltb cap n ≡ not (nat_le n cap)
+-- whether a number passes another
+pub passing : (n cap : ℕ) → ltb cap n ≡ not (nat_le n cap)
 passing n cap = grind (arith, nat_tests)
 
 pub range_is : (a b c number : ℤ) (new : List (List Bool)) (len cap : ℕ) (fault : Bool) → length new ≡ cap → len ≡ min (range_count a b c) cap → At a b c number cap fault
@@ -262,9 +248,9 @@ pub range_is : (a b c number : ℤ) (new : List (List Bool)) (len cap : ℕ) (fa
 range_is a b c number new len cap fault long size s item = record {
   passes = s.counted ∙ passing (range_count a b c) cap;
   reads_as = λ few.
-      let le = le_of (range_count a b c) cap few in
+      let le = leb-true (range_count a b c) cap few in
       let all = size ∙ min-eq_left le in
-      ap (λ (n : ℕ). map int_of (take n new)) all ∙ listed_are a c new (range_count a b c) (omega arith) (λ k l. item k (omega arith) (less_yes k (range_count a b c) l));
+      ap (λ (n : ℕ). map int_of (take n new)) all ∙ listed_are a c new (range_count a b c) (omega arith) (λ k l. item k (omega arith) (lt-ltb k (range_count a b c) l));
 }
 
 -- which comparison says it

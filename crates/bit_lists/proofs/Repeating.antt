@@ -3,7 +3,7 @@ use Rattle.std.proofs.Common.{◌≡◌, ℕ, zero, suc, ◌+◌, ◌-◌, ◌*�
 use Rattle.std.specs.Prelude.{ℤ, pos, negsuc, not, ◌||◌, nat_le, min}
 use Rattle.std.proofs.Math.Nat.{add-mod_left, le-mul_of_pos_right, min-eq_left, min-eq_right, mod-eq_of_lt, mul_comm}
 use Rattle.std.proofs.lemmas.Nat.{mod_below}
-use Rattle.std.proofs.lemmas.Bool.{cases_lt}
+use Rattle.std.proofs.lemmas.Bool.{cases_lt, leb-true}
 use Rattle.std.proofs.lemmas.Bool.Decides.{eqb_tells, nat_tests}
 use Rattle.std.proofs.lemmas.List.{ext_get_or, get_or-take, get_or_append_left, get_or-append_right}
 use Rattle.mpy_tree.specs.Operations.{copies, copy_count, repeated}
@@ -101,9 +101,6 @@ many_times (suc n) m cap small h =
     let least : m ≤ m * suc n = le-mul_of_pos_right m (omega arith) in
     ap (λ (k : ℕ). suc n * k) (min-eq_left (omega arith)) ∙ mul_comm (suc n) m
 
-le_of : (n cap : ℕ) → nat_le n cap ≡ true → n ≤ cap
-le_of n cap h = grind (arith, nat_tests)
-
 is_few : (n cap : ℕ) → n ≤ cap → nat_le n cap ≡ true
 is_few n cap h = grind (arith, nat_tests)
 
@@ -148,7 +145,7 @@ repeated_within whole new n total cap z fault long many small fits e sum item =
       passes = e ∙ ap not same ∙ ap (λ (k : ℕ). not (nat_le k cap)) (sym size);
       reads_as = λ few.
           let fine : nat_le (copy_count z * n) cap ≡ true = ap (λ (k : ℕ). nat_le k cap) (sym size) ∙ few in
-          let le = le_of (copy_count z * n) cap fine in
+          let le = leb-true (copy_count z * n) cap fine in
           repeated_is whole new n m total cap long many fits le (sum (same ∙ fine) ∙ many_times n m cap small le) item;
     }
 
@@ -166,7 +163,7 @@ wrap_as new j k {test} {test'} {xs} {xs'} {ys} {ys'} e f h now =
     ∙ ap (λ (v : List (List Bool)). cond test (get_or xs (k % j) []) (get_or v k [])) h
 
 pub few_of : (n cap : ℕ) → nat_le n cap ≡ true → n ≤ cap
-few_of = le_of
+few_of = leb-true
 
 pub product_as : (s : ℕ) (over : Bool) {w n n' m m' : ℕ} → w ≡ 5 → n' ≡ n → m' ≡ m → IsUnsigned w (n' * m') s over → IsUnsigned 5 (n * m) s over
 product_as s over {w} {n} {n'} {m} {m'} e f k h =

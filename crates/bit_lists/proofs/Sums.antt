@@ -1,7 +1,7 @@
 -- Lengths that pass a limit, and lengths that are masked.
 use Rattle.std.proofs.Common.{◌≡◌, ℕ, ◌+◌, ◌*◌, ◌<◌, ◌≤◌, Bool, true, false, List, [], ◌∷◌, map, refl, ap, ◌∙◌, arith, ltb, inl, inr}
 use Rattle.std.specs.Prelude.{not, ◌&&◌, ◌||◌, nat_le}
-use Rattle.std.proofs.lemmas.Bool.{cases_lt}
+use Rattle.std.proofs.lemmas.Bool.{cases_lt, leb-true}
 use Rattle.std.proofs.lemmas.Bool.Decides.{nat_tests}
 use Rattle.bit_words.specs.Words.{bit_value, nat_of}
 
@@ -28,11 +28,8 @@ pub passes_as : (n s cap : ℕ) (c : Bool) → s + 32 * bit_value c ≡ n → ca
 passes_as n s cap true e h = far_past n cap (omega arith)
 passes_as n s cap false e h = passes n s cap (omega arith)
 
-le_of : (n cap : ℕ) → nat_le n cap ≡ true → n ≤ cap
-le_of n cap h = grind (arith, nat_tests)
-
 pub within_bits : (n s cap : ℕ) (c : Bool) → s + 32 * bit_value c ≡ n → cap ≤ 16 → nat_le n cap ≡ true → s ≡ n
-within_bits n s cap true e h k = let le = le_of n cap k in absurd (omega arith)
+within_bits n s cap true e h k = let le = leb-true n cap k in absurd (omega arith)
 within_bits n s cap false e h k = omega arith
 
 not_back : (b : Bool) → false ≡ not b → b ≡ true
@@ -45,4 +42,4 @@ not_false b e = ap not e
 -- a checked length is within the limit, whichever its fault is
 pub at_most : (fault : Bool) (n len cap : ℕ) → fault ≡ not (nat_le n cap) → (fault ≡ true → len ≡ 0) → (nat_le n cap ≡ true → len ≡ n) → len ≤ cap
 at_most true n len cap e none value = let zero = none refl in omega arith
-at_most false n len cap e none value = let small : nat_le n cap ≡ true = not_back (nat_le n cap) e in let le = le_of n cap small in let same = value small in omega arith
+at_most false n len cap e none value = let small : nat_le n cap ≡ true = not_back (nat_le n cap) e in let le = leb-true n cap small in let same = value small in omega arith

@@ -1,9 +1,8 @@
 -- Texts in texts, place by place.
-use Rattle.std.proofs.Common.{◌≡◌, ℕ, zero, suc, ◌+◌, ◌-◌, ◌<◌, ◌≤◌, Bool, true, false, List, [], ◌∷◌, length, map, take, drop, refl, sym, ap, ◌∙◌, arith, get_or, eqb, ltb, inl, inr}
+use Rattle.std.proofs.Common.{◌≡◌, ℕ, zero, suc, ◌+◌, ◌-◌, ◌<◌, ◌≤◌, Bool, false, List, [], ◌∷◌, length, map, take, drop, refl, sym, ap, ◌∙◌, arith, get_or, eqb, ltb, inl, inr}
 use Rattle.std.specs.Prelude.{not, ◌&&◌, ◌||◌}
 use Rattle.std.proofs.Math.Seq.{drop-nil}
-use Rattle.std.proofs.lemmas.Bool.{cases_lt}
-use Rattle.std.proofs.lemmas.Bool.Decides.{nat_tests}
+use Rattle.std.proofs.lemmas.Bool.{cases_lt, le-ltb, lt-ltb}
 use Rattle.std.proofs.lemmas.List.{get_or-drop, get_or-map, length-drop, length-map, take-map}
 use Rattle.mpy_tree.specs.Operations.{is_empty, is_front, is_part}
 use Rattle.bit_words.specs.Words.{nat_of}
@@ -36,12 +35,6 @@ take_none : (n : ℕ) → take n (drop 0 []) ≡ drop {A = ℕ} 0 []
 take_none zero = refl
 take_none (suc n) = refl
 
-less_yes : (i n : ℕ) → i < n → ltb i n ≡ true
-less_yes i n h = grind (arith, nat_tests)
-
-less_no : (i n : ℕ) → n ≤ i → ltb i n ≡ false
-less_no i n h = grind (arith, nat_tests)
-
 past_both : (a x y : Bool) {t u : Bool} → t ≡ false → u ≡ false → (a || (t && x)) ≡ (a || (u && y))
 past_both a x y {t} {u} e f = ap (λ b. a || (b && x)) e ∙ sym (ap (λ b. a || (b && y)) f)
 
@@ -55,8 +48,8 @@ taken_dropped (suc s) (suc m) (y ∷ ys) =
 
 less_apart : (s k m : ℕ) → ltb (s + k) m ≡ ltb k (m - s)
 less_apart s k m = elim (cases_lt (s + k) m) [
-  | inl lt ↦ less_yes (s + k) m lt ∙ sym (less_yes k (m - s) (omega arith))
-  | inr le ↦ less_no (s + k) m le ∙ sym (less_no k (m - s) (omega arith))
+  | inl lt ↦ lt-ltb (s + k) m lt ∙ sym (lt-ltb k (m - s) (omega arith))
+  | inr le ↦ le-ltb (s + k) m le ∙ sym (le-ltb k (m - s) (omega arith))
 ]
 
 -- the same from a place on, of words
@@ -74,8 +67,8 @@ front_from xs ys n m s j end alike h l =
           let y = get_or-drop s (map nat_of ys) k 0 ∙ get_or-map nat_of ys (s + k) [] 0 (omega arith) in
           let test = less_apart s k m in cc
       | inr past ↦
-          let no = less_no (s + k) m past in
-          let also_no = less_no k (m - s) (omega arith) in
+          let no = le-ltb (s + k) m past in
+          let also_no = le-ltb k (m - s) (omega arith) in
           past_both (not (ltb k n)) _ _ no also_no
     ]) in
     let last : j ≡ length (map nat_of xs) = omega arith in
@@ -107,7 +100,7 @@ part_within cs (d ∷ zs) (suc (suc j)) h l = some_front (suc j) (λ s. is_front
 
 -- a place past the text's end
 pub agrees_past : (n m place spot : ℕ) (r e : Bool) → r ≡ not (ltb place n) → m ≤ spot → r ≡ (not (ltb place n) || (ltb spot m && e))
-agrees_past n m place spot r e h l = h ∙ sym (ap (λ b. not (ltb place n) || (b && e)) (less_no spot m l) ∙ or_none (not (ltb place n)))
+agrees_past n m place spot r e h l = h ∙ sym (ap (λ b. not (ltb place n) || (b && e)) (le-ltb spot m l) ∙ or_none (not (ltb place n)))
 
 pub agrees_as : (place spot : ℕ) {r past past' found : Bool} {n n' m m' x x' y y' : ℕ} → r ≡ (past' || found) → past' ≡ past → past ≡ not (ltb place n') → n' ≡ n
     → found ≡ (ltb spot m' && eqb x' y') → m' ≡ m → x' ≡ x → y' ≡ y → r ≡ (not (ltb place n) || (ltb spot m && eqb x y))

@@ -1,8 +1,7 @@
 -- What lists and texts as bits read as, and what the language's operations give on them.
 use Rattle.std.proofs.Common.{◌≡◌, ℕ, zero, suc, ◌-◌, ◌≤◌, Bool, true, false, not, List, [], ◌∷◌, ◌++◌, length, map, take, drop, refl, sym, ap, ◌∙◌, arith, cond, Option}
 use Rattle.std.specs.Prelude.{ℤ, nat_le}
-use Rattle.std.proofs.lemmas.Bool.{leb-true}
-use Rattle.std.proofs.lemmas.Bool.Decides.{nat_tests}
+use Rattle.std.proofs.lemmas.Bool.{le-leb, leb-true}
 use Rattle.std.proofs.lemmas.List.{drop-map, length-map, map-append, take-map}
 use Rattle.std.specs.declared.result.Result.{Result}
 use Rattle.std.specs.declared.result.Result.TheVariants.{Ok, Err}
@@ -58,7 +57,7 @@ reading_is false v u e f = absurd cc
 fits_in : {B : Type 0} (f : B → Bool) (n : ℕ) (items : List (List B)) → n ≤ length items → nat_le n (length (map (map f) items)) ≡ true
 fits_in f n items h =
     let long : length (map (map f) items) ≡ length items = simp length-map refl in
-    grind (arith, nat_tests)
+    le-leb n (length (map (map f) items)) (omega arith)
 
 pub reads_like : {B : Type 0} (f : B → Bool) (x : SymValue B) (len : List B) (items : List (List B)) → HasLength x → nat_of (map f len) ≤ length items
     → read f (of_kind x len items) ≡ sure (value_of_kind x (take (nat_of (map f len)) (map (map f) items)))

@@ -1,7 +1,7 @@
 -- The items at places, as the language's operations have them.
 use Rattle.std.proofs.Common.{◌≡◌, ℕ, zero, suc, ◌-◌, ◌<◌, Bool, true, false, List, [], ◌∷◌, length, map, refl, sym, ap, ◌∙◌, subst, arith, cond, get_or, Some, None, Option, ltb}
 use Rattle.std.specs.Prelude.{ℤ, pos, negsuc, slice_get}
-use Rattle.std.proofs.lemmas.Bool.Decides.{nat_tests}
+use Rattle.std.proofs.lemmas.Bool.{ltb-true}
 use Rattle.std.proofs.lemmas.List.{length-map, map-set}
 use Rattle.std.specs.declared.result.Result.TheVariants.{Ok}
 use Rattle.mpy_tree.specs.declared.value.Value.{Value}
@@ -36,12 +36,9 @@ placed : (b : Bool) (n k p : ℕ) → (b ≡ true → p < n) → cond b (Some p)
 placed true n k p h e = let same : p ≡ k = cc in let lt : p < n = h refl in omega arith
 placed false n k p h e = absurd cc
 
-below_of : (i n : ℕ) → ltb i n ≡ true → i < n
-below_of i n h = grind (arith, nat_tests)
-
 place_within : (z : ℤ) (n k : ℕ) → index_in z n ≡ Some k → k < n
-place_within (pos i) n k e = placed (ltb i n) n k i (below_of i n) e
-place_within (negsuc i) n k e = placed (ltb i n) n k (n - suc i) (λ h. let lt = below_of i n h in omega arith) e
+place_within (pos i) n k e = placed (ltb i n) n k i (ltb-true i n) e
+place_within (negsuc i) n k e = placed (ltb i n) n k (n - suc i) (λ h. let lt = ltb-true i n h in omega arith) e
 
 read_at : {X Y : Type 0} (f : X → Y) (xs : List X) (k : ℕ) (d : X) → k < length xs → slice_get (map f xs) k ≡ Some (f (get_or xs k d))
 read_at f [] k d h = absurd (omega arith)

@@ -1,7 +1,7 @@
 -- Lists of given numbers, and ranges.
 use Rattle.std.proofs.Common.{◌≡◌, ℕ, ◌≤◌, Bool, true, false, not, List, [], ◌∷◌, length, map, take, refl, sym, ap, ◌∙◌, subst, arith, cond}
 use Rattle.std.specs.Prelude.{ℤ, nat_le, nat_lt, ◌||◌}
-use Rattle.std.proofs.lemmas.Bool.Decides.{nat_tests}
+use Rattle.std.proofs.lemmas.Bool.{leb-true}
 use Rattle.std.proofs.lemmas.List.{length-map, take-map}
 use Rattle.std.specs.declared.result.Result.{Result}
 use Rattle.std.specs.declared.result.Result.TheVariants.{Ok, Err}
@@ -18,6 +18,7 @@ use Rattle.bit_words.specs.Words.{int_of, nat_of}
 use Rattle.bit_lists.specs.Lists.{AreWordsIn}
 use Rattle.bit_lists.specs.Ranges.{RangeIs}
 use Rattle.bit_lists.proofs.Held.{no_words}
+use Rattle.bit_lists.proofs.Ranging.{passing}
 use Rattle.sym_values.specs.declared.value.SymValue.TheVariants as sym_value
 use Rattle.sym_values.specs.Reading.{IsOutcome, read, Reading, sure}
 use Rattle.list_values.proofs.Meanings.{chosen, held_is, list_held, reads_like}
@@ -27,11 +28,8 @@ few_by : {B : Type 0} (b : Bool) (ws ns : List (List B)) (cap : ℕ) → ws ≡ 
 few_by true ws ns cap e h = subst (λ (n : ℕ). n ≤ cap) (sym (ap length e)) (h refl)
 few_by false ws ns cap e h = subst (λ (n : ℕ). n ≤ cap) (sym (ap length e)) (omega arith)
 
-le_of : (n cap : ℕ) → nat_le n cap ≡ true → n ≤ cap
-le_of n cap h = grind (arith, nat_tests)
-
 pub few_words : {B : Type 0} (ws ns : List (List B)) (cap : ℕ) → ws ≡ cond (nat_le (length ns) cap) ns [] → length ws ≤ cap
-few_words ws ns cap e = few_by (nat_le (length ns) cap) ws ns cap e (le_of (length ns) cap)
+few_words ws ns cap e = few_by (nat_le (length ns) cap) ws ns cap e (leb-true (length ns) cap)
 
 module _ {S B : Type 0} {owns : S → B → Type 0} where
   owned_by : {s : S} {n : ℕ} (b : Bool) (ws ns : List (List B)) → ws ≡ cond b ns [] → AreWordsIn owns s n ns → AreWordsIn owns s n ws
@@ -45,9 +43,6 @@ numbers_are : {B : Type 0} (f : B → Bool) (ns : List (List B)) → wholes (map
 numbers_are f [] = refl
 numbers_are f (w ∷ ns) = ap (λ (r : Result (List ℤ) Halt). r >>= λ zs. Ok (int_of (map f w) ∷ zs)) (numbers_are f ns)
 
-past : (n cap : ℕ) → nat_lt cap n ≡ not (nat_le n cap)
-past n cap = grind (arith, nat_tests)
-
 -- a literal is the list of its numbers, or Length
 pub literal_is : {B : Type 0} (f : B → Bool) (l : Limits) (ns ws items : List (List B)) (len : List B) (fault : Bool) → ws ≡ cond (nat_le (length ns) l.cap) ns [] → nat_of (map f len) ≡ length ws
     → length items ≡ l.cap → take (length ws) items ≡ ws → fault ≡ nat_lt l.cap (length ns) → IsOutcome fault (read f (sym_value.List len items)) (list_of l (map (λ (w : List B). val.Int (int_of (map f w))) ns))
@@ -58,7 +53,7 @@ literal_is f l ns ws items len fault e size many front over =
     subst (λ (r : Result Value Halt). IsOutcome fault (read f (sym_value.List len items)) r) (sym (list_held l (map (map f) ns)) ∙ same)
     (held_is l f (sym_value.List len items) (sym_value.List len items) len items fault (map (map f) ns) l.cap tt refl refl (omega arith)
     (record {
-      passes = over ∙ past (length ns) l.cap ∙ ap (λ (n : ℕ). not (nat_le n l.cap)) (sym long);
+      passes = over ∙ passing (length ns) l.cap ∙ ap (λ (n : ℕ). not (nat_le n l.cap)) (sym long);
       reads_as = λ h.
           let all : ws ≡ ns = e ∙ ap (λ (b : Bool). cond b ns []) (ap (λ (n : ℕ). nat_le n l.cap) (sym long) ∙ h) in
           ap (λ (n : ℕ). take n (map (map f) items)) size ∙ take-map (map f) (length ws) items ∙ ap (map (map f)) (front ∙ all);
@@ -87,4 +82,4 @@ list_reads f f' len items e h = rw (e, h) refl
 
 -- a text that is given, or Length
 pub text_literal_is : (l : Limits) (cs : List ℕ) (fault : Bool) (r : Reading) → fault ≡ nat_lt l.cap (length cs) → (nat_le (length cs) l.cap ≡ true → r ≡ sure (val.Text cs)) → IsOutcome fault r (text_within l cs)
-text_literal_is l cs fault r e h = chosen (nat_le (length cs) l.cap) fault r (val.Text cs) (Fault kind.Length) (e ∙ past (length cs) l.cap) h
+text_literal_is l cs fault r e h = chosen (nat_le (length cs) l.cap) fault r (val.Text cs) (Fault kind.Length) (e ∙ passing (length cs) l.cap) h

@@ -1,7 +1,7 @@
 //! Lists of given numbers and texts of given characters.
 
 ghost use Rattle.std.specs.Prelude.{◌≡◌, ◌≤◌, ◌<◌, ℕ, Bool, List, [], length, map, take, nat_le};
-ghost use Rattle.std.specs.Prelude.{true, if◌then◌else◌, IfOk};
+ghost use Rattle.std.specs.Prelude.{true, false, if◌then◌else◌, IfOk, All, drop, replicate};
 ghost use Rattle.mpy_tree.specs.Expressions.{list_of};
 ghost use Rattle.mpy_tree.specs.Operations.{text_within};
 ghost use Rattle.bit_lists.specs.Lists.{AreWordsIn};
@@ -33,6 +33,8 @@ pub fn padded<L: Logic>(
     ensures made { IfOk result (λ r. AreWordsIn L.owns g.now width r) }
     ensures many { IfOk result (λ r. length r ≡ count) }
     ensures front { IfOk result (λ r. take (length words) r ≡ words) }
+    ensures zeros { IfOk result (λ r. (vs : List Bool) →
+        All (λ w. map (L.reads g.now vs) w ≡ replicate width false) (drop (length words) r)) }
 {
     let mut padded = words;
     for _ in padded.len()..count {

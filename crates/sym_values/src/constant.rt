@@ -8,7 +8,7 @@ ghost use Rattle.mpy_tree.specs.Operations.{fits, number};
 ghost use Rattle.mpy_tree.specs.Printable.{ArePrintable};
 ghost use Rattle.bit_words.specs.Results.{IsWordIn};
 ghost use Rattle.bit_words.specs.Words.{int_of, nat_of, nat_read};
-ghost use Rattle.sym_values.specs.Constants.{padded};
+ghost use Rattle.sym_values.specs.Constants.{padded, zero_of};
 ghost use Rattle.sym_values.specs.Forms.{form_for, IntForm};
 ghost use Rattle.sym_values.specs.Reading.{read, sure, OutcomeReads};
 ghost use Rattle.sym_values.specs.Results.{AreWordsIn, IsOutcomeIn, IsValueIn};
@@ -183,7 +183,9 @@ pub fn zero_value<L: Logic>(
     limits: &Limits,
     ty: Ty,
 ) -> Result<SymValue<L::Bit>, NoMemory>
-    ensures { IfOk result (λ r. IsValueIn L.owns g.now (form_for limits.now ty) r) }
+    ensures made { IfOk result (λ r. IsValueIn L.owns g.now (form_for limits.now ty) r) }
+    ensures value { IfOk result (λ r. (vs : List Bool) →
+        read (L.reads g.now vs) r ≡ sure (zero_of ty)) }
 {
     let zero = match ty {
         Ty::Int => Value::Int(0),

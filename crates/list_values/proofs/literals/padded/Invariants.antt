@@ -1,4 +1,4 @@
-use Rattle.std.proofs.Common.{◌≡◌, ◌≤◌, length, take}
+use Rattle.std.proofs.Common.{◌≡◌, ◌≤◌, Bool, false, List, All, drop, length, map, replicate, take}
 use Rattle.bit_lists.specs.Lists.{AreWordsIn}
 use Rattle.list_values.proofs.literals.padded.Given as goal
 
@@ -8,4 +8,5 @@ invariant-loop g l = record {
   many : length l.padded ≡ l.counter;
   least : length l.fn.words ≤ length l.padded;
   front : take (length l.fn.words) l.padded ≡ l.fn.words;
+  zeros : (vs : List Bool) → All (λ w. map (g.L.Logic.reads l.g vs) w ≡ replicate l.width false) (drop (length l.fn.words) l.padded);
 }
