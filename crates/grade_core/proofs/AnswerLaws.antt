@@ -3,7 +3,7 @@ use Rattle.std.proofs.Common.{◌≡◌, ℕ, ◌≤◌, true, List, [], ◌∷�
 use Rattle.std.specs.List.{Contains}
 use Rattle.std.specs.Option.{is_some}
 use Rattle.std.proofs.lemmas.Bool.{cases_lt}
-use Rattle.std.proofs.lemmas.List.Elements.{All-contains}
+use Rattle.std.proofs.lemmas.List.Elements.{All-contains, All-head}
 use Rattle.mpy_tree.specs.declared.outcome.Outcome.TheVariants as outcome
 use Rattle.mpy_tree.specs.declared.value.Value.{Value}
 use Rattle.mpy_tree.specs.Shapes.{program_shape}
@@ -21,8 +21,9 @@ use Rattle.input_space.specs.declared.case.Case.{Case}
 use Rattle.input_space.specs.Agreement.{Agrees, IsInput, ends_on}
 use Rattle.input_space.specs.Inputs.{inputs}
 use Rattle.input_space.specs.Tasks.{HasWanted, IsBestOf, IsSound, NoneAgrees, Rewrites, Task, setting, tree_of}
-use Rattle.cegis_loop.specs.Answers.{IsLeast, NoneBelow}
+use Rattle.cegis_loop.specs.Answers.{IsKept, IsLeast, NoneBelow}
 use Rattle.cegis_loop.specs.Answers as loop
+use Rattle.cegis_loop.specs.Space as loop_space
 use Rattle.list_questions.specs.TaskSpace.{Meets, SelectionMeets, case_of, is_wanted, space, wanted, wanted_inputs}
 use Rattle.list_questions.proofs.Chosen.{all_if_contained, contained_if, contained_map, contained_was, first_contained, map_contains}
 use Rattle.list_questions.proofs.SelectionLaws.{all_meet, all_selection_meet}
@@ -102,6 +103,13 @@ submission_best k sound s found = record {
   agrees = agrees_on_all k k.submission (all_meet k s k.submission (wanted_inputs k) (sym (free_selection k sound s found.choice found.cost_of)) found.agrees);
   least = λ q m fs rewriting agrees. omega arith;
 }
+
+-- where there is no input none is kept
+pub none_kept : (k : Task) (xs : List Case) → wanted_inputs k ≡ [] → IsKept (space k) xs → xs ≡ []
+none_kept k [] none kept = refl
+none_kept k (x ∷ xs) none kept =
+    let c = subst (λ (ys : List Case). Contains ys x) none (All-head (loop_space.IsInput (space k)) x xs kept.inputs) in
+    absurd (let below = c.1 in omega arith)
 
 -- the selection of the submission itself
 pub some_fails : (k : Task) → IsSound k → (xs : List Case) → ((s : List Choice) → Fits (tree_of k) s → cost (member_of s) (tree_of k) ≡ 0 → All (SelectionMeets k s) xs → ⊥) → SomeFails k xs

@@ -1,7 +1,6 @@
 //! The command `grade`.
 ghost use Rattle.std.specs.Prelude.{◌≡◌, ℕ, List, length, IfErr, IfOk};
 ghost use Rattle.grade_io.specs.Devices.{devices};
-ghost use Rattle.grade_io.specs.Says.{IsOfText};
 ghost use Rattle.mpy_tree.specs.declared.refusal.Refusal.{Refusal as AnyRefusal};
 ghost use Rattle.input_space.specs.Tasks.{Task as AnyTask};
 ghost use Rattle.source_files.specs.Fetches.{CallsInOrder, FilesKept, IsLongSource, OnRefused};

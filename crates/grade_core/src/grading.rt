@@ -61,9 +61,12 @@ pub fn grade_texts(alloc: Global, texts: &[Vec<u8>], budget: u32) -> Result<Grad
     }
 }
 
-/// The status of an answer that is written whole.
+/// The status of an answer that is written whole. Of one that isn't written it is that of its
+/// refusal, or that memory lacked.
 pub fn answer_status(answer: &Answer) -> Status
-    ensures { HasStatus answer.now result }
+    ensures written { HasStatus answer.now result }
+    ensures no_value { answer.now ≡ Answer.EmptyReference → result ≡ Status.Refused }
+    ensures no_memory { answer.now ≡ Answer.NoMemory → result ≡ Status.NoMemory }
 {
     match answer {
         Answer::Correct => Status::Correct,

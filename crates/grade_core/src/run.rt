@@ -3,7 +3,7 @@ ghost use Rattle.std.specs.Prelude.{None, IfOk};
 ghost use Rattle.cegis_loop.specs.Answers.{IsAnswer};
 ghost use Rattle.input_space.specs.TaskParts.{task_with};
 ghost use Rattle.list_questions.specs.TaskSpace.{space};
-ghost use Rattle.grade_core.specs.Runs.{IsRight};
+ghost use Rattle.grade_core.specs.Runs.{IsRight, KeepsCases};
 
 use crate::NoMemory;
 use crate::failing::first_failure;
@@ -26,7 +26,8 @@ pub struct Run {
 ///
 /// All selections and inputs are tried, so the budget isn't spent.
 pub fn answer(alloc: Global, t: &Task, budget: u32) -> Run
-    ensures { IsRight (task_with t.now) result.kept result.answer }
+    ensures right { IsRight (task_with t.now) result.kept result.answer }
+    ensures kept { KeepsCases (task_with t.now) result.kept result.answer }
 {
     let _budget = budget;
     match search(alloc, t) {
@@ -40,7 +41,8 @@ pub fn answer(alloc: Global, t: &Task, budget: u32) -> Run
 
 // The search, by trying all.
 fn search(alloc: Global, t: &Task) -> Result<Run, NoMemory>
-    ensures { IfOk result (λ r. IsRight (task_with t.now) r.kept r.answer) }
+    ensures right { IfOk result (λ r. IsRight (task_with t.now) r.kept r.answer) }
+    ensures kept { IfOk result (λ r. KeepsCases (task_with t.now) r.kept r.answer) }
 {
     let mut questions = ListQuestions::new(alloc, t)?;
     let found = least(&mut questions);
@@ -56,7 +58,8 @@ fn search(alloc: Global, t: &Task) -> Result<Run, NoMemory>
 fn told(runs: &Runs<'_>, kept: &Cases, found: Least<Selection>) -> Result<Answer, NoMemory>
     requires { IsAnswer (space (task_with runs.now.task.now))
         (record { kept = kept.now; told = None; logged = 0 }) found }
-    ensures { IfOk result (IsRight (task_with runs.now.task.now) kept.now) }
+    ensures right { IfOk result (IsRight (task_with runs.now.task.now) kept.now) }
+    ensures kept { IfOk result (KeepsCases (task_with runs.now.task.now) kept.now) }
 {
     runs.task.is_sound();
     match found {

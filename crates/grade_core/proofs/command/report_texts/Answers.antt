@@ -9,5 +9,5 @@ returns c =
     record {
       answer = record { task = k; answer = shown.answer };
       decided = record { task = c.in_ok-graded.ensures.task; answer = c.in_ok-graded.ensures.answered shown.answer shown.stands };
-      shows = record { text = shown.text_is; status = c.answer_status.ensures k shown.answer shown.stands };
+      shows = record { text = shown.text_is; status = c.answer_status.ensures.written k shown.answer shown.stands };
     }

@@ -3,7 +3,7 @@ use Rattle.std.proofs.Common.{arith, refl, subst}
 use Rattle.cegis_loop.specs.Answers.{IsLeast}
 use Rattle.input_space.specs.TaskParts.{task_with}
 use Rattle.list_questions.specs.TaskSpace.{space, wanted_inputs}
-use Rattle.grade_core.proofs.AnswerLaws.{best_selection, none_agree, none_wanted, some_fails, some_wanted, submission_best}
+use Rattle.grade_core.proofs.AnswerLaws.{best_selection, none_agree, none_kept, none_wanted, some_fails, some_wanted, submission_best}
 use Rattle.grade_core.proofs.run.told.Goals as goal
 
 pub first_failure-requires-clause-some : goal.first_failure-requires-clause-some
@@ -17,8 +17,8 @@ first_failure-requires-in-Nothing-clause-some c =
     let none = (rw c.in-Nothing.is at c.requires.means_on_kept).1 in
     some_fails (task_with c.args.runs.now.task.now) c.is_sound.ensures c.args.kept.now (λ s fits free met. none s fits met)
 
-pub returns-in-Found-default-eq0 : goal.returns-in-Found-default-eq0
-returns-in-Found-default-eq0 c =
+pub returns-in-Found-default-eq0-clause-right : goal.returns-in-Found-default-eq0-clause-right
+returns-in-Found-default-eq0-clause-right c =
     let k = task_with c.args.runs.now.task.now in
     let s = c.in-Found-default-eq0.choice in
     let found : IsLeast (space k) (wanted_inputs k) s c.in-Found-default-eq0.cost = (rw c.in-Found-default-eq0.is at c.requires.means).1 in (
@@ -26,8 +26,8 @@ returns-in-Found-default-eq0 c =
       submission_best k c.is_sound.ensures s (subst (IsLeast (space k) (wanted_inputs k) s) c.in-Found-default-eq0.cost-test found),
     )
 
-pub returns-in_ok-first_failure-in-Found : goal.returns-in_ok-first_failure-in-Found
-returns-in_ok-first_failure-in-Found c =
+pub returns-in_ok-first_failure-in-Found-clause-right : goal.returns-in_ok-first_failure-in-Found-clause-right
+returns-in_ok-first_failure-in-Found-clause-right c =
     let k = task_with c.args.runs.now.task.now in
     let found : IsLeast (space k) (wanted_inputs k) c.in-Found.choice c.in-Found.cost = (rw c.in-Found.is at c.requires.means).1 in (
       best_selection k c.is_sound.ensures c.in-Found.choice c.in-Found.cost found,
@@ -35,10 +35,33 @@ returns-in_ok-first_failure-in-Found c =
       c.in_ok-first_failure-in-Found.ensures,
     )
 
-pub returns-in_ok-first_failure-in-Nothing : goal.returns-in_ok-first_failure-in-Nothing
-returns-in_ok-first_failure-in-Nothing c =
+pub returns-in_ok-first_failure-in-Nothing-clause-right : goal.returns-in_ok-first_failure-in-Nothing-clause-right
+returns-in_ok-first_failure-in-Nothing-clause-right c =
     let k = task_with c.args.runs.now.task.now in
     (none_agree k c.is_sound.ensures (rw c.in-Nothing.is at c.requires.means).1, c.in_ok-first_failure-in-Nothing.ensures)
 
-pub returns-in-NoCase : goal.returns-in-NoCase
-returns-in-NoCase c = none_wanted (task_with c.args.runs.now.task.now) (rw c.in-NoCase.is at c.requires.means)
+pub returns-in-NoCase-clause-right : goal.returns-in-NoCase-clause-right
+returns-in-NoCase-clause-right c = none_wanted (task_with c.args.runs.now.task.now) (rw c.in-NoCase.is at c.requires.means)
+
+-- WHAT WAS KEPT
+
+pub returns-in-Found-default-eq0-clause-kept : goal.returns-in-Found-default-eq0-clause-kept
+returns-in-Found-default-eq0-clause-kept c = record { inputs = c.requires.kept; ruled_out = tt }
+
+pub returns-in_ok-first_failure-in-Found-clause-kept : goal.returns-in_ok-first_failure-in-Found-clause-kept
+returns-in_ok-first_failure-in-Found-clause-kept c =
+    let k = task_with c.args.runs.now.task.now in
+    let found : IsLeast (space k) c.args.kept.now c.in-Found.choice c.in-Found.cost = (rw c.in-Found.is at c.requires.means_on_kept).1 in
+    record { inputs = c.requires.kept; ruled_out = found.least }
+
+pub returns-in_ok-first_failure-in-Nothing-clause-kept : goal.returns-in_ok-first_failure-in-Nothing-clause-kept
+returns-in_ok-first_failure-in-Nothing-clause-kept c =
+    record { inputs = c.requires.kept; ruled_out = (rw c.in-Nothing.is at c.requires.means_on_kept).1 }
+
+pub returns-in-NoCase-clause-kept : goal.returns-in-NoCase-clause-kept
+returns-in-NoCase-clause-kept c =
+    let k = task_with c.args.runs.now.task.now in
+    record {
+      inputs = c.requires.kept;
+      ruled_out = none_kept k c.args.kept.now (rw c.in-NoCase.is at c.requires.means) c.requires.kept;
+    }

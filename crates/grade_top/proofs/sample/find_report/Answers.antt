@@ -40,5 +40,5 @@ returns c =
         task = subst (λ (ts : List (List ℕ)). (graded_step ts).gives k) made c.in_ok-graded.ensures.task;
         answer = c.in_ok-graded.ensures.answered shown.answer shown.stands;
       };
-      shows = record { text = shown.text_is; status = c.answer_status.ensures k shown.answer shown.stands };
+      shows = record { text = shown.text_is; status = c.answer_status.ensures.written k shown.answer shown.stands };
     }
