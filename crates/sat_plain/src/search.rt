@@ -149,7 +149,7 @@ impl<'a> Search<'a> {
         Ok(Some(place))
     }
 
-    /// The values of the variables; false for one that has none.
+    /// The values of the variables, as the literals that are true say.
     pub fn truths(&self, alloc: Global) -> Result<Truths, NoMemory>
         ensures many { IfOk result (λ values. length values ≡ self.now.vars) }
         ensures satisfied { IsFull self.now
