@@ -27,7 +27,7 @@ pub use laws::{
     greatest_cost_is_reached, selections_are_rewritings, trees_have_the_types_of_terms,
 };
 pub use making::plain_expr;
-pub use node::{Node, Pick};
+pub use node::{Node, Pick, expr_child};
 pub use rules::{
     ArithOps, CmpOps, Meta, PArith, PCmp, PExpr, PExprs, Pattern, Place, Right, Rule, Rules,
 };

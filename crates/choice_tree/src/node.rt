@@ -95,8 +95,9 @@ impl<'a> Node<'a> {
     }
 }
 
-// The child of an expression at a place.
-fn expr_child(e: &WExpr, i: u128) -> Option<&WExpr>
+/// The child of an expression at a place: a part, as they are written, or of a pick its base and
+/// then the trees of its other members.
+pub fn expr_child(e: &WExpr, i: u128) -> Option<&WExpr>
     ensures tree { option_map expr_of result ≡ slice_get (children (weighted_of e.now)) i }
     ensures near { IsSome result → i ≤ 2 ^ 64 }
 {
