@@ -1,0 +1,23 @@
+//! Weighted expressions as words of bits, over any logic.
+#![tactic(auto)]
+
+pub mod arithmetic;
+pub mod builtins;
+pub mod choices;
+pub mod comparisons;
+pub mod env;
+pub mod laws;
+pub mod literals;
+pub mod locals;
+pub mod nodes;
+pub mod operands;
+pub mod operations;
+pub mod sequences;
+pub mod shortcuts;
+pub mod strict;
+pub mod walk;
+
+pub use env::{Env, Picks};
+pub use laws::plain_expressions_have_the_type;
+pub use nodes::sym_node;
+pub use walk::sym_expr;
