@@ -87,11 +87,11 @@ changed_is whole new w n k long le lt item =
     (λ other. sym (get_or-set_other (take n whole) k i w [] other ∙ get_or-take n whole i [] small)))
 
 pub put_is : (z : ℤ) (place : List Bool) (n : ℕ) (w : List Bool) (whole new : List (List Bool)) (outside : Bool) → 0 < length place → int_of place ≡ from_front z n → n ≤ length whole → length new ≡ length whole
-    → outside ≡ (is_negative (int_of place) || not (lt_z z (pos n))) → ((i : ℕ) → i < length whole → get_or new i [] ≡ cond (eqb i (nat_of place)) w (get_or whole i []))
+    → outside ≡ (is_negative (int_of place) || not (lt_z z (pos n))) → (nat_of place < length whole → (i : ℕ) → i < length whole → get_or new i [] ≡ cond (eqb i (nat_of place)) w (get_or whole i []))
     → PutIs outside (take n new) (take n whole) w (index_in z n)
 put_is z place n w whole new outside some at le long e item =
     by_place (PutIs outside (take n new) (take n whole) w) z place n outside some at e (λ h. h)
-    (λ k inside lt same. (inside, changed_is whole new w n k long le lt (λ i l. item i l ∙ ap (λ (j : ℕ). cond (eqb i j) w (get_or whole i [])) same)))
+    (λ k inside lt same. (inside, changed_is whole new w n k long le lt (λ i l. item (omega arith) i l ∙ ap (λ (j : ℕ). cond (eqb i j) w (get_or whole i [])) same)))
 
 -- the same, with what a later state reads
 pub outside_as : (p : ℤ) {r : Bool} {z z' : ℤ} {n n' : ℕ} → r ≡ (is_negative p || not (lt_z z (pos n))) → z ≡ z' → n ≡ n' → r ≡ (is_negative p || not (lt_z z' (pos n')))

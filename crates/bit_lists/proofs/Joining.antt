@@ -78,7 +78,7 @@ joined_within xs ys raised new n m total cap fault alike long many h k e sum up 
 
 pub appended_within : (xs new : List (List Bool)) (w : List Bool) (n total cap : ℕ) (fault : Bool) → length new ≡ length xs → cap ≡ length xs → n ≤ length xs
     → fault ≡ not (nat_le (n + 1) cap) → (nat_le (n + 1) cap ≡ true → total ≡ n + 1)
-    → ((k : ℕ) → k < length xs → get_or new k [] ≡ cond (eqb k n) w (get_or xs k []))
+    → (n < length xs → (k : ℕ) → k < length xs → get_or new k [] ≡ cond (eqb k n) w (get_or xs k []))
     → ReadsWithin cap fault (take total new) (take n xs ++ w ∷ [])
 appended_within xs new w n total cap fault long many h e sum item =
     let first : length (take n xs) ≡ n = length_taken n xs h in
@@ -88,7 +88,7 @@ appended_within xs new w n total cap fault long many h e sum item =
       reads_as = λ small.
           let fits : nat_le (n + 1) cap ≡ true = ap (λ (l : ℕ). nat_le l cap) (sym both) ∙ small in
           let le = leb-true (n + 1) cap fits in
-          ap (λ (l : ℕ). take l new) (sum fits) ∙ appended_is xs new w n long (omega arith) item;
+          ap (λ (l : ℕ). take l new) (sum fits) ∙ appended_is xs new w n long (omega arith) (item (omega arith));
     }
 
 -- the same, with what a later state reads
@@ -103,8 +103,8 @@ spliced_as back new {n} {n'} {count} {xs} {xs'} e f long h k l =
     same ∙ ap (λ (j : ℕ). cond (ltb k j) (get_or xs' k []) (get_or back k [])) e ∙ ap (λ (v : List (List Bool)). cond (ltb k n) (get_or v k []) (get_or back k [])) f
 
 pub added_as : (new : List (List Bool)) {n n' count : ℕ} {w w' : List Bool} {xs xs' : List (List Bool)} → n' ≡ n → w' ≡ w → xs' ≡ xs → length xs ≡ count
-    → ((k : ℕ) → k < count → get_or new k [] ≡ cond (eqb k n') w' (get_or xs' k []))
-    → (k : ℕ) → k < length xs → get_or new k [] ≡ cond (eqb k n) w (get_or xs k [])
-added_as new {n} {n'} {count} {w} {w'} {xs} {xs'} e d f long h k l =
-    let same = h k (omega arith) in
+    → (n' < count → (k : ℕ) → k < count → get_or new k [] ≡ cond (eqb k n') w' (get_or xs' k []))
+    → n < length xs → (k : ℕ) → k < length xs → get_or new k [] ≡ cond (eqb k n) w (get_or xs k [])
+added_as new {n} {n'} {count} {w} {w'} {xs} {xs'} e d f long h few k l =
+    let same = h (omega arith) k (omega arith) in
     same ∙ ap (λ (j : ℕ). cond (eqb k j) w' (get_or xs' k [])) e ∙ ap (λ (v : List Bool). cond (eqb k n) v (get_or xs' k [])) d ∙ ap (λ (v : List (List Bool)). cond (eqb k n) w (get_or v k [])) f

@@ -12,3 +12,4 @@ pub mod Repeating
 pub mod Ranging
 pub mod Within
 pub mod Constant
+pub mod Decoding

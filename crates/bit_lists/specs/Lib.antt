@@ -4,3 +4,4 @@ pub mod Places
 pub mod Slices
 pub mod Repeats
 pub mod Ranges
+pub mod Decoders

@@ -1,14 +1,16 @@
 //! One of the items by a number in bits, and items chosen by whether they stand below a number.
 
 ghost use Rattle.std.specs.Prelude.{◌≡◌, ◌<◌, ◌≤◌, ℕ, Bool, List, length, if◌then◌else◌, nat_lt};
-ghost use Rattle.std.specs.Prelude.{nat_eq, IfOk, map};
+ghost use Rattle.std.specs.Prelude.{nat_eq, IfOk, map, replicate, true, false};
 ghost use Rattle.bit_words.specs.Logic.{Extends, OwnsAll};
 ghost use Rattle.bit_words.specs.Results.{IsWordIn};
 ghost use Rattle.bit_words.specs.Words.{nat_read};
 ghost use Rattle.bit_lists.specs.Lists.{AreWordsIn, word_at, words_read};
 
 use crate::NoMemory;
-use bit_words::bitwise::choose_word;
+use crate::decoder::decoded;
+use bit_words::bitwise::{choose_word, zeros};
+use bit_words::gates::or;
 use bit_words::logic::Logic;
 use bit_words::order::{equal_number, less_number};
 use bit_words::word::Word;
@@ -76,7 +78,39 @@ pub fn splice<L: Logic>(
     Ok(spliced)
 }
 
-/// The item at the place that a number says, or any item where none stands there.
+/// A word where a bit is true, and another where it isn't. The other one reads as zeros where the
+/// bit is true, so that two gates a bit will do.
+#[tactic(auto, using(crate::proofs::Held::steps))]
+fn overlaid<L: Logic>(
+    alloc: Global,
+    g: &mut L,
+    test: L::Bit,
+    word: &Word<L::Bit>,
+    under: &Word<L::Bit>,
+) -> Result<Word<L::Bit>, NoMemory>
+    requires test { L.owns g.old test }
+    requires alike { length under.now ≡ length word.now }
+    requires word { OwnsAll L.owns g.old word.now }
+    requires under { OwnsAll L.owns g.old under.now }
+    ensures extends { Extends L.owns L.reads L.count g.old g.new }
+    ensures made { IfOk result (λ r. IsWordIn L.owns g.new (length word.now) r) }
+    ensures value { IfOk result (λ r. (vs : List Bool) →
+        (L.reads g.old vs test ≡ true →
+        map (L.reads g.old vs) under.now ≡ replicate (length word.now) false) →
+        map (L.reads g.new vs) r
+        ≡ (if L.reads g.old vs test then map (L.reads g.old vs) word.now
+        else map (L.reads g.old vs) under.now)) }
+{
+    let mut overlaid = Word::new(alloc);
+    for i in 0..word.len() {
+        let both = g.and(test, word.at(i))?;
+        let digit = or(g, under.at(i), both)?;
+        overlaid.push(digit)?;
+    }
+    Ok(overlaid)
+}
+
+/// The item at the place that a number says, or any bits where none stands there.
 #[tactic(auto, using(crate::proofs::Held::steps))]
 pub fn item_at<L: Logic>(
     alloc: Global,
@@ -86,7 +120,6 @@ pub fn item_at<L: Logic>(
 ) -> Result<Word<L::Bit>, NoMemory>
     ghost width: { ℕ }
     requires some { 0 < length items.now }
-    requires few { length items.now ≤ 16 }
     requires number { OwnsAll L.owns g.old number.now }
     requires items { AreWordsIn L.owns g.old width items.now }
     ensures extends { Extends L.owns L.reads L.count g.old g.new }
@@ -96,15 +129,16 @@ pub fn item_at<L: Logic>(
         map (L.reads g.new vs) r ≡ word_at (words_read L.reads g.old vs items.now)
         (nat_read L.reads g.old vs number.now)) }
 {
-    let mut item = items.at(0).copy()?;
-    for j in 1..items.len() {
-        let here = is_place(g, j, number)?;
-        item = choose_word(alloc, g, here, items.at(j), &item)?;
+    let places = decoded(alloc, g, number, items.len())?;
+    let mut item = zeros(alloc, g, items.at(0).len())?;
+    for j in 0..items.len() {
+        item = overlaid(alloc, g, places.at(j), items.at(j), &item)?;
     }
     Ok(item)
 }
 
-/// The items, but for a word at the place that a number says.
+/// The items, but for a word at the place that a number says. Where the number isn't a place, the
+/// items are open.
 #[tactic(auto, using(crate::proofs::Held::steps))]
 pub fn with_item<L: Logic>(
     alloc: Global,
@@ -114,23 +148,23 @@ pub fn with_item<L: Logic>(
     items: &Words<L::Bit>,
 ) -> Result<Words<L::Bit>, NoMemory>
     ghost width: { ℕ }
-    requires few { length items.now ≤ 16 }
     requires number { OwnsAll L.owns g.old number.now }
     requires word { IsWordIn L.owns g.old width word.now }
     requires items { AreWordsIn L.owns g.old width items.now }
     ensures extends { Extends L.owns L.reads L.count g.old g.new }
     ensures made { IfOk result (λ r. AreWordsIn L.owns g.new width r) }
     ensures many { IfOk result (λ r. length r ≡ length items.now) }
-    ensures value { IfOk result (λ r. (vs : List Bool) (k : ℕ) → k < length items.now →
-        word_at (words_read L.reads g.new vs r) k
+    ensures value { IfOk result (λ r. (vs : List Bool) →
+        nat_read L.reads g.old vs number.now < length items.now →
+        (k : ℕ) → k < length items.now → word_at (words_read L.reads g.new vs r) k
         ≡ (if nat_eq k (nat_read L.reads g.old vs number.now)
         then map (L.reads g.old vs) word.now
         else word_at (words_read L.reads g.old vs items.now) k)) }
 {
+    let places = decoded(alloc, g, number, items.len())?;
     let mut changed = Words::new(alloc);
     for j in 0..items.len() {
-        let here = is_place(g, j, number)?;
-        let item = choose_word(alloc, g, here, word, items.at(j))?;
+        let item = choose_word(alloc, g, places.at(j), word, items.at(j))?;
         changed.push(item)?;
     }
     Ok(changed)

@@ -4,6 +4,7 @@
 pub mod choices;
 pub mod compare;
 pub mod constants;
+pub mod decoder;
 pub mod items;
 pub mod joins;
 pub mod lengths;

@@ -9,9 +9,9 @@ abbrev pub invariant-loop-j : goal.invariant-loop-j
 invariant-loop-j g l =
     let reads = g.L.Logic.reads in
     record {
-      extends : Extends g.L.Logic.owns reads g.L.Logic.count l.fn.g l.g;
+      extends : Extends g.L.Logic.owns reads g.L.Logic.count l.initial.g l.g;
       made : AreWordsIn g.L.Logic.owns l.g g.width l.changed;
       many : length l.changed ≡ l.j;
-      value : (vs : List Bool) (k : ℕ) → k < l.j → word_at (words_read reads l.g vs l.changed) k
+      value : (vs : List Bool) → nat_read reads l.fn.g vs l.number < length l.items → (k : ℕ) → k < l.j → word_at (words_read reads l.g vs l.changed) k
           ≡ cond (nat_eq k (nat_read reads l.fn.g vs l.number)) (map (reads l.fn.g vs) l.word) (word_at (words_read reads l.fn.g vs l.items) k);
     }

@@ -32,7 +32,7 @@ item_at-requires g c κs h =
     let needs = c.requires.1.1 in
     let until = extends_trans c.place.ensures.extends c.is_outside.ensures.extends in
     let spot = word_is c.as_slice.ensures (word_kept c.is_outside.ensures.extends c.in_ok-spot.ensures.made) in
-    (h.0, (h.1, (needs.0, (needs.1.0, (spot.owned, words_kept until needs.1.1.0.items_of)))))
+    (h.0, (h.1, (needs.0, (spot.owned, words_kept until needs.1.1.0.items_of))))
 
 pub returns-clause-owned : goal.returns-clause-owned
 returns-clause-owned g c = c.item_at.ensures.extends.kept _ c.in_ok-fault.ensures.owned

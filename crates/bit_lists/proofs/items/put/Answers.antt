@@ -26,7 +26,7 @@ pub with_item-requires : goal.with_item-requires
 with_item-requires g c κs h =
     let until = extends_trans c.place.ensures.extends c.is_outside.ensures.extends in
     let spot = word_is c.as_slice.ensures (word_kept c.is_outside.ensures.extends c.in_ok-spot.ensures.made) in
-    (h.0, (h.1, (c.requires.few, (spot.owned, (record { owned = owns_kept until c.requires.word; width = refl }, words_kept until c.requires.list.items_of)))))
+    (h.0, (h.1, (spot.owned, (record { owned = owns_kept until c.requires.word; width = refl }, words_kept until c.requires.list.items_of))))
 
 pub returns-clause-made : goal.returns-clause-made
 returns-clause-made g c =

@@ -15,7 +15,7 @@ pub with_item-requires : goal.with_item-requires
 with_item-requires g c κs h =
     let one = c.sum_within.ensures.extends in
     let number = word_is c.as_slice.ensures (word_kept one c.requires.list.length_of) in
-    (h.0, (h.1, (c.requires.few, (number.owned, (record { owned = owns_kept one c.requires.word; width = refl }, words_kept one c.requires.list.items_of)))))
+    (h.0, (h.1, (number.owned, (record { owned = owns_kept one c.requires.word; width = refl }, words_kept one c.requires.list.items_of))))
 
 pub returns-clause-made : goal.returns-clause-made
 returns-clause-made g c = record { length_of = word_kept c.with_item.ensures.extends c.in_ok-total.ensures.made; items_of = c.in_ok-items.ensures.made; many = c.in_ok-items.ensures.many }
