@@ -68,6 +68,12 @@ place_other n i e =
     let below : nat_lt n (i + 1) ≡ nat_lt n i = grind (arith, nat_tests) in
     ap (λ (b : Bool). cond b n 0) below
 
+pub place_is : (n i count : ℕ) → nat_eq n i ≡ true → i < count → place_chosen n count ≡ i
+place_is n i count e h =
+    let same : n ≡ i = eqb-true n i e in
+    let below : nat_lt n count ≡ true = grind (arith, nat_tests) in
+    ap (λ (b : Bool). cond b n 0) below ∙ same
+
 pub first_place : (n : ℕ) → place_chosen n 1 ≡ 0
 first_place zero = refl
 first_place (suc n) =

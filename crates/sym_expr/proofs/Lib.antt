@@ -10,6 +10,7 @@ pub mod Choosing
 pub mod Lookups
 pub mod HeadRules
 pub mod Members
+pub mod Settling
 pub mod TreeTypes
 pub mod Walks
 pub mod Slicing

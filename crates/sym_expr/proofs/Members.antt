@@ -87,7 +87,7 @@ same_place true = refl
 same_place false = refl
 
 -- the child that is chosen
-chosen_child : (m : ℕ → ℕ) (i : ℕ) (base : Weighted) (others : Others)
+pub chosen_child : (m : ℕ → ℕ) (i : ℕ) (base : Weighted) (others : Others)
     → (w : Weighted) × (slice_get (base ∷ other_trees others) (place_chosen i (length (base ∷ other_trees others))) ≡ Some w) × (plain m w ≡ chosen i (plain m base) (other_plains m others))
 chosen_child m zero base others = (base, ap (slice_get (base ∷ other_trees others)) (same_place (nat_lt 0 (length (base ∷ other_trees others)))), refl)
 chosen_child m (suc i) base others = elim (there (other_trees others) i) [

@@ -1,15 +1,21 @@
 -- The types of weighted trees, by their children.
-use Rattle.std.proofs.Common.{◌≡◌, ◌<◌, ℕ, zero, suc, List, length, [], ◌∷◌, map, slice_get, refl, sym, ap, ◌∙◌, Option, Some, None, IsSome, is_some, subst}
+use Rattle.std.proofs.Common.{◌≡◌, ◌<◌, ℕ, zero, suc, Bool, true, false, arith, List, length, [], ◌∷◌, map, slice_get, refl, sym, ap, ◌∙◌, Option, Some, None, IsSome, is_some, subst}
 use Rattle.mpy_tree.specs.declared.typing.Ty.{Ty}
 use Rattle.mpy_tree.specs.Options.{◌>>=◌}
-use Rattle.mpy_tree.specs.Rules.{choice_type}
-use Rattle.choice_tree.specs.Typing.{Scope, node_type}
+use Rattle.mpy_tree.specs.declared.typing.Ty.TheVariants as ty
+use Rattle.mpy_tree.specs.Rules.{both_are, choice_type}
+use Rattle.choice_tree.specs.Heads.{HasParts}
+use Rattle.choice_tree.specs.Typing.{Scope, node_type, of_three, of_two}
 use Rattle.choice_tree.specs.WeightedTrees.{Weighted, Weighteds, Others, plainly, pick, no_weighted, weighted_and, no_others, other_and, children, listed, other_trees}
 use Rattle.sym_expr.specs.Environments.{AllHavePicks, HasPick, HasPicks, OthersHavePicks}
 use Rattle.sym_expr.specs.Members.{common, common_type}
 use Rattle.mpy_tree.specs.Trees.{Kind}
+use Rattle.mpy_tree.specs.Trees as kind
 use Rattle.sym_expr.specs.Plain.{kind_of, number_of, other_types, root_type, type_of, types_of, where_all}
-use Rattle.sym_expr.proofs.TypeRules.{some_type}
+use Rattle.sym_expr.specs.Nodes.{side_kind}
+use Rattle.sym_expr.specs.Roots.{IsNodeAt}
+use Rattle.sym_expr.proofs.Choosing.{after_choice}
+use Rattle.sym_expr.proofs.TypeRules.{both_truth, choice_is, some_type}
 
 listed_types : (σ : Scope) (ws : Weighteds) → types_of σ ws ≡ map (type_of σ) (listed ws)
 listed_types σ no_weighted = refl
@@ -95,3 +101,95 @@ pick_root σ n (pick number base ms) os e = refl
 pub pick_there : {B : Type 0} (picks : List (List B)) (n : ℕ) (w : Weighted) → HasPick picks w → Some n ≡ number_of w → n < length picks
 pick_there picks n (plainly k ws) h e = absurd cc
 pick_there picks n (pick number base ms) h e = let same : number ≡ n = cc in subst (λ (i : ℕ). i < length picks) same h
+
+-- the children of a node of two parts, and of three
+two_kids : (ws : List Weighted) → length ws ≡ 2 → (a b : Weighted) × (ws ≡ a ∷ b ∷ [])
+two_kids [] e = absurd cc
+two_kids (a ∷ []) e = absurd (omega (arith, e))
+two_kids (a ∷ b ∷ []) e = (a, b, refl)
+two_kids (a ∷ b ∷ d ∷ ws) e = absurd (omega (arith, e))
+
+three_kids : (ws : List Weighted) → length ws ≡ 3 → (a b d : Weighted) × (ws ≡ a ∷ b ∷ d ∷ [])
+three_kids [] e = absurd cc
+three_kids (a ∷ []) e = absurd (omega (arith, e))
+three_kids (a ∷ b ∷ []) e = absurd (omega (arith, e))
+three_kids (a ∷ b ∷ d ∷ []) e = (a, b, d, refl)
+three_kids (a ∷ b ∷ d ∷ x ∷ ws) e = absurd (omega (arith, e))
+
+side_count : (stop : Bool) (n : ℕ) → HasParts (side_kind stop) n → n ≡ 2
+side_count true n h = h
+side_count false n h = h
+
+pub side_kids : (stop : Bool) (w : Weighted) → IsNodeAt w (side_kind stop) → (a b : Weighted) × (children w ≡ a ∷ b ∷ [])
+side_kids stop w h = two_kids (children w) (side_count stop (length (children w)) h.parts)
+
+pub cond_kids : (w : Weighted) → IsNodeAt w kind.Cond → (a b d : Weighted) × (children w ≡ a ∷ b ∷ d ∷ [])
+cond_kids w h = three_kids (children w) h.parts
+
+two_there : (f : Ty → Ty → Option Ty) (o r : Option Ty) (t : Ty) → of_two f (o ∷ r ∷ []) ≡ Some t → (u v : Ty) × (o ≡ Some u) × (r ≡ Some v) × (f u v ≡ Some t)
+two_there f None r t e = absurd cc
+two_there f (Some u) None t e = absurd cc
+two_there f (Some u) (Some v) t e = (u, v, refl, refl, e)
+
+three_there : (f : Ty → Ty → Ty → Option Ty) (o r q : Option Ty) (t : Ty) → of_three f (o ∷ r ∷ q ∷ []) ≡ Some t
+    → (u v x : Ty) × (o ≡ Some u) × (r ≡ Some v) × (q ≡ Some x) × (f u v x ≡ Some t)
+three_there f None r q t e = absurd cc
+three_there f (Some u) None q t e = absurd cc
+three_there f (Some u) (Some v) None t e = absurd cc
+three_there f (Some u) (Some v) (Some x) t e = (u, v, x, refl, refl, refl, e)
+
+side_rule : (σ : Scope) (stop : Bool) (os : List (Option Ty)) → node_type σ (side_kind stop) os ≡ of_two (both_are ty.Bool) os
+side_rule σ true os = refl
+side_rule σ false os = refl
+
+-- both sides are truth values
+pub sides_typed : (σ : Scope) (stop : Bool) (w a b : Weighted) (t : Ty) → Some (side_kind stop) ≡ kind_of w → children w ≡ a ∷ b ∷ [] → type_of σ w ≡ Some t
+    → (type_of σ a ≡ Some ty.Bool) × (type_of σ b ≡ Some ty.Bool) × (t ≡ ty.Bool)
+sides_typed σ stop w a b t k c e =
+    let os = type_of σ a ∷ type_of σ b ∷ [] in
+    let whole : root_type σ w os ≡ Some t = ap (λ (ws : List Weighted). root_type σ w (map (type_of σ) ws)) (sym c) ∙ root_typed σ w t e in
+    let there = two_there (both_are ty.Bool) (type_of σ a) (type_of σ b) t (sym (side_rule σ stop os) ∙ sym (node_root σ (side_kind stop) w os k) ∙ whole) in
+    let truths = both_truth there.0 there.1 t there.4 in
+    (there.2 ∙ ap Some truths.0, there.3 ∙ ap Some truths.1, truths.2)
+
+-- both arms have the type
+pub arms_typed : (σ : Scope) (w a b d : Weighted) (t : Ty) → Some kind.Cond ≡ kind_of w → children w ≡ a ∷ b ∷ d ∷ [] → type_of σ w ≡ Some t
+    → (type_of σ a ≡ Some t) × (type_of σ d ≡ Some t)
+arms_typed σ w a b d t k c e =
+    let os = type_of σ a ∷ type_of σ b ∷ type_of σ d ∷ [] in
+    let whole : root_type σ w os ≡ Some t = ap (λ (ws : List Weighted). root_type σ w (map (type_of σ) ws)) (sym c) ∙ root_typed σ w t e in
+    let there = three_there (λ x y z. choice_type x z) (type_of σ a) (type_of σ b) (type_of σ d) t (sym (node_root σ kind.Cond w os k) ∙ whole) in
+    let same = choice_is there.0 there.2 t there.6 in
+    (there.3 ∙ ap Some (sym same.1), there.5 ∙ ap Some (same.0 ∙ sym same.1))
+
+common_end : (u t : Ty) (os : List (Option Ty)) → common u os ≡ Some t → t ≡ u
+common_end u t [] e = cc
+common_end u t (None ∷ os) e = absurd cc
+common_end u t (Some v ∷ os) e = common_end u t os (after_choice (choice_type u v) u t os e).2
+
+common_member : (u t : Ty) (os : List (Option Ty)) (i : ℕ) (o : Option Ty) → common u os ≡ Some t → slice_get os i ≡ Some o → o ≡ Some u
+common_member u t [] i o e f = absurd cc
+common_member u t (None ∷ os) i o e f = absurd cc
+common_member u t (Some v ∷ os) zero o e f =
+    let same : o ≡ Some v = cc in
+    let choice = after_choice (choice_type u v) u t os e in
+    same ∙ ap Some (choice_is u v choice.0 choice.1).0
+common_member u t (Some v ∷ os) (suc i) o e f = common_member u t os i o (after_choice (choice_type u v) u t os e).2 f
+
+member_has : (t : Ty) (os : List (Option Ty)) (i : ℕ) (o : Option Ty) → common_type os ≡ Some t → slice_get os i ≡ Some o → o ≡ Some t
+member_has t [] i o e f = absurd cc
+member_has t (None ∷ os) i o e f = absurd cc
+member_has t (Some u ∷ os) zero o e f = let same : o ≡ Some u = cc in same ∙ ap Some (sym (common_end u t os e))
+member_has t (Some u ∷ os) (suc i) o e f = common_member u t os i o e f ∙ ap Some (sym (common_end u t os e))
+
+-- each member of a pick has its type
+pub member_typed : (σ : Scope) (n : ℕ) (w child : Weighted) (i : ℕ) (t : Ty) → Some n ≡ number_of w → slice_get (children w) i ≡ Some child → type_of σ w ≡ Some t
+    → type_of σ child ≡ Some t
+member_typed σ n w child i t is at e =
+    let os = map (type_of σ) (children w) in
+    member_has t os i (type_of σ child) (sym (pick_root σ n w os is) ∙ root_typed σ w t e) (child_at σ (children w) i child at)
+
+-- a pick has a member
+pub some_member : (n : ℕ) (w : Weighted) → Some n ≡ number_of w → 0 < length (children w)
+some_member n (plainly k ws) e = absurd cc
+some_member n (pick number base ms) e = omega arith

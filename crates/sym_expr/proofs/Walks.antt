@@ -1,5 +1,6 @@
 -- A walk over the children of a weighted expression.
-use Rattle.std.proofs.Common.{◌≡◌, ◌+◌, ℕ, Bool, List, [], ◌∷◌, ◌++◌, All, map, take, slice_get, sym, ap, ◌∙◌, subst, Option, Some}
+use Rattle.std.proofs.Common.{◌≡◌, ◌+◌, ◌<◌, ℕ, zero, suc, Bool, true, false, List, [], ◌∷◌, ◌++◌, All, map, take, length, slice_get, sym, ap, ◌∙◌, subst, refl, arith, Option, Some, None}
+use Rattle.std.specs.Prelude.{if◌then◌else◌}
 use Rattle.std.proofs.lemmas.List.{map_push}
 use Rattle.std.proofs.lemmas.List.Elements.{All-push}
 use Rattle.std.specs.declared.result.Result.{Result}
@@ -43,3 +44,21 @@ plain_more rd value m kids i kid parts more o at before now e =
 -- the type of an outcome's value is that of its tree
 pub own_type : {S B : Type 0} {owns : S → B → Type 0} {s : S} (l : Limits) (t : Ty) (r : Option Ty) (o : SymOutcome B) → r ≡ Some t → IsOutcomeIn owns s (form_for l t) o → r ≡ Some (ty_of o.value)
 own_type l t r o e h = e ∙ ap Some (sym (type_is l t o.value h.form))
+
+-- the child at a place, where there are so many
+pub kid_at : (ws : List Weighted) (i : ℕ) → i < length ws → (w : Weighted) × (slice_get ws i ≡ Some w)
+kid_at [] i h = absurd (omega (arith, h))
+kid_at (w ∷ ws) zero h = (w, refl)
+kid_at (w ∷ ws) (suc i) h = kid_at ws i (omega (arith, h))
+
+pub no_kid : (ws : List Weighted) (i : ℕ) → None ≡ slice_get ws i → i < length ws → ⊥
+no_kid ws i e h = let kid = kid_at ws i h in let same : None ≡ Some kid.0 = e ∙ kid.1 in cc
+
+-- the arm that counts
+pub arm_at : (known : Bool) (ws : List Weighted) (a b d : Weighted) (place : ℕ) → ws ≡ a ∷ b ∷ d ∷ [] → place ≡ (if known then 0 else 2) → slice_get ws place ≡ Some (if known then a else d)
+arm_at true ws a b d place e p = (λ i. slice_get (e i) (p i))
+arm_at false ws a b d place e p = (λ i. slice_get (e i) (p i))
+
+pub arm_type : (f : Weighted → Option Ty) (known : Bool) (a d : Weighted) (t : Ty) → f a ≡ Some t → f d ≡ Some t → f (if known then a else d) ≡ Some t
+arm_type f true a d t p q = p
+arm_type f false a d t p q = q

@@ -90,6 +90,16 @@ and_result line a b = a >>= λ v. both v b line
 abbrev pub or_result : ℕ → Result Value Halted → Result Value Halted → Result Value Halted
 or_result line a b = a >>= λ v. either v b line
 
+-- `and`, which a left side that is false settles, and `or`, which one settles that is true
+abbrev pub side_kind : Bool → Kind
+side_kind false = kind.And
+side_kind true = kind.Or
+
+abbrev pub side_result : Bool → ℕ → Result Value Halted → Result Value Halted
+    → Result Value Halted
+side_result false = and_result
+side_result true = or_result
+
 abbrev pub cond_result : Result Value Halted → Result Value Halted → Result Value Halted
     → Result Value Halted
 cond_result t a b = t >>= λ v. if holds v then a else b

@@ -1,6 +1,6 @@
 -- The parts of a node as bits: their types, what they read as, and what an operation on them owes
 -- the language's own.
-use Rattle.std.specs.Prelude.{◌≡◌, Bool, false, ◌||◌, List, [], ◌∷◌, All, map}
+use Rattle.std.specs.Prelude.{◌≡◌, Bool, true, false, ◌||◌, List, [], ◌∷◌, All, map, ◌⊎◌}
 use Rattle.std.specs.Prelude.{Option, Some, None}
 use denote.Ref.{Bor}
 use Rattle.std.specs.declared.result.Result.{Result}
@@ -8,6 +8,7 @@ use Rattle.mpy_tree.specs.declared.limits.Limits.{Limits}
 use Rattle.mpy_tree.specs.declared.typing.Ty.{Ty}
 use Rattle.mpy_tree.specs.declared.typing.Ty.TheVariants as ty
 use Rattle.mpy_tree.specs.declared.value.Value.{Value}
+use Rattle.mpy_tree.specs.declared.value.Value.TheVariants.{Bool as Truth}
 use Rattle.mpy_tree.specs.declared.outcome.Halt.{Halt}
 use Rattle.mpy_tree.specs.declared.outcome.Halted.{Halted}
 use Rattle.sym_values.specs.declared.value.SymValue.{SymValue}
@@ -72,6 +73,10 @@ abbrev pub PartsGive : {S B : Type 0} → (S → List Bool → B → Bool) → (
 PartsGive reads old new parts outcome op =
     (values : List Bool) (vs : List Value) → ValuesRead (reads old values) parts vs
     → OutcomeReads (reads new values) outcome (op vs)
+
+-- the left side of an `and` or an `or` settles it: it is a fault, or the value at which that stops
+abbrev pub Settles : {B : Type 0} → (B → Bool) → Bool → SymOutcome B → Type 0
+Settles rd stop o = (rd o.fault ≡ true) ⊎ (read rd o.value ≡ sure (Truth stop))
 
 -- whether one of some truth values is true
 abbrev pub any_true : List Bool → Bool

@@ -4,17 +4,23 @@ use Rattle.std.specs.declared.result.Result.{Result}
 use Rattle.mpy_tree.specs.declared.typing.Ty.{Ty}
 use Rattle.mpy_tree.specs.declared.value.Value.{Value}
 use Rattle.mpy_tree.specs.declared.outcome.Halted.{Halted}
+use Rattle.mpy_tree.specs.Expressions.{Calls, value_of}
 use Rattle.mpy_tree.specs.Options.{◌>>=◌}
 use Rattle.mpy_tree.specs.Syntax.{Term}
 use Rattle.mpy_tree.specs.Shapes.{shape}
 use Rattle.mpy_tree.specs.Trees.{Kind}
+use Rattle.mpy_tree.specs.Values.{State}
 use Rattle.choice_tree.specs.Typing.{Scope, node_type}
 use Rattle.choice_tree.specs.WeightedTrees.{Weighted, Weighteds, Others, plainly, pick}
 use Rattle.choice_tree.specs.WeightedTrees.{no_weighted, weighted_and, no_others, other_and}
 use Rattle.choice_tree.specs.Selections.{plain}
+use Rattle.sym_expr.specs.declared.env.Env.{Env}
+use Rattle.sym_expr.specs.Environments.{PicksRead, StateReads, scope_of}
 use Rattle.sym_expr.specs.Members.{common_type}
 use Rattle.sym_values.specs.declared.value.SymOutcome.{SymOutcome}
+use Rattle.sym_values.specs.Forms.{form_for}
 use Rattle.sym_values.specs.Reading.{OutcomeReads}
+use Rattle.sym_values.specs.Results.{IsOutcomeIn}
 
 -- the kind of a node that is no pick
 abbrev pub kind_of : Weighted → Option Kind
@@ -66,3 +72,18 @@ AllReadAsPlain rd value m (o ∷ os) (w ∷ ws) =
     ReadsAsPlain rd value m o w × AllReadAsPlain rd value m os ws
 AllReadAsPlain rd value m [] (w ∷ ws) = ⊥
 AllReadAsPlain rd value m (o ∷ os) [] = ⊥
+
+-- an outcome has the type of a tree
+abbrev pub HasTypeIn : {S B : Type 0} → (S → B → Type 0) → S → Env B → Weighted → SymOutcome B
+    → Type 0
+HasTypeIn owns s env w o =
+    (t : Ty) → type_of (scope_of env) w ≡ Some t → IsOutcomeIn owns s (form_for env.limits t) o
+
+-- under all truth values under which the names and the picks read as a state and as members, an
+-- outcome reads as what the plain expression gives
+abbrev pub GivesPlain : {S B : Type 0} → (S → List Bool → B → Bool) → (old new : S) → Env B
+    → Weighted → SymOutcome B → Type 0
+GivesPlain reads old new env w o =
+    (vs : List Bool) (s : State) (m : ℕ → ℕ) (calls : Calls) (line : ℕ)
+    → StateReads (reads old vs) env s → PicksRead (reads old vs) env.picks m
+    → ReadsAsPlain (reads new vs) (value_of env.limits calls s line) m o w

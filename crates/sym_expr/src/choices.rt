@@ -24,7 +24,7 @@ use std::alloc::Global;
 use sym_values::SymOutcome;
 
 /// Whether a number without a sign is a given one.
-fn is_place<L: Logic>(g: &mut L, bits: &[L::Bit], place: usize) -> Result<L::Bit, NoMemory>
+pub fn is_place<L: Logic>(g: &mut L, bits: &[L::Bit], place: usize) -> Result<L::Bit, NoMemory>
     requires { OwnsAll L.owns g.old bits.now }
     ensures extends { Extends L.owns L.reads L.count g.old g.new }
     ensures owned { IfOk result (λ r. L.owns g.new r) }

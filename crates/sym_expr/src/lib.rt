@@ -5,6 +5,7 @@ pub mod arithmetic;
 pub mod builtins;
 pub mod choices;
 pub mod comparisons;
+pub mod decided;
 pub mod env;
 pub mod laws;
 pub mod literals;

@@ -8,7 +8,7 @@ ghost use Rattle.bit_words.specs.Logic.{Extends};
 ghost use Rattle.sym_values.specs.Forms.{BoolForm, form_of};
 ghost use Rattle.sym_values.specs.Reading.{OutcomeReads};
 ghost use Rattle.sym_values.specs.Results.{IsOutcomeIn};
-ghost use Rattle.sym_expr.specs.Nodes.{and_result, cond_result, or_result};
+ghost use Rattle.sym_expr.specs.Nodes.{and_result, cond_result, or_result, side_result};
 
 use crate::operands::truth_of;
 use bit_words::NoMemory;
@@ -68,6 +68,30 @@ pub fn or_outcome<L: Logic>(
         value: SymValue::Bool(either),
         fault,
     })
+}
+
+/// `and` or `or`, by the truth value of the left side at which it stops.
+pub fn side_outcome<L: Logic>(
+    g: &mut L,
+    stop: bool,
+    a: &SymOutcome<L::Bit>,
+    b: &SymOutcome<L::Bit>,
+) -> Result<SymOutcome<L::Bit>, NoMemory>
+    requires left { IsOutcomeIn L.owns g.old BoolForm a.now }
+    requires right { IsOutcomeIn L.owns g.old BoolForm b.now }
+    ensures extends { Extends L.owns L.reads L.count g.old g.new }
+    ensures made { IfOk result (λ r. IsOutcomeIn L.owns g.new BoolForm r) }
+    ensures value { IfOk result (λ r. (vs : List Bool) (line : ℕ) (x y : Result Value Halted)
+        → OutcomeReads (L.reads g.old vs) a.now x → OutcomeReads (L.reads g.old vs) b.now y
+        → OutcomeReads (L.reads g.new vs) r (side_result stop line x y)) }
+{
+    if stop {
+        let either = or_outcome(g, a, b)?;
+        Ok(either)
+    } else {
+        let both = and_outcome(g, a, b)?;
+        Ok(both)
+    }
 }
 
 /// One outcome where a bit is true, and another of its form where it isn't.

@@ -10,10 +10,25 @@ use Rattle.sym_expr.specs.Plain.{AllReadAsPlain, type_of}
 use Rattle.sym_expr.proofs.walk.+walk.Given as goal
 
 abbrev pub decreases-sym_expr : goal.decreases-sym_expr
-decreases-sym_expr g l = 2 * nodes (weighted_of l.e.now) + 1
+decreases-sym_expr g l = 4 * nodes (weighted_of l.e.now) + 3
+
+abbrev pub decreases-sym_sides : goal.decreases-sym_sides
+decreases-sym_sides g l = 4 * nodes (weighted_of l.e.now) + 2
+
+abbrev pub decreases-sym_cond : goal.decreases-sym_cond
+decreases-sym_cond g l = 4 * nodes (weighted_of l.e.now) + 2
+
+abbrev pub decreases-sym_pick : goal.decreases-sym_pick
+decreases-sym_pick g l = 4 * nodes (weighted_of l.e.now) + 2
+
+abbrev pub decreases-sym_whole : goal.decreases-sym_whole
+decreases-sym_whole g l = 4 * nodes (weighted_of l.e.now) + 1
+
+abbrev pub decreases-sym_child : goal.decreases-sym_child
+decreases-sym_child g l = 4 * nodes (weighted_of l.e.now)
 
 abbrev pub decreases-sym_children : goal.decreases-sym_children
-decreases-sym_children g l = 2 * nodes (weighted_of l.e.now)
+decreases-sym_children g l = 4 * nodes (weighted_of l.e.now)
 
 -- the outcomes so far are those of the children so far
 abbrev pub invariant-sym_children-parts : goal.invariant-sym_children-parts
