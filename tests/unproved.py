@@ -1,10 +1,12 @@
 """Programs over crates of the repository, run unproved on a copy of them; nothing by itself.
 
-Such a program reads `input.txt` and answers each of its lines by one line that begins with `=`. HELPERS are functions
-that it may use: hexadecimal digits to bytes and back, and texts put behind others.
+Such a program reads `input.txt`, or standard input where many inputs are given to one build of it, and answers each line by
+one line that begins with `=`. HELPERS are functions that it may use: hexadecimal digits to bytes and back, and texts put
+behind others.
 """
 import argparse
 import os
+import re
 import shutil
 import subprocess
 import sys
@@ -67,23 +69,45 @@ class Harness:
         with open(os.path.join(self.crate, 'src/main.rt'), 'w') as out:
             out.write(program)
 
-    def printed(self, text):
-        """The lines that the program prints for an input. What is compiled runs to the end, the interpreter doesn't."""
-        with open(self.input, 'w') as out:
-            out.write(text)
-        options = ['--steps', '1000', '--seconds', '900', '--data', 'input.txt=' + self.input]
+    def ran(self, options, ended):
+        """What the program prints, where its run ends with this word. What is compiled runs to the end, the interpreter doesn't."""
+        options = ['--steps', '1000', '--seconds', '900'] + options
         run = subprocess.run(['rt', 'try'] + options, cwd=self.crate, capture_output=True, text=True)
-        if 'run=ended status=0' not in run.stdout + run.stderr:
+        if ended not in run.stdout + run.stderr:
             sys.exit(run.stdout[-3000:] + run.stderr[-3000:])
         return [line.removeprefix('| ').rstrip() for line in run.stdout.splitlines()]
 
+    def printed(self, text):
+        """The lines that the program prints for an input."""
+        with open(self.input, 'w') as out:
+            out.write(text)
+        return self.ran(['--data', 'input.txt=' + self.input], 'run=ended status=0')
+
     def answers(self, lines):
         """What the program answers to these lines."""
-        printed = self.printed(''.join(line + '\n' for line in lines))
-        given = [line[1:] for line in printed if line.startswith('=')]
-        if len(given) != len(lines):
-            sys.exit('%d answers to %d lines\n%s' % (len(given), len(lines), '\n'.join(printed[-30:])))
-        return given
+        return answers_in(self.printed(''.join(line + '\n' for line in lines)), lines)
+
+    def answers_to_each(self, inputs):
+        """What one build of the program answers to each of these lists of lines, which stand in standard input."""
+        folder = self.input + '.cases'
+        os.makedirs(folder)
+        for number, lines in enumerate(inputs):
+            with open(os.path.join(folder, '%05d' % number), 'w') as out:
+                out.writelines(line + '\n' for line in lines)
+        printed = '\n'.join(self.ran(['--cases', folder], 'cases=%d' % len(inputs)))
+        shutil.rmtree(folder)
+        parts = re.split(r'^== \d{5}$', printed, flags=re.MULTILINE)[1:]
+        if len(parts) != len(inputs):
+            sys.exit('%d outputs for %d inputs\n%s' % (len(parts), len(inputs), printed[-3000:]))
+        return [answers_in(part.splitlines(), lines) for part, lines in zip(parts, inputs)]
+
+
+def answers_in(printed, lines):
+    """The answers among the lines that a program printed, as many as the lines that it was given."""
+    given = [line[1:] for line in printed if line.startswith('=')]
+    if len(given) != len(lines):
+        sys.exit('%d answers to %d lines\n%s' % (len(given), len(lines), '\n'.join(printed[-30:])))
+    return given
 
 
 def in_batches(given, size):

@@ -31,6 +31,29 @@ def operand_bits(value, limits, junk):
     return bits_of(len(value), 5) + items + junk[:limits.width * limits.cap - len(items)]
 
 
+def parts(bits, sizes):
+    """The words of these sizes that stand one behind another."""
+    words, at = [], 0
+    for size in sizes:
+        words.append(bits[at:at + size])
+        at += size
+    return words
+
+
+def spelled(kind, words):
+    """The value of a type that these words spell, or None for a length that is too great."""
+    if kind == 'b':
+        return words[0] == '1'
+    if kind == 'n':
+        return signed(words[0])
+    count = number_of(words[0])
+    if count > len(words) - 1:
+        return None
+    if kind == 'l':
+        return tuple(map(signed, words[1:count + 1]))
+    return ''.join(chr(number_of(it)) for it in words[1:count + 1])
+
+
 class Circuit:
     """A circuit, by the program's answer."""
 
@@ -62,20 +85,7 @@ class Circuit:
         """The outcome that these bits spell: a value, a list for a fault, or None for a length that is too great."""
         if bits[0] == '1':
             return ['fault']
-        words, at = [], 1
-        for word in self.words:
-            words.append(bits[at:at + len(word)])
-            at += len(word)
-        if self.kind == 'b':
-            return words[0] == '1'
-        if self.kind == 'n':
-            return signed(words[0])
-        count = number_of(words[0])
-        if count > len(words) - 1:
-            return None
-        if self.kind == 'l':
-            return tuple(map(signed, words[1:count + 1]))
-        return ''.join(chr(number_of(it)) for it in words[1:count + 1])
+        return spelled(self.kind, parts(bits[1:], map(len, self.words)))
 
     def outcomes(self, operands):
         """What the circuit gives for each of these operands."""

@@ -1,123 +1,29 @@
 """A program over values as bits and the graph of gates, run unproved on a copy of the crates.
 
-A value is written `n` with a number, `b` with 1 or 0, `l` with numbers between commas, or `t` with characters in hexadecimal.
-`table WIDTH CAP VALUES..` sets the limits, and values that are then named by their places. Each other line asks for circuits,
-and is answered by one line that begins with `=`; places are written `FROM-TO`, and TO isn't among them.
+Values, outcomes and circuits are written as `value_texts.py` says. `table WIDTH CAP VALUES..` sets the limits, and values that
+are then named by their places. Each other line asks for circuits, and is answered by one line that begins with `=`; places are
+written `FROM-TO`, and TO isn't among them.
 
 - `all OPERATION PLACES..`: over all operands at these places, as constants. How many results there are, the digest of their
-  texts with a `;` behind each, and how many gates were made. The last operand changes fastest. A result is a value, `!` for a
-  fault, `?` for what isn't a constant, or `long` for a length that the items don't allow.
+  texts with a `;` behind each, and how many gates were made. The last operand changes fastest.
 - `each OPERATION PLACES..`: the same with the texts in place of their digest.
 - `given OPERATION PLACES`: the same texts for what is made of a value that is given: a literal, a constant, a zero.
-- `free OPERATION OPERANDS..`: an operand is a value, `*` with the letter of a type for free bits, or `*l` or `*t` with a length
-  that is constant. The circuit: the variables, the gates, the fault and the value, with `|` between them. Each bit is twice the
-  number of its source, and one more if it is the opposite. Source 0 is true, then come the variables, in the order of the
-  operands and of their bits, and then the gates. A word's bits have a `.` between them.
+- `free OPERATION OPERANDS..`: the circuit. An operand is a value, `*` with the letter of a type for free bits, or `*l` or `*t`
+  with a length that is constant. The variables stand in the order of the operands and of their bits.
 - `gates OPERATION OPERANDS..`: how many gates that circuit has.
 
 Where MOST bytes were written the answer is `=later`, and `answers` asks again.
 """
 import unproved
 from value_calls import CALLS, USES
+from value_texts import CIRCUIT, KNOWN
 
 # The most bytes that are begun to be answered, as a run may write no more than 2^20.
 MOST = 500000
 PROGRAM = r'''
 //! Makes circuits of operations on values.
 #![tactic(auto)]
-''' + CALLS + r'''
-// Results that are constants
-
-fn known_digits(g: &Graph, bits: &[GraphBit]) -> Option<i64> {
-    let mut number = 0;
-    let mut weight = 1;
-    for bit in bits {
-        if g.known(*bit)? {
-            number += weight;
-        }
-        weight *= 2;
-    }
-    Some(number)
-}
-
-fn known_number(g: &Graph, bits: &[GraphBit]) -> Option<i64> {
-    let number = known_digits(g, bits)?;
-    if g.known(bits[bits.len() - 1])? {
-        Some(number - (1i64 << bits.len()))
-    } else {
-        Some(number)
-    }
-}
-
-fn put_known(alloc: Global, out: &mut String, number: Option<i64>) -> Result<(), anyhow::Error> {
-    match number {
-        Some(n) => {
-            let text = format!(in alloc; "{n}")?;
-            put(out, text.as_str())
-        }
-        None => put(out, "?"),
-    }
-}
-
-fn put_list(alloc: Global, out: &mut String, g: &Graph, list: ListParts<'_, GraphBit>) -> Result<(), anyhow::Error> {
-    let ListParts { len, items } = list;
-    let count = match known_digits(g, len.as_slice()) {
-        Some(n) => n as usize,
-        None => return put(out, "?"),
-    };
-    if count > items.len() {
-        return put(out, "long");
-    }
-    put(out, "l")?;
-    for i in 0..count {
-        if i > 0 {
-            put(out, ",")?;
-        }
-        put_known(alloc, out, known_number(g, items.at(i).as_slice()))?;
-    }
-    Ok(())
-}
-
-fn put_text(out: &mut String, g: &Graph, list: ListParts<'_, GraphBit>) -> Result<(), anyhow::Error> {
-    let ListParts { len, items } = list;
-    let count = match known_digits(g, len.as_slice()) {
-        Some(n) => n as usize,
-        None => return put(out, "?"),
-    };
-    if count > items.len() {
-        return put(out, "long");
-    }
-    put(out, "t")?;
-    for i in 0..count {
-        match known_digits(g, items.at(i).as_slice()) {
-            Some(character) => put_hex(out, &[character as u8])?,
-            None => put(out, "?")?,
-        }
-    }
-    Ok(())
-}
-
-fn put_outcome(alloc: Global, out: &mut String, g: &Graph, made: &SymOutcome<GraphBit>) -> Result<(), anyhow::Error> {
-    match g.known(made.fault) {
-        Some(false) => (),
-        Some(true) => return put(out, "!"),
-        None => return put(out, "?"),
-    }
-    match &made.value {
-        SymValue::Int(word) => {
-            put(out, "n")?;
-            put_known(alloc, out, known_number(g, word.as_slice()))
-        }
-        SymValue::Bool(bit) => match g.known(*bit) {
-            Some(true) => put(out, "b1"),
-            Some(false) => put(out, "b0"),
-            None => put(out, "?"),
-        },
-        SymValue::List { len, items } => put_list(alloc, out, g, ListParts { len, items }),
-        SymValue::Text { len, items } => put_text(out, g, ListParts { len, items }),
-    }
-}
-
+''' + CALLS + KNOWN + r'''
 // Requests over constants
 
 fn read_places(alloc: Global, words: &[&str]) -> Result<Vec<(usize, usize)>, anyhow::Error> {
@@ -228,58 +134,7 @@ fn free_value(alloc: Global, g: &mut Graph, limits: &Limits, text: &str) -> Resu
     }
 }
 
-fn put_bit(alloc: Global, out: &mut String, g: &Graph, bit: GraphBit) -> Result<(), anyhow::Error> {
-    let source = match bit.source() {
-        Source::Constant => 0,
-        Source::Variable(k) => k + 1,
-        Source::Made(k) => g.variables() + k + 1,
-    };
-    let number = if bit.is_positive() { 2 * source } else { 2 * source + 1 };
-    let text = format!(in alloc; "{number}")?;
-    put(out, text.as_str())
-}
-
-fn put_word(alloc: Global, out: &mut String, g: &Graph, bits: &[GraphBit]) -> Result<(), anyhow::Error> {
-    for (i, bit) in bits.iter().enumerate() {
-        if i > 0 {
-            put(out, ".")?;
-        }
-        put_bit(alloc, out, g, *bit)?;
-    }
-    Ok(())
-}
-
-fn put_items(alloc: Global, out: &mut String, g: &Graph, list: ListParts<'_, GraphBit>) -> Result<(), anyhow::Error> {
-    let ListParts { len, items } = list;
-    put_word(alloc, out, g, len.as_slice())?;
-    for i in 0..items.len() {
-        put(out, " ")?;
-        put_word(alloc, out, g, items.at(i).as_slice())?;
-    }
-    Ok(())
-}
-
-fn put_value(alloc: Global, out: &mut String, g: &Graph, value: &SymValue<GraphBit>) -> Result<(), anyhow::Error> {
-    match value {
-        SymValue::Int(word) => {
-            put(out, "n ")?;
-            put_word(alloc, out, g, word.as_slice())
-        }
-        SymValue::Bool(bit) => {
-            put(out, "b ")?;
-            put_bit(alloc, out, g, *bit)
-        }
-        SymValue::List { len, items } => {
-            put(out, "l ")?;
-            put_items(alloc, out, g, ListParts { len, items })
-        }
-        SymValue::Text { len, items } => {
-            put(out, "t ")?;
-            put_items(alloc, out, g, ListParts { len, items })
-        }
-    }
-}
-
+''' + CIRCUIT + r'''
 fn circuit(alloc: Global, g: &mut Graph, table: &Table, words: &[&str]) -> Result<SymOutcome<GraphBit>, anyhow::Error> {
     let mut values = Vec::new(alloc);
     for word in &words[2..] {
@@ -303,20 +158,8 @@ fn put_count(alloc: Global, out: &mut String, table: &Table, words: &[&str]) -> 
 fn put_circuit(alloc: Global, out: &mut String, table: &Table, words: &[&str]) -> Result<(), anyhow::Error> {
     let mut g = Graph::new(alloc)?;
     let result = circuit(alloc, &mut g, table, words)?;
-    let variables = g.variables();
-    let head = format!(in alloc; "={variables}|")?;
-    put(out, head.as_str())?;
-    for k in 0..g.gate_count() {
-        let gate = g.gate(k);
-        if k > 0 {
-            put(out, " ")?;
-        }
-        put_word(alloc, out, &g, &[gate.left, gate.right])?;
-    }
-    put(out, "|")?;
-    put_bit(alloc, out, &g, result.fault)?;
-    put(out, "|")?;
-    put_value(alloc, out, &g, &result.value)
+    put(out, "=")?;
+    put_gates(alloc, out, &g, &result)
 }
 
 // The program
