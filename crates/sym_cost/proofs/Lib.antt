@@ -1,0 +1,4 @@
+pub mod Choosing
+pub mod Kept
+pub mod Spelled
+pub mod Unary
