@@ -1,0 +1,11 @@
+pub mod Slots
+pub mod Places
+pub mod Paths
+pub mod Endings
+pub mod Locals
+pub mod Sights
+pub mod Sides
+pub mod Steps
+pub mod Items
+pub mod Storing
+pub mod Later

@@ -1,0 +1,55 @@
+//! A statement that sets a local.
+
+ghost use Rattle.std.specs.Prelude.{◌≡◌, Bool, List, [], ◌∷◌, Option, Some, IfOk};
+ghost use Rattle.std.specs.declared.result.Result.{Result};
+ghost use Rattle.mpy_tree.specs.declared.outcome.Halted.{Halted};
+ghost use Rattle.mpy_tree.specs.declared.typing.Ty.{Ty};
+ghost use Rattle.mpy_tree.specs.declared.value.Value.{Value};
+ghost use Rattle.mpy_tree.specs.Values.{State};
+ghost use Rattle.mpy_tree.specs.Statements.{store};
+ghost use Rattle.bit_words.specs.Logic.{Extends};
+ghost use Rattle.sym_values.specs.Forms.{form_for};
+ghost use Rattle.sym_values.specs.Reading.{OutcomeReads};
+ghost use Rattle.sym_values.specs.Results.{IsOutcomeIn};
+ghost use Rattle.sym_paths.specs.Paths.{way, gone_way, reached, HoldsPath};
+ghost use Rattle.sym_paths.specs.Endings.{see, seen_from, HoldsOut};
+ghost use Rattle.sym_paths.specs.Slots.{slot_forms, result_form, type_among};
+
+use crate::assign::assign;
+use crate::outs::out_next;
+use crate::path::{Out, Path};
+use crate::slots::Slots;
+use crate::split::narrow;
+use bit_words::NoMemory;
+use bit_words::logic::Logic;
+use mpy_tree::Name;
+use std::alloc::Global;
+use sym_values::SymOutcome;
+
+/// A local is set to an outcome of its type. Where that is a fault the path ends.
+pub fn out_stored<L: Logic>(
+    alloc: Global,
+    g: &mut L,
+    slots: &Slots,
+    path: Path<L::Bit>,
+    x: &Name,
+    outcome: SymOutcome<L::Bit>,
+) -> Result<Out<L::Bit>, NoMemory>
+    requires held { HoldsPath L.owns g.old (slot_forms slots.now) path }
+    requires typed { (t : Ty) × (type_among slots.now.names slots.now.types x.now ≡ Some t)
+        × IsOutcomeIn L.owns g.old (form_for slots.now.limits t) outcome }
+    ensures extends { Extends L.owns L.reads L.count g.old g.new }
+    ensures held { IfOk result (λ r.
+        HoldsOut L.owns g.new (slot_forms slots.now) (result_form slots.now) r) }
+    ensures value { IfOk result (λ r.
+        (vs : List Bool) (o : Option State) (k : State → Result Value Halted)
+        → gone_way slots.now.names (way (L.reads g.old vs) path ∷ []) ≡ reached o
+        → ((s : State) → o ≡ Some s → OutcomeReads (L.reads g.old vs) outcome (k s))
+        → see (L.reads g.new vs) slots.now.names r ≡ seen_from o (λ s. store s x.now (k s))) }
+{
+    let fine = g.not(outcome.fault);
+    let here = narrow(g, slots, path, fine)?;
+    let there = assign(g, slots, here, x, outcome.value);
+    let out = out_next(alloc, g, slots, there)?;
+    Ok(out)
+}

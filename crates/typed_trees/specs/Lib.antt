@@ -1,0 +1,4 @@
+pub mod Wholes
+pub mod TypedStatements
+pub mod Locals
+pub mod TypingLaws
