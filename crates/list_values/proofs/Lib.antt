@@ -5,3 +5,4 @@ pub mod Gives
 pub mod Singles
 pub mod Membership
 pub mod Written
+pub mod ByPlace

@@ -49,7 +49,7 @@ fn one_character<L: Logic>(
 }
 
 /// A word as an item of a list or a text: a number, or a text of one character.
-fn as_item<L: Logic>(
+pub(crate) fn as_item<L: Logic>(
     alloc: Global,
     g: &L,
     a: &SymValue<L::Bit>,

@@ -8,4 +8,5 @@ pub mod members;
 pub mod ranges;
 pub mod repeats;
 pub mod slices;
+pub mod turns;
 pub mod views;
