@@ -9,6 +9,7 @@ the type, and the bits of its value; then for each pick a `/` and the bits of it
 - `free`: the circuit of the only setting, whose variables stand in their order, or `many` where it has over GATES gates.
 """
 import unproved
+from value_settings import SETTINGS
 from value_texts import CIRCUIT, KNOWN
 
 # A run may write no more than 2^20 bytes.
@@ -205,55 +206,7 @@ fn read_expr(alloc: Global, text: &[u8], at: &mut usize) -> Result<WExpr, anyhow
     }
 }
 
-// Settings
-
-fn read_bit(g: &mut Graph, mark: u8) -> Result<GraphBit, anyhow::Error> {
-    if mark == b'*' {
-        return Ok(g.variable()?);
-    }
-    Ok(g.constant(mark == b'1'))
-}
-
-fn read_bits(alloc: Global, g: &mut Graph, marks: &[u8]) -> Result<Vec<GraphBit>, anyhow::Error> {
-    let mut bits = Vec::new(alloc);
-    for mark in marks {
-        bits.push(read_bit(g, *mark)?)?;
-    }
-    Ok(bits)
-}
-
-// A length, and items of so many bits.
-fn read_list(
-    alloc: Global,
-    g: &mut Graph,
-    marks: &[u8],
-    width: usize,
-) -> Result<(Bits<GraphBit>, Words<GraphBit>), anyhow::Error> {
-    let len = Bits::from_vec(read_bits(alloc, g, &marks[..5])?);
-    let mut items = Words::new(alloc);
-    for i in 0..(marks.len() - 5) / width {
-        let from = 5 + i * width;
-        items.push(Word::from_vec(read_bits(alloc, g, &marks[from..from + width])?))?;
-    }
-    Ok((len, items))
-}
-
-fn read_value(alloc: Global, g: &mut Graph, limits: &Limits, text: &[u8]) -> Result<SymValue<GraphBit>, anyhow::Error> {
-    let marks = &text[1..];
-    match text[0] {
-        b'n' => Ok(SymValue::Int(Word::from_vec(read_bits(alloc, g, marks)?))),
-        b'b' => Ok(SymValue::Bool(read_bit(g, marks[0])?)),
-        b'l' => {
-            let (len, items) = read_list(alloc, g, marks, limits.width as usize)?;
-            Ok(SymValue::List { len, items })
-        }
-        _ => {
-            let (len, items) = read_list(alloc, g, marks, 7)?;
-            Ok(SymValue::Text { len, items })
-        }
-    }
-}
-
+''' + SETTINGS + r'''
 fn read_names(alloc: Global, text: &str) -> Result<Names, anyhow::Error> {
     let mut names = Vec::new(alloc);
     for word in text.split(',') {
