@@ -11,7 +11,7 @@ use Rattle.choice_tree.specs.WeightedViews.{weighted_of, members, member_seen}
 use Rattle.choice_tree.specs.Selections.{cost, other_costs, chosen}
 use Rattle.choice_tree.specs.NodeViews.{own_pick, pick_of}
 use Rattle.choice_tree.proofs.Opening.{member_is, tree_of_member}
-use Rattle.sym_expr.specs.Environments.{OthersHavePicks, HasPicks}
+use Rattle.sym_nodes.specs.Environments.{OthersHavePicks, HasPicks}
 use Rattle.sym_cost.specs.declared.notation.Notation.{Notation}
 use Rattle.sym_cost.specs.Notations.{HasRoom, Spells}
 use Rattle.sym_cost.specs.Picked.{HasNoPick, tree_of_pick}

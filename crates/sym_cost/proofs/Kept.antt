@@ -4,7 +4,7 @@ use Rattle.bit_words.specs.Logic.{Extends, OwnsAll, extends_keeps}
 use Rattle.bit_words.specs.Later.{nat_later, owned_later, read_later}
 use Rattle.sym_values.specs.Forms.{joined}
 use Rattle.sym_values.specs.Owned.{owns_one}
-use Rattle.sym_expr.specs.Environments.{PicksRead}
+use Rattle.sym_nodes.specs.Environments.{PicksRead}
 use Rattle.sym_cost.specs.declared.notation.Notation.{Notation}
 use Rattle.sym_cost.specs.Notations.{IsCostIn, Spells, Writes}
 

@@ -12,7 +12,7 @@ ghost use Rattle.bit_words.specs.Logic.{Extends, OwnsAll};
 ghost use Rattle.bit_words.specs.Results.{IsWordIn};
 ghost use Rattle.bit_words.specs.Words.{int_read};
 ghost use Rattle.sym_values.specs.Forms.{joined};
-ghost use Rattle.sym_expr.specs.Environments.{HasPicks, OthersHavePicks, PicksRead};
+ghost use Rattle.sym_nodes.specs.Environments.{HasPicks, OthersHavePicks, PicksRead};
 ghost use Rattle.sym_cost.specs.Notations.{HasRoom, IsCostIn, Spells, Writes, counter, width_of};
 ghost use Rattle.sym_cost.specs.Picked.{HasNoPick, tree_of_pick};
 
@@ -24,7 +24,7 @@ use bit_words::logic::Logic;
 use bit_words::word::Word;
 use choice_tree::{Node, Other, Pick, WProg};
 use std::alloc::Global;
-use sym_expr::Picks;
+use sym_nodes::Picks;
 
 /// The cost of the chosen members as a word of 14 bits. Members that aren't chosen cost nothing,
 /// nor do picks in them. For a program without picks nothing is made.

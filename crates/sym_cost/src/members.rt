@@ -10,7 +10,7 @@ use bit_words::bitwise::choose_word;
 use bit_words::logic::Logic;
 use bit_words::word::Word;
 use std::alloc::Global;
-use sym_expr::choices::is_place;
+use sym_nodes::choices::is_place;
 
 /// One word where a number without a sign is that of a member, and another one where it isn't.
 pub fn member_or<L: Logic>(

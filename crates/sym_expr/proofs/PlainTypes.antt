@@ -8,11 +8,11 @@ use Rattle.choice_tree.specs.Selections.{chosen, other_plains, plain, plains}
 use Rattle.choice_tree.specs.Typing.{Scope, node_type}
 use Rattle.choice_tree.specs.Typing as trees
 use Rattle.choice_tree.specs.WeightedTrees.{Weighted, Weighteds, Others, plainly, pick, no_weighted, weighted_and, no_others, other_and}
-use Rattle.sym_expr.specs.Members.{common, common_type}
-use Rattle.sym_expr.specs.Plain.{other_types, type_of, types_of, where_all}
-use Rattle.sym_expr.proofs.Choosing.{after_choice}
-use Rattle.sym_expr.proofs.TreeTypes.{all_there}
-use Rattle.sym_expr.proofs.TypeRules.{choice_is}
+use Rattle.sym_nodes.specs.Members.{common, common_type}
+use Rattle.sym_nodes.specs.Plain.{other_types, type_of, types_of, where_all}
+use Rattle.sym_nodes.proofs.Choosing.{after_choice}
+use Rattle.sym_nodes.proofs.TreeTypes.{all_there}
+use Rattle.sym_nodes.proofs.TypeRules.{choice_is}
 
 first_there : (o : Option Ty) (os : List (Option Ty)) (r : Option Ty) (t : Ty) → where_all (o ∷ os) r ≡ Some t → (u : Ty) × (o ≡ Some u) × (where_all os r ≡ Some t)
 first_there None os r t e = absurd cc

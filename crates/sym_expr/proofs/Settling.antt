@@ -19,12 +19,12 @@ use Rattle.choice_tree.specs.Selections.{plain, plains}
 use Rattle.choice_tree.specs.WeightedTrees.{Weighted, Weighteds, plainly, pick, no_weighted, weighted_and, children, listed, other_trees}
 use Rattle.sym_values.specs.declared.value.SymOutcome.{SymOutcome}
 use Rattle.sym_values.specs.Reading.{IsOutcome, OutcomeReads, Reading, read, sure}
-use Rattle.sym_expr.specs.Members.{place_chosen}
-use Rattle.sym_expr.specs.Nodes.{cond_result, node_result, side_kind, side_result}
-use Rattle.sym_expr.specs.Plain.{ReadsAsPlain, kind_of, number_of}
-use Rattle.sym_expr.proofs.Members.{chosen_child}
-use Rattle.sym_expr.proofs.Outcomes.{cond_is}
-use Rattle.sym_expr.proofs.Terms.{subterms, term_result, term_shape}
+use Rattle.sym_nodes.specs.Members.{place_chosen}
+use Rattle.sym_nodes.specs.Nodes.{cond_result, node_result, side_kind, side_result}
+use Rattle.sym_nodes.specs.Plain.{ReadsAsPlain, kind_of, number_of}
+use Rattle.sym_nodes.proofs.Members.{chosen_child}
+use Rattle.sym_nodes.proofs.Outcomes.{cond_is}
+use Rattle.sym_nodes.proofs.Terms.{subterms, term_result, term_shape}
 
 -- terms whose trees are the plain trees of children
 abbrev ArePlain : (ℕ → ℕ) → List Term → List Weighted → Type 0

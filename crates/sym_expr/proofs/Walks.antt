@@ -15,10 +15,10 @@ use Rattle.sym_values.specs.declared.value.SymOutcome.{SymOutcome}
 use Rattle.sym_values.specs.Forms.{form_for}
 use Rattle.sym_values.specs.Results.{IsOutcomeIn}
 use Rattle.sym_values.proofs.Held.{take_read}
-use Rattle.sym_expr.specs.Operands.{ArePartsIn, IsPartIn, ty_of, types_of, values_of}
-use Rattle.sym_expr.specs.Plain.{AllReadAsPlain, ReadsAsPlain}
-use Rattle.sym_expr.proofs.Members.{one_more}
-use Rattle.sym_expr.proofs.Typed.{type_is}
+use Rattle.sym_nodes.specs.Operands.{ArePartsIn, IsPartIn, ty_of, types_of, values_of}
+use Rattle.sym_nodes.specs.Plain.{AllReadAsPlain, ReadsAsPlain}
+use Rattle.sym_nodes.proofs.Members.{one_more}
+use Rattle.sym_nodes.proofs.Typed.{type_is}
 
 pub parts_push : {S B : Type 0} {owns : S → B → Type 0} {s : S} {l : Limits} (parts more : List (SymOutcome B)) (o : SymOutcome B) → ArePartsIn owns s l parts → IsPartIn owns s l o → more ≡ parts ++ o ∷ []
     → ArePartsIn owns s l more

@@ -1,7 +1,3 @@
-pub mod Operands
-pub mod Nodes
-pub mod Members
-pub mod Environments
-pub mod Plain
-pub mod Roots
-pub mod Later
+pub mod Signatures
+pub mod Giving
+pub mod Bodiless

@@ -5,7 +5,7 @@ ghost use Rattle.mpy_tree.specs.declared.typing.Ty.{Ty};
 ghost use Rattle.choice_tree.specs.Selections.{plain};
 ghost use Rattle.choice_tree.specs.Typing.{Scope, type_of as type_of_tree};
 ghost use Rattle.choice_tree.specs.WeightedTrees.{Weighted};
-ghost use Rattle.sym_expr.specs.Plain.{type_of};
+ghost use Rattle.sym_nodes.specs.Plain.{type_of};
 
 /// Where a weighted expression has a type, each of its plain expressions has it.
 pub fn plain_expressions_have_the_type()

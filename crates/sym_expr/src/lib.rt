@@ -1,24 +1,15 @@
 //! Weighted expressions as words of bits, over any logic.
 #![tactic(auto)]
 
-pub mod arithmetic;
-pub mod builtins;
-pub mod choices;
-pub mod comparisons;
-pub mod decided;
-pub mod env;
+pub mod alone;
+pub mod bodiless;
+pub mod calls;
+pub mod functions;
 pub mod laws;
-pub mod literals;
-pub mod locals;
-pub mod nodes;
-pub mod operands;
-pub mod operations;
-pub mod sequences;
-pub mod shortcuts;
-pub mod strict;
 pub mod walk;
 
-pub use env::{Env, Picks};
+pub use alone::sym_expr;
+pub use functions::Functions;
 pub use laws::plain_expressions_have_the_type;
-pub use nodes::sym_node;
-pub use walk::sym_expr;
+pub use sym_nodes::{Env, Picks, View, local, sym_node};
+pub use walk::eval;

@@ -8,59 +8,69 @@ ghost use Rattle.mpy_tree.specs.Values.{State};
 ghost use Rattle.bit_words.specs.Logic.{Extends};
 ghost use Rattle.choice_tree.specs.WeightedTrees.{Weighted, children, other_trees};
 ghost use Rattle.choice_tree.specs.WeightedViews.{member_seen, members as with_trees, weighted_of};
-ghost use Rattle.sym_expr.specs.Environments.{HasPicks, IsEnvIn, PicksRead, StateReads, scope_of};
-ghost use Rattle.sym_expr.specs.Nodes.{side_kind};
-ghost use Rattle.sym_expr.specs.Operands.{ArePartsIn, types_of};
-ghost use Rattle.sym_expr.specs.Plain.{AllReadAsPlain, GivesPlain, HasTypeIn, number_of, type_of};
-ghost use Rattle.sym_expr.specs.Roots.{IsNodeAt};
+ghost use Rattle.sym_nodes.specs.Environments.{HasPicks, IsEnvIn, PicksRead, StateReads};
+ghost use Rattle.sym_nodes.specs.Nodes.{side_kind};
+ghost use Rattle.sym_nodes.specs.Operands.{ArePartsIn, types_of};
+ghost use Rattle.sym_nodes.specs.Plain.{AllReadAsPlain, number_of, type_of};
+ghost use Rattle.sym_nodes.specs.Roots.{IsNodeAt};
+ghost use Rattle.sym_nodes.specs.Views.{env_of};
+ghost use Rattle.sym_expr.specs.Giving.{GivesPlain, HasTypeIn};
+ghost use Rattle.sym_expr.specs.Signatures.{scope_at};
 
-use crate::decided::{known_member, settles};
-use crate::env::Env;
-use crate::nodes::sym_node;
-use crate::shortcuts::{cond_outcome, side_outcome};
+use crate::calls::node_outcome;
+use crate::functions::Functions;
 use bit_words::NoMemory;
 use bit_words::gates::or;
 use bit_words::logic::Logic;
 use choice_tree::{Other, WExpr, expr_child};
 use std::alloc::Global;
+use sym_nodes::decided::{known_member, settles};
+use sym_nodes::shortcuts::{cond_outcome, side_outcome};
+use sym_nodes::view::View;
 use sym_values::SymOutcome;
 use sym_values::truth::test_bit;
 
-/// The outcome of an expression that calls no function of the program. What is known not to count
+/// The outcome of an expression, whose calls are those of the functions. What is known not to count
 /// isn't walked: a side of an `and` or an `or`, an arm of a conditional, a member of a pick.
 #[cycle(walk)]
-pub fn sym_expr<L: Logic>(
+pub fn eval<L: Logic, C: Functions<L>>(
     alloc: Global,
     g: &mut L,
     e: &WExpr,
-    env: &Env<L::Bit>,
+    view: &View<'_, L::Bit>,
+    functions: &C,
 ) -> Result<SymOutcome<L::Bit>, NoMemory>
-    requires env { IsEnvIn L.owns g.old env.now }
-    requires typed { IsSome (type_of (scope_of env.now) (weighted_of e.now)) }
-    requires picks { HasPicks env.now.picks (weighted_of e.now) }
+    requires env { IsEnvIn L.owns g.old (env_of view.now) }
+    requires typed { IsSome (type_of (scope_at (C.signatures functions.now) (env_of view.now))
+        (weighted_of e.now)) }
+    requires picks { HasPicks (env_of view.now).picks (weighted_of e.now) }
+    requires many { C.have_picks functions.now (env_of view.now).picks }
     ensures extends { Extends L.owns L.reads L.count g.old g.new }
-    ensures made { IfOk result (HasTypeIn L.owns g.new env.now (weighted_of e.now)) }
-    ensures value { IfOk result (GivesPlain L.reads g.old g.new env.now (weighted_of e.now)) }
+    ensures made { IfOk result (HasTypeIn L.owns g.new (C.signatures functions.now)
+        (env_of view.now) (weighted_of e.now)) }
+    ensures value { IfOk result (GivesPlain L.reads g.old g.new
+        (C.are_calls functions.now (env_of view.now).limits) (env_of view.now)
+        (weighted_of e.now)) }
 {
     match e {
         WExpr::And(_, _) => {
-            let outcome = sym_sides(alloc, g, e, false, env)?;
+            let outcome = eval_sides(alloc, g, e, false, view, functions)?;
             Ok(outcome)
         }
         WExpr::Or(_, _) => {
-            let outcome = sym_sides(alloc, g, e, true, env)?;
+            let outcome = eval_sides(alloc, g, e, true, view, functions)?;
             Ok(outcome)
         }
         WExpr::Cond { .. } => {
-            let outcome = sym_cond(alloc, g, e, env)?;
+            let outcome = eval_cond(alloc, g, e, view, functions)?;
             Ok(outcome)
         }
         WExpr::Pick { number, .. } => {
-            let outcome = sym_pick(alloc, g, e, *number, env)?;
+            let outcome = eval_pick(alloc, g, e, *number, view, functions)?;
             Ok(outcome)
         }
         _ => {
-            let outcome = sym_whole(alloc, g, e, env)?;
+            let outcome = eval_whole(alloc, g, e, view, functions)?;
             Ok(outcome)
         }
     }
@@ -68,71 +78,89 @@ pub fn sym_expr<L: Logic>(
 
 /// The same from the outcomes of all children.
 #[cycle(walk)]
-fn sym_whole<L: Logic>(
+fn eval_whole<L: Logic, C: Functions<L>>(
     alloc: Global,
     g: &mut L,
     e: &WExpr,
-    env: &Env<L::Bit>,
+    view: &View<'_, L::Bit>,
+    functions: &C,
 ) -> Result<SymOutcome<L::Bit>, NoMemory>
-    requires env { IsEnvIn L.owns g.old env.now }
-    requires typed { IsSome (type_of (scope_of env.now) (weighted_of e.now)) }
-    requires picks { HasPicks env.now.picks (weighted_of e.now) }
+    requires env { IsEnvIn L.owns g.old (env_of view.now) }
+    requires typed { IsSome (type_of (scope_at (C.signatures functions.now) (env_of view.now))
+        (weighted_of e.now)) }
+    requires picks { HasPicks (env_of view.now).picks (weighted_of e.now) }
+    requires many { C.have_picks functions.now (env_of view.now).picks }
     ensures extends { Extends L.owns L.reads L.count g.old g.new }
-    ensures made { IfOk result (HasTypeIn L.owns g.new env.now (weighted_of e.now)) }
-    ensures value { IfOk result (GivesPlain L.reads g.old g.new env.now (weighted_of e.now)) }
+    ensures made { IfOk result (HasTypeIn L.owns g.new (C.signatures functions.now)
+        (env_of view.now) (weighted_of e.now)) }
+    ensures value { IfOk result (GivesPlain L.reads g.old g.new
+        (C.are_calls functions.now (env_of view.now).limits) (env_of view.now)
+        (weighted_of e.now)) }
 {
-    let parts = sym_children(alloc, g, e, env)?;
-    let outcome = sym_node(alloc, g, e, env, &parts)?;
+    let parts = eval_children(alloc, g, e, view, functions)?;
+    let outcome = node_outcome(alloc, g, e, view, functions, parts)?;
     Ok(outcome)
 }
 
 /// `and` and `or`, which stop at a truth value of the left side.
 #[cycle(walk)]
-fn sym_sides<L: Logic>(
+fn eval_sides<L: Logic, C: Functions<L>>(
     alloc: Global,
     g: &mut L,
     e: &WExpr,
     stop: bool,
-    env: &Env<L::Bit>,
+    view: &View<'_, L::Bit>,
+    functions: &C,
 ) -> Result<SymOutcome<L::Bit>, NoMemory>
-    requires env { IsEnvIn L.owns g.old env.now }
-    requires typed { IsSome (type_of (scope_of env.now) (weighted_of e.now)) }
-    requires picks { HasPicks env.now.picks (weighted_of e.now) }
+    requires env { IsEnvIn L.owns g.old (env_of view.now) }
+    requires typed { IsSome (type_of (scope_at (C.signatures functions.now) (env_of view.now))
+        (weighted_of e.now)) }
+    requires picks { HasPicks (env_of view.now).picks (weighted_of e.now) }
+    requires many { C.have_picks functions.now (env_of view.now).picks }
     requires node { IsNodeAt (weighted_of e.now) (side_kind stop) }
     ensures extends { Extends L.owns L.reads L.count g.old g.new }
-    ensures made { IfOk result (HasTypeIn L.owns g.new env.now (weighted_of e.now)) }
-    ensures value { IfOk result (GivesPlain L.reads g.old g.new env.now (weighted_of e.now)) }
+    ensures made { IfOk result (HasTypeIn L.owns g.new (C.signatures functions.now)
+        (env_of view.now) (weighted_of e.now)) }
+    ensures value { IfOk result (GivesPlain L.reads g.old g.new
+        (C.are_calls functions.now (env_of view.now).limits) (env_of view.now)
+        (weighted_of e.now)) }
 {
-    let left = sym_child(alloc, g, e, 0, env)?;
+    let left = eval_child(alloc, g, e, 0, view, functions)?;
     if settles(g, &left, stop) {
         return Ok(left);
     }
-    let right = sym_child(alloc, g, e, 1, env)?;
+    let right = eval_child(alloc, g, e, 1, view, functions)?;
     let both = side_outcome(g, stop, &left, &right)?;
     Ok(both)
 }
 
 /// A conditional: one arm where the test is known, and else both.
 #[cycle(walk)]
-fn sym_cond<L: Logic>(
+fn eval_cond<L: Logic, C: Functions<L>>(
     alloc: Global,
     g: &mut L,
     e: &WExpr,
-    env: &Env<L::Bit>,
+    view: &View<'_, L::Bit>,
+    functions: &C,
 ) -> Result<SymOutcome<L::Bit>, NoMemory>
-    requires env { IsEnvIn L.owns g.old env.now }
-    requires typed { IsSome (type_of (scope_of env.now) (weighted_of e.now)) }
-    requires picks { HasPicks env.now.picks (weighted_of e.now) }
+    requires env { IsEnvIn L.owns g.old (env_of view.now) }
+    requires typed { IsSome (type_of (scope_at (C.signatures functions.now) (env_of view.now))
+        (weighted_of e.now)) }
+    requires picks { HasPicks (env_of view.now).picks (weighted_of e.now) }
+    requires many { C.have_picks functions.now (env_of view.now).picks }
     requires node { IsNodeAt (weighted_of e.now) CondKind }
     ensures extends { Extends L.owns L.reads L.count g.old g.new }
-    ensures made { IfOk result (HasTypeIn L.owns g.new env.now (weighted_of e.now)) }
-    ensures value { IfOk result (GivesPlain L.reads g.old g.new env.now (weighted_of e.now)) }
+    ensures made { IfOk result (HasTypeIn L.owns g.new (C.signatures functions.now)
+        (env_of view.now) (weighted_of e.now)) }
+    ensures value { IfOk result (GivesPlain L.reads g.old g.new
+        (C.are_calls functions.now (env_of view.now).limits) (env_of view.now)
+        (weighted_of e.now)) }
 {
-    let test = sym_child(alloc, g, e, 1, env)?;
+    let test = eval_child(alloc, g, e, 1, view, functions)?;
     let holds = test_bit(g, &test.value)?;
     match g.known(holds) {
         Some(known) => {
-            let chosen = sym_child(alloc, g, e, arm(known), env)?;
+            let chosen = eval_child(alloc, g, e, arm(known), view, functions)?;
             let fault = or(g, test.fault, chosen.fault)?;
             Ok(SymOutcome {
                 value: chosen.value,
@@ -140,8 +168,8 @@ fn sym_cond<L: Logic>(
             })
         }
         None => {
-            let yes = sym_child(alloc, g, e, 0, env)?;
-            let no = sym_child(alloc, g, e, 2, env)?;
+            let yes = eval_child(alloc, g, e, 0, view, functions)?;
+            let no = eval_child(alloc, g, e, 2, view, functions)?;
             let joined = cond_outcome(alloc, g, &test, &yes, &no)?;
             Ok(joined)
         }
@@ -150,29 +178,35 @@ fn sym_cond<L: Logic>(
 
 /// A pick: its member where that is known, and else all of them.
 #[cycle(walk)]
-fn sym_pick<L: Logic>(
+fn eval_pick<L: Logic, C: Functions<L>>(
     alloc: Global,
     g: &mut L,
     e: &WExpr,
     number: u32,
-    env: &Env<L::Bit>,
+    view: &View<'_, L::Bit>,
+    functions: &C,
 ) -> Result<SymOutcome<L::Bit>, NoMemory>
-    requires env { IsEnvIn L.owns g.old env.now }
-    requires typed { IsSome (type_of (scope_of env.now) (weighted_of e.now)) }
-    requires picks { HasPicks env.now.picks (weighted_of e.now) }
+    requires env { IsEnvIn L.owns g.old (env_of view.now) }
+    requires typed { IsSome (type_of (scope_at (C.signatures functions.now) (env_of view.now))
+        (weighted_of e.now)) }
+    requires picks { HasPicks (env_of view.now).picks (weighted_of e.now) }
+    requires many { C.have_picks functions.now (env_of view.now).picks }
     requires pick { Some number ≡ number_of (weighted_of e.now) }
     ensures extends { Extends L.owns L.reads L.count g.old g.new }
-    ensures made { IfOk result (HasTypeIn L.owns g.new env.now (weighted_of e.now)) }
-    ensures value { IfOk result (GivesPlain L.reads g.old g.new env.now (weighted_of e.now)) }
+    ensures made { IfOk result (HasTypeIn L.owns g.new (C.signatures functions.now)
+        (env_of view.now) (weighted_of e.now)) }
+    ensures value { IfOk result (GivesPlain L.reads g.old g.new
+        (C.are_calls functions.now (env_of view.now).limits) (env_of view.now)
+        (weighted_of e.now)) }
 {
-    let member = env.picks.at(number as usize);
+    let member = view.picks.at(number as usize);
     match known_member(g, member.as_slice(), members(e))? {
         Some(i) => {
-            let outcome = sym_child(alloc, g, e, i, env)?;
+            let outcome = eval_child(alloc, g, e, i, view, functions)?;
             Ok(outcome)
         }
         None => {
-            let outcome = sym_whole(alloc, g, e, env)?;
+            let outcome = eval_whole(alloc, g, e, view, functions)?;
             Ok(outcome)
         }
     }
@@ -207,28 +241,32 @@ fn arm(holds: bool) -> usize
 
 /// The outcome of the child at a place.
 #[cycle(walk)]
-fn sym_child<L: Logic>(
+fn eval_child<L: Logic, C: Functions<L>>(
     alloc: Global,
     g: &mut L,
     e: &WExpr,
     i: usize,
-    env: &Env<L::Bit>,
+    view: &View<'_, L::Bit>,
+    functions: &C,
 ) -> Result<SymOutcome<L::Bit>, NoMemory>
-    requires env { IsEnvIn L.owns g.old env.now }
-    requires typed { IsSome (type_of (scope_of env.now) (weighted_of e.now)) }
-    requires picks { HasPicks env.now.picks (weighted_of e.now) }
+    requires env { IsEnvIn L.owns g.old (env_of view.now) }
+    requires typed { IsSome (type_of (scope_at (C.signatures functions.now) (env_of view.now))
+        (weighted_of e.now)) }
+    requires picks { HasPicks (env_of view.now).picks (weighted_of e.now) }
+    requires many { C.have_picks functions.now (env_of view.now).picks }
     requires place { i < length (children (weighted_of e.now)) }
     ensures extends { Extends L.owns L.reads L.count g.old g.new }
     ensures made { IfOk result (λ r. (w : Weighted)
         → slice_get (children (weighted_of e.now)) i ≡ Some w
-        → HasTypeIn L.owns g.new env.now w r) }
+        → HasTypeIn L.owns g.new (C.signatures functions.now) (env_of view.now) w r) }
     ensures value { IfOk result (λ r. (w : Weighted)
         → slice_get (children (weighted_of e.now)) i ≡ Some w
-        → GivesPlain L.reads g.old g.new env.now w r) }
+        → GivesPlain L.reads g.old g.new (C.are_calls functions.now (env_of view.now).limits)
+        (env_of view.now) w r) }
 {
     match expr_child(e, i as u128) {
         Some(part) => {
-            let outcome = sym_expr(alloc, g, part, env)?;
+            let outcome = eval(alloc, g, part, view, functions)?;
             Ok(outcome)
         }
         None => unreachable!(),
@@ -237,29 +275,35 @@ fn sym_child<L: Logic>(
 
 /// The outcomes of the children of an expression.
 #[cycle(walk)]
-fn sym_children<L: Logic>(
+fn eval_children<L: Logic, C: Functions<L>>(
     alloc: Global,
     g: &mut L,
     e: &WExpr,
-    env: &Env<L::Bit>,
+    view: &View<'_, L::Bit>,
+    functions: &C,
 ) -> Result<Vec<SymOutcome<L::Bit>>, NoMemory>
-    requires env { IsEnvIn L.owns g.old env.now }
-    requires typed { IsSome (type_of (scope_of env.now) (weighted_of e.now)) }
-    requires picks { HasPicks env.now.picks (weighted_of e.now) }
+    requires env { IsEnvIn L.owns g.old (env_of view.now) }
+    requires typed { IsSome (type_of (scope_at (C.signatures functions.now) (env_of view.now))
+        (weighted_of e.now)) }
+    requires picks { HasPicks (env_of view.now).picks (weighted_of e.now) }
+    requires many { C.have_picks functions.now (env_of view.now).picks }
     ensures extends { Extends L.owns L.reads L.count g.old g.new }
-    ensures made { IfOk result (λ r. ArePartsIn L.owns g.new env.now.limits r.items) }
+    ensures made { IfOk result (λ r. ArePartsIn L.owns g.new (env_of view.now).limits r.items) }
     ensures types { IfOk result (λ r. types_of r.items
-        ≡ map (type_of (scope_of env.now)) (children (weighted_of e.now))) }
+        ≡ map (type_of (scope_at (C.signatures functions.now) (env_of view.now)))
+        (children (weighted_of e.now))) }
     ensures value { IfOk result (λ r.
         (vs : List Bool) (s : State) (m : ℕ → ℕ) (calls : Calls) (line : ℕ)
-        → StateReads (L.reads g.old vs) env.now s → PicksRead (L.reads g.old vs) env.now.picks m
-        → AllReadAsPlain (L.reads g.new vs) (value_of env.now.limits calls s line) m
+        → C.are_calls functions.now (env_of view.now).limits m calls
+        → StateReads (L.reads g.old vs) (env_of view.now) s
+        → PicksRead (L.reads g.old vs) (env_of view.now).picks m
+        → AllReadAsPlain (L.reads g.new vs) (value_of (env_of view.now).limits calls s line) m
         r.items (children (weighted_of e.now))) }
 {
     let mut made = Vec::new(alloc);
     let mut i = 0u128;
     'parts: while let Some(part) = expr_child(e, i) {
-        let outcome = sym_expr(alloc, g, part, env)?;
+        let outcome = eval(alloc, g, part, view, functions)?;
         made.push(outcome)?;
         i += 1;
     }

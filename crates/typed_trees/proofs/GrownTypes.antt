@@ -25,9 +25,9 @@ use Rattle.choice_tree.specs.WeightedTrees.{Others, Weighted, Weighteds, lifted,
 use Rattle.choice_tree.specs.WeightedTrees.{no_others, other_and, plainly}
 use Rattle.choice_tree.proofs.Lists.{Each}
 use Rattle.choice_tree.proofs.Types.{copy_typed, same_type_is}
-use Rattle.sym_expr.specs.Members.{common, common_type}
-use Rattle.sym_expr.proofs.TypeRules.{some_type}
-use Rattle.sym_expr.specs.Plain.{other_types, type_of, types_of, where_all}
+use Rattle.sym_nodes.specs.Members.{common, common_type}
+use Rattle.sym_nodes.proofs.TypeRules.{some_type}
+use Rattle.sym_nodes.specs.Plain.{other_types, type_of, types_of, where_all}
 use Rattle.typed_trees.specs.Wholes.{AreWhole, IsWhole, MakeWholes, part_count}
 use Rattle.typed_trees.proofs.PartTypes.{AllThere, parts_there}
 use Rattle.typed_trees.proofs.WholeDrafts.{wholes_proposed}

@@ -1,36 +1,51 @@
--- The type of a tree without calls of functions follows from those of the locals.
-use Rattle.std.proofs.Common.{◌≡◌, List, ◌∷◌, refl, ap, ◌∙◌, Option, Some, None, IsTrue}
-use Rattle.std.proofs.Common.{is_some}
+-- The type of a tree follows from those of the locals, and of the calls where it has some.
+use Rattle.std.proofs.Common.{◌≡◌, ◌<◌, ℕ, List, ◌∷◌, length, refl, ap, ◌∙◌, subst, Option}
+use Rattle.std.proofs.Common.{Some, None, IsTrue, is_some}
 use Rattle.mpy_tree.specs.declared.builtins.Builtin.{Builtin}
+use Rattle.mpy_tree.specs.declared.typing.Slot.{Slot}
 use Rattle.mpy_tree.specs.declared.typing.Ty.{Ty}
 use Rattle.mpy_tree.specs.Builtins.{builtin_of}
-use Rattle.mpy_tree.specs.Rules.{Slots, call_type}
+use Rattle.mpy_tree.specs.Rules.{Slots, called_type, callee_type}
 use Rattle.mpy_tree.specs.SetTypes.{Callee, called}
-use Rattle.mpy_tree.specs.Trees as kind
+use Rattle.mpy_tree.specs.Syntax.{Routine}
 use Rattle.mpy_tree.specs.Trees.{Kind}
 use Rattle.choice_tree.specs.Typing.{Scope, node_type}
 use Rattle.choice_tree.specs.WeightedTrees.{Weighted, Weighteds, Others, plainly, pick}
 use Rattle.choice_tree.specs.WeightedTrees.{no_weighted, weighted_and, no_others, other_and}
-use Rattle.sym_expr.specs.Members.{common_type}
-use Rattle.sym_expr.specs.Plain.{other_types, type_of, types_of, where_all}
+use Rattle.sym_nodes.specs.Members.{common_type}
+use Rattle.sym_nodes.specs.Plain.{other_types, type_of, types_of, where_all}
+use Rattle.sym_nodes.proofs.Scopes.{callees_alike, node_alike, tree_alike}
 use Rattle.typed_trees.specs.Locals.{CallNoFunction, CallsNoFunction, OthersCallNoFunction}
-use Rattle.typed_trees.specs.Locals.{SameLocals, calls_no_function}
-use Rattle.typed_trees.specs.TypedStatements.{local_type}
+use Rattle.typed_trees.specs.Locals.{SameCalls, SameLocals, calls_no_function}
 
-builtin_call : (S R : Slots) (l : Option Ty) (b : Option Builtin) (g d : Option Callee)
-    (os : List (Option Ty)) → IsTrue (is_some b) → call_type S l b g os ≡ call_type R l b d os
-builtin_call S R None (Some b) g d os h = refl
-builtin_call S R (Some t) (Some b) g d os h = refl
-builtin_call S R l None g d os h = cc
+builtin_call : (S R : Slots) (b : Option Builtin) (g d : Option Callee) (os : List (Option Ty))
+    → IsTrue (is_some b) → called_type S b g os ≡ called_type R b d os
+builtin_call S R (Some b) g d os h = refl
+builtin_call S R None g d os h = cc
 
 pub node_follows : (σ τ : Scope) (k : Kind) (os : List (Option Ty)) → SameLocals σ τ
     → IsTrue (calls_no_function k) → node_type σ k os ≡ node_type τ k os
-node_follows σ τ (kind.Name x) os h own = h x
-node_follows σ τ (kind.Call f) os h own =
-    (λ i. call_type σ.slots (h f i) (builtin_of f) (called σ.program f) os)
-    ∙ builtin_call σ.slots τ.slots (local_type τ f) (builtin_of f) (called σ.program f)
-    (called τ.program f) os own
-node_follows σ τ k os h own = refl
+node_follows σ τ k os h own =
+    node_alike σ τ k os h (λ f is. builtin_call σ.slots τ.slots (builtin_of f)
+    (called σ.program f) (called τ.program f) os
+    (subst (λ (j : Kind). IsTrue (calls_no_function j)) is own))
+
+function_call : (S R : Slots) (b : Option Builtin) (g d : Option Callee) (os : List (Option Ty))
+    → callee_type S g os ≡ callee_type R d os → called_type S b g os ≡ called_type R b d os
+function_call S R (Some b) g d os e = refl
+function_call S R None g d os e = e
+
+pub all_follow : (σ τ : Scope) (w : Weighted) → SameLocals σ τ → SameCalls σ τ
+    → type_of σ w ≡ type_of τ w
+all_follow σ τ w h c =
+    tree_alike σ τ (λ k os. node_alike σ τ k os h (λ f is. function_call σ.slots τ.slots
+    (builtin_of f) (called σ.program f) (called τ.program f) os (c f os))) w
+
+pub calls_follow : (σ τ : Scope) → σ.program ≡ τ.program
+    → ((i : ℕ) (x : Slot) → i < length σ.program → σ.slots i x ≡ τ.slots i x) → SameCalls σ τ
+calls_follow σ τ e h f os =
+    callees_alike σ.slots τ.slots σ.program f os h
+    ∙ ap (λ (p : List Routine). callee_type τ.slots (called p f) os) e
 
 module _ (σ τ : Scope) (h : SameLocals σ τ) where
   mutual

@@ -6,8 +6,8 @@ use Rattle.choice_tree.specs.Typing.{Scope, node_type}
 use Rattle.choice_tree.specs.WeightedTrees.{Others, Weighted, Weighteds, no_others, no_weighted}
 use Rattle.choice_tree.specs.WeightedTrees.{numbered, numbered_all, numbered_others, other_and}
 use Rattle.choice_tree.specs.WeightedTrees.{pick, picks, plainly, weighted_and}
-use Rattle.sym_expr.specs.Members.{common_type}
-use Rattle.sym_expr.specs.Plain.{other_types, type_of, types_of, where_all}
+use Rattle.sym_nodes.specs.Members.{common_type}
+use Rattle.sym_nodes.specs.Plain.{other_types, type_of, types_of, where_all}
 use Rattle.typed_trees.specs.TypedStatements.{AreTyped, IsBody, IsTyped, goes_over, local_type}
 use Rattle.typed_trees.specs.TypedStatements.{obeys}
 

@@ -22,7 +22,7 @@ use Rattle.choice_tree.specs.WeightedTrees.{plainly}
 use Rattle.choice_tree.proofs.ShapeTypes.{shape_type}
 use Rattle.choice_tree.proofs.Types.{both_true}
 use Rattle.mpy_types.proofs.Every.{Every, every_front, every_rest}
-use Rattle.sym_expr.specs.Plain.{type_of}
+use Rattle.sym_nodes.specs.Plain.{type_of}
 use Rattle.typed_trees.specs.TypedStatements.{AreTyped, IsTyped, appends, goes_over, local_type}
 use Rattle.typed_trees.specs.TypedStatements.{puts, result_type}
 use Rattle.typed_trees.specs.Wholes.{MakeWholes}

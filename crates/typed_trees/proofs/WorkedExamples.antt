@@ -17,7 +17,7 @@ use Rattle.choice_tree.specs.Typing.{Scope}
 use Rattle.choice_tree.specs.WeightedTrees.{Weighted, no_others, no_weighted, other_and, pick}
 use Rattle.choice_tree.specs.WeightedTrees.{plainly}
 use Rattle.choice_tree.specs.WeightedViews.{one, two}
-use Rattle.sym_expr.specs.Plain.{type_of}
+use Rattle.sym_nodes.specs.Plain.{type_of}
 use Rattle.typed_trees.specs.TypedStatements.{IsTyped}
 
 abbrev name_x : List ℕ

@@ -1,6 +1,10 @@
--- Scopes that give each local one type, and trees without calls of functions of the program.
-use Rattle.std.specs.Prelude.{◌≡◌, ⊤, ℕ, Bool, true, List, IsTrue}
+-- Scopes that give each local and each call one type, and trees without calls of functions of the
+-- program.
+use Rattle.std.specs.Prelude.{◌≡◌, ⊤, ℕ, Bool, true, List, Option, IsTrue}
+use Rattle.mpy_tree.specs.declared.typing.Ty.{Ty}
 use Rattle.mpy_tree.specs.Names.{is_builtin}
+use Rattle.mpy_tree.specs.Rules.{callee_type}
+use Rattle.mpy_tree.specs.SetTypes.{called}
 use Rattle.mpy_tree.specs.Trees as kind
 use Rattle.mpy_tree.specs.Trees.{Kind}
 use Rattle.choice_tree.specs.Typing.{Scope}
@@ -10,6 +14,12 @@ use Rattle.typed_trees.specs.TypedStatements.{local_type}
 
 abbrev pub SameLocals : Scope → Scope → Type 0
 SameLocals σ τ = (x : List ℕ) → local_type σ x ≡ local_type τ x
+
+-- and each call of a function
+abbrev pub SameCalls : Scope → Scope → Type 0
+SameCalls σ τ =
+    (f : List ℕ) (os : List (Option Ty))
+    → callee_type σ.slots (called σ.program f) os ≡ callee_type τ.slots (called τ.program f) os
 
 -- a call is one of a builtin
 abbrev pub calls_no_function : Kind → Bool

@@ -12,7 +12,7 @@ use Rattle.choice_tree.specs.Contexts.{Setting, scope_in}
 use Rattle.choice_tree.specs.Typing.{Scope, same_type}
 use Rattle.choice_tree.specs.WeightedTrees.{Weighted, Weighteds, plainly, pick, no_weighted}
 use Rattle.choice_tree.specs.WeightedTrees.{weighted_and, children}
-use Rattle.sym_expr.specs.Plain.{type_of, types_of}
+use Rattle.sym_nodes.specs.Plain.{type_of, types_of}
 
 -- the type of a local, and that of what the function gives
 abbrev pub local_type : Scope → List ℕ → Option Ty

@@ -1,6 +1,7 @@
 -- Weighted trees that rules make are typed.
-use Rattle.std.specs.Prelude.{◌≡◌, ℕ, List, Option, Some, IsTrue, slice_get}
+use Rattle.std.specs.Prelude.{◌≡◌, ◌<◌, ℕ, List, length, Option, Some, IsTrue, slice_get}
 use Rattle.mpy_tree.specs.declared.typing.Fact.{Fact}
+use Rattle.mpy_tree.specs.declared.typing.Slot.{Slot}
 use Rattle.mpy_tree.specs.declared.typing.Ty.{Ty}
 use Rattle.mpy_tree.specs.Rules.{single}
 use Rattle.mpy_tree.specs.Syntax.{Routine}
@@ -14,8 +15,8 @@ use Rattle.choice_tree.specs.StatementViews.{weighted_func, weighted_prog}
 use Rattle.choice_tree.specs.Templates.{Correction}
 use Rattle.choice_tree.specs.Typing.{Scope, node_type, type_of as type_of_tree}
 use Rattle.choice_tree.specs.WeightedTrees.{Weighted}
-use Rattle.sym_expr.specs.Plain.{type_of}
-use Rattle.typed_trees.specs.Locals.{CallsNoFunction, SameLocals, calls_no_function}
+use Rattle.sym_nodes.specs.Plain.{type_of}
+use Rattle.typed_trees.specs.Locals.{CallsNoFunction, SameCalls, SameLocals, calls_no_function}
 use Rattle.typed_trees.specs.TypedStatements.{IsTyped, IsTypedProgram}
 use Rattle.typed_trees.specs.Wholes.{IsWhole, MakeWholes}
 
@@ -35,6 +36,17 @@ abbrev pub NodeTypesFollowFromLocals : Type 0
 NodeTypesFollowFromLocals =
     (σ τ : Scope) (k : Kind) (os : List (Option Ty)) → SameLocals σ τ
     → IsTrue (calls_no_function k) → node_type σ k os ≡ node_type τ k os
+
+-- and else from those of the locals and of the calls
+abbrev pub TypesFollow : Type 0
+TypesFollow =
+    (σ τ : Scope) (w : Weighted) → SameLocals σ τ → SameCalls σ τ → type_of σ w ≡ type_of τ w
+
+-- calls of the functions of one program have one type where the slots of these have
+abbrev pub CallsFollowFromSlots : Type 0
+CallsFollowFromSlots =
+    (σ τ : Scope) → σ.program ≡ τ.program
+    → ((i : ℕ) (x : Slot) → i < length σ.program → σ.slots i x ≡ τ.slots i x) → SameCalls σ τ
 
 -- rules for a program with the types of its names
 abbrev pub setting_by : List Correction → List Routine → List Fact → Setting

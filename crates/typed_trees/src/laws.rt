@@ -6,8 +6,9 @@ ghost use Rattle.choice_tree.specs.declared.rules.Rules.{Rules};
 ghost use Rattle.choice_tree.specs.RuleViews.{corrections_of};
 ghost use Rattle.choice_tree.specs.Typing.{Scope};
 ghost use Rattle.choice_tree.specs.WeightedTrees.{Weighted, numbered};
-ghost use Rattle.sym_expr.specs.Plain.{type_of};
-ghost use Rattle.typed_trees.specs.TypingLaws.{GrownHaveTypes, NodeTypesFollowFromLocals};
+ghost use Rattle.sym_nodes.specs.Plain.{type_of};
+ghost use Rattle.typed_trees.specs.TypingLaws.{CallsFollowFromSlots, GrownHaveTypes};
+ghost use Rattle.typed_trees.specs.TypingLaws.{NodeTypesFollowFromLocals, TypesFollow};
 ghost use Rattle.typed_trees.specs.TypingLaws.{TypesFollowFromLocals, WeightedFunctionsAreTyped};
 ghost use Rattle.typed_trees.specs.TypingLaws.{WeightedProgramsAreTyped};
 ghost use Rattle.typed_trees.specs.Wholes.{IsWhole, MakeWholes};
@@ -40,6 +41,16 @@ pub fn types_follow_from_locals()
 /// So does that of a node from those of its parts.
 pub fn node_types_follow_from_locals()
     ensures { NodeTypesFollowFromLocals }
+{}
+
+/// The type of any tree follows from those of the locals and of the calls.
+pub fn types_follow()
+    ensures { TypesFollow }
+{}
+
+/// The types of calls follow from those of the slots of the program's functions.
+pub fn calls_follow_from_slots()
+    ensures { CallsFollowFromSlots }
 {}
 
 /// The weighted tree of a program that facts type is typed.

@@ -5,7 +5,7 @@
 mod laws;
 
 pub use laws::{
-    grown_trees_have_the_type, node_types_follow_from_locals, numbers_change_no_type,
-    rules_make_wholes, terms_are_whole, types_follow_from_locals, weighted_functions_are_typed,
-    weighted_programs_are_typed,
+    calls_follow_from_slots, grown_trees_have_the_type, node_types_follow_from_locals,
+    numbers_change_no_type, rules_make_wholes, terms_are_whole, types_follow,
+    types_follow_from_locals, weighted_functions_are_typed, weighted_programs_are_typed,
 };

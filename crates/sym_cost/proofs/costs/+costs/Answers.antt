@@ -12,8 +12,8 @@ use Rattle.choice_tree.specs.WeightedViews.{weighted_of}
 use Rattle.choice_tree.proofs.MostLaws.{member_smaller}
 use Rattle.choice_tree.proofs.Walking.{child_smaller, is_place, no_next, parts_cost, sum_next}
 use Rattle.sym_values.specs.Owned.{owns_one}
-use Rattle.sym_expr.specs.Environments.{HasPicks}
-use Rattle.sym_expr.proofs.TreeTypes.{child_picks}
+use Rattle.sym_nodes.specs.Environments.{HasPicks}
+use Rattle.sym_nodes.proofs.TreeTypes.{child_picks}
 use Rattle.sym_cost.specs.Notations.{HasRoom, Spells, Writes}
 use Rattle.sym_cost.proofs.Choosing.{all_taken, child_free, chosen_more, chosen_spelled, cost_at}
 use Rattle.sym_cost.proofs.Choosing.{length_costs, member_costs, none_chosen, other_picks}

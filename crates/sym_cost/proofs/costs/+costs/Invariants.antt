@@ -6,7 +6,7 @@ use Rattle.choice_tree.specs.NodeViews.{node_of}
 use Rattle.choice_tree.specs.Selections.{chosen, cost}
 use Rattle.choice_tree.specs.WeightedTrees.{children, nodes}
 use Rattle.choice_tree.specs.WeightedViews.{weighted_of}
-use Rattle.sym_expr.specs.Environments.{PicksRead}
+use Rattle.sym_nodes.specs.Environments.{PicksRead}
 use Rattle.sym_cost.specs.Notations.{HasRoom, IsCostIn, Spells, Writes, width_of}
 use Rattle.sym_cost.specs.Picked.{HasNoPick, tree_of_pick}
 use Rattle.sym_cost.proofs.Choosing.{member_costs}

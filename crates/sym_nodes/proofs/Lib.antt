@@ -1,0 +1,15 @@
+pub mod Terms
+pub mod Outcomes
+pub mod TypeRules
+pub mod Typed
+pub mod Arity
+pub mod Giving
+pub mod Written
+pub mod Arguments
+pub mod Choosing
+pub mod Lookups
+pub mod HeadRules
+pub mod Members
+pub mod TreeTypes
+pub mod Slicing
+pub mod Scopes
