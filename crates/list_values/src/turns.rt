@@ -1,6 +1,7 @@
 //! The items that a `for` goes over, one a turn.
 
-ghost use Rattle.std.specs.Prelude.{◌≡◌, ◌<◌, ◌≤◌, Bool, List, length, nat_lt, IfOk, Some, slice_get};
+ghost use Rattle.std.specs.Prelude.{◌≡◌, ◌<◌, ◌≤◌, Bool, List, length, nat_lt, IfOk, Some};
+ghost use Rattle.std.specs.Prelude.{slice_get};
 ghost use Rattle.std.specs.declared.result.Result.TheVariants.{Ok};
 ghost use Rattle.mpy_tree.specs.Operations.{members};
 ghost use Rattle.mpy_tree.specs.declared.value.Value.{Value};
