@@ -1,0 +1,15 @@
+pub mod Outcomes
+pub mod Tests
+pub mod Views
+pub mod Parts
+pub mod Blocks
+pub mod Going
+pub mod Sizes
+pub mod Items
+pub mod Reading
+pub mod Follow
+pub mod Settings
+pub mod TypedParts
+pub mod Laters
+pub mod Lists
+pub mod Returning

@@ -1,0 +1,41 @@
+use Rattle.std.proofs.Common.{◌≡◌, ◌∙◌, ap, sym, is_some, Option, Some}
+use Rattle.bit_words.specs.Logic.{extends_keeps, extends_trans}
+use Rattle.mpy_tree.specs.Expressions.{value_of}
+use Rattle.mpy_tree.specs.Values.{State}
+use Rattle.sym_paths.specs.Later.{path_later}
+use Rattle.sym_paths.specs.Paths.{reached}
+use Rattle.sym_blocks.specs.Bodies.{scope_in}
+use Rattle.sym_blocks.proofs.Laters.{body_later, chosen_later, leads_later}
+use Rattle.choice_tree.specs.WeightedViews.{weighted_of}
+use Rattle.sym_blocks.proofs.Settings.{local_type_is}
+use Rattle.sym_blocks.proofs.TypedParts.{assigned}
+use Rattle.sym_blocks.proofs.leaves.exec_assign.Goals as goal
+
+pub eval_on-requires-clause-typed : goal.eval_on-requires-clause-typed
+eval_on-requires-clause-typed g c =
+    let run = c.args.run.now in
+    let sigs = g.C.Functions.signatures run.functions.now in
+    let σ = scope_in sigs run in
+    let typed = assigned σ c.args.x.now (weighted_of c.args.e.now) c.requires.typed in
+    ap is_some typed.1
+
+pub out_stored-requires : goal.out_stored-requires
+out_stored-requires g c =
+    let run = c.args.run.now in
+    let sigs = g.C.Functions.signatures run.functions.now in
+    let σ = scope_in sigs run in
+    let typed = assigned σ c.args.x.now (weighted_of c.args.e.now) c.requires.typed in
+    record {
+      held = path_later (extends_keeps c.eval_on.ensures.extends) c.requires.path;
+      typed = (typed.0, sym (local_type_is sigs run.slots.now c.args.x.now) ∙ typed.2, c.in_ok-value.ensures.made typed.0 typed.1);
+    }
+
+pub returns-clause-extends : goal.returns-clause-extends
+returns-clause-extends g c = extends_trans c.eval_on.ensures.extends c.out_stored.ensures.extends
+
+pub returns-clause-value : goal.returns-clause-value
+returns-clause-value g c line vs m calls o t chosen at plain =
+    let slots = c.args.run.now.slots.now in
+    let here = leads_later slots.names vs (extends_keeps c.eval_on.ensures.extends) c.requires.path at in
+    c.in_ok-out.ensures.value vs o (λ s. value_of slots.limits calls s line t) here
+    (λ s e. c.in_ok-value.ensures.value vs m calls s line t chosen (at ∙ ap reached e) plain)
