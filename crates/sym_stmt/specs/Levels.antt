@@ -1,0 +1,34 @@
+-- Levels of calls: what their calls are, and when they can be entered.
+use Rattle.std.specs.Prelude.{◌≡◌, ℕ, List}
+use Rattle.mpy_tree.specs.declared.limits.Limits.{Limits}
+use Rattle.mpy_tree.specs.declared.typing.Fact.{Fact}
+use Rattle.mpy_tree.specs.declared.value.Value.{Value}
+use Rattle.mpy_tree.specs.Expressions.{Calls}
+use Rattle.mpy_tree.specs.Running.{enter, found}
+use Rattle.mpy_tree.specs.Shapes.{program_shape}
+use Rattle.mpy_tree.specs.Syntax.{Routine}
+use Rattle.choice_tree.specs.declared.tree.WProg.{WProg}
+use Rattle.choice_tree.specs.Selections.{plain}
+use Rattle.choice_tree.specs.StatementViews.{weighted_prog}
+use Rattle.sym_expr.specs.Signatures.{Signatures}
+use Rattle.sym_nodes.specs.Environments.{HasPicks}
+use Rattle.sym_stmt.specs.Programs.{TypesFunctions, signatures_of}
+
+-- calls of the functions of the chosen plain program, whose own calls are those below
+pub record AreDeeper (w : WProg) (AreBelow : Calls → Type 0) (l : Limits) (m : ℕ → ℕ)
+    (calls : Calls) : Type 0 where
+  pub program : List Routine
+  pub chosen : program_shape program ≡ plain m (weighted_prog w)
+  pub below : Calls
+  pub are_below : AreBelow below
+  pub entered : (f : List ℕ) (vs : List Value) (line : ℕ)
+      → calls f vs line ≡ enter l below (found program f) vs line
+
+-- Functions of a program can be entered: the facts type them, their picks are among these, and the
+-- functions that they call are the same and find their own picks.
+pub record CanEnter {B : Type 0} (w : WProg) (T : List Fact) (below : Signatures)
+    (HaveBelow : List (List B) → Type 0) (picks : List (List B)) : Type 0 where
+  pub typed : TypesFunctions T w
+  pub many : HasPicks picks (weighted_prog w)
+  pub same : below ≡ signatures_of w T
+  pub have_below : HaveBelow picks

@@ -1,0 +1,4 @@
+pub mod Programs
+pub mod FactSlots
+pub mod Levels
+pub mod ProgramLaws

@@ -1,0 +1,12 @@
+//! Weighted programs as bits, over any logic.
+#![tactic(auto)]
+
+mod entering;
+mod laws;
+mod levels;
+mod program;
+mod run;
+mod slots;
+
+pub use laws::rewritten_programs_are_typed;
+pub use run::sym_run;

@@ -1,0 +1,184 @@
+//! Weighted programs.
+
+ghost use Rattle.std.specs.Prelude.{◌≡◌, ℕ, Bool, List, map, Some, IfOk, IsSome};
+ghost use Rattle.mpy_tree.specs.declared.typing.Ty.{Ty as AnyType};
+ghost use Rattle.mpy_tree.specs.declared.value.Value.{Value};
+ghost use Rattle.mpy_tree.specs.Running.{evaluated};
+ghost use Rattle.mpy_tree.specs.Shapes.{program_shape};
+ghost use Rattle.mpy_tree.specs.Syntax.{Routine};
+ghost use Rattle.bit_words.specs.Logic.{Extends, OwnsAll};
+ghost use Rattle.choice_tree.specs.Selections.{plain};
+ghost use Rattle.choice_tree.specs.StatementViews.{weighted_prog};
+ghost use Rattle.sym_values.specs.Forms.{form_for, joined};
+ghost use Rattle.sym_values.specs.Reading.{OutcomeReads, read, sure};
+ghost use Rattle.sym_values.specs.Results.{IsOutcomeIn};
+ghost use Rattle.sym_nodes.specs.Environments.{HasPicks, PicksRead};
+ghost use Rattle.sym_nodes.specs.Operands.{ty_of};
+ghost use Rattle.sym_expr.specs.Signatures.{AreArgumentsIn, given_type, value_types};
+ghost use Rattle.sym_nodes.specs.Views.{env_of};
+ghost use Rattle.sym_stmt.specs.Programs.{TypesFunctions, TypesProgram, signatures_of};
+
+use crate::levels::{Deepest, Level};
+use crate::program::Program;
+use bit_words::NoMemory;
+use bit_words::bits::Bits;
+use bit_words::logic::Logic;
+use choice_tree::WProg;
+use mpy_tree::{Limits, Name, Names, Types};
+use std::alloc::Global;
+use sym_expr::{Functions, Picks, View};
+use sym_values::{SymOutcome, SymValue, SymValues};
+
+/// The outcome of a weighted program on arguments of the entry's types: under all truth values it
+/// reads as what the plain program gives that the picks choose.
+pub fn sym_run<L: Logic>(
+    alloc: Global,
+    g: &mut L,
+    w: &WProg,
+    t: &Types,
+    l: &Limits,
+    entry: &Name,
+    picks: &Picks<L::Bit>,
+    args: &Vec<SymValue<L::Bit>>,
+) -> Result<SymOutcome<L::Bit>, NoMemory>
+    requires typed { TypesProgram t.now.facts w.now entry.now (map ty_of args.now.items) }
+    requires args { AreArgumentsIn L.owns g.old l.now args.now.items }
+    requires picks { OwnsAll L.owns g.old (joined picks.now) }
+    requires many { HasPicks picks.now (weighted_prog w.now) }
+    ensures extends { Extends L.owns L.reads L.count g.old g.new }
+    ensures made { IfOk result (λ r. (u : AnyType)
+        → given_type (signatures_of w.now t.now.facts) entry.now (value_types args.now.items)
+        ≡ Some u
+        → IsOutcomeIn L.owns g.new (form_for l.now u) r) }
+    ensures value { IfOk result (λ r.
+        (vs : List Bool) (m : ℕ → ℕ) (values : List Value) (p : List Routine)
+        → PicksRead (L.reads g.old vs) picks.now m
+        → map (read (L.reads g.old vs)) args.now.items ≡ map sure values
+        → program_shape p ≡ plain m (weighted_prog w.now)
+        → OutcomeReads (L.reads g.new vs) r (evaluated l.now p entry.now values)) }
+{
+    let program = Program { tree: w, types: t };
+    let names = Names::from_vec(Vec::new(alloc));
+    let values = SymValues::new(alloc);
+    let set = Bits::new(alloc);
+    let view = View {
+        names: &names,
+        values: &values,
+        set: &set,
+        picks,
+        limits: l,
+        depth: 0,
+    };
+    let given = copies(alloc, args)?;
+    let outcome = at_depth(alloc, g, &program, &view, entry, given)?;
+    Ok(outcome)
+}
+
+// Equal values.
+fn copies<B: Copy>(alloc: Global, args: &Vec<SymValue<B>>) -> Result<SymValues<B>, NoMemory>
+    ensures { IfOk result (λ r. r ≡ args.now.items) }
+{
+    let mut all = SymValues::new(alloc);
+    for x in args {
+        let copy = x.copy()?;
+        all.push(copy)?;
+    }
+    Ok(all)
+}
+
+// The outcome of a call of the entry, from which calls may go as deep as the limits allow.
+fn at_depth<L: Logic>(
+    alloc: Global,
+    g: &mut L,
+    program: &Program<'_>,
+    view: &View<'_, L::Bit>,
+    entry: &Name,
+    args: SymValues<L::Bit>,
+) -> Result<SymOutcome<L::Bit>, NoMemory>
+    requires picks { OwnsAll L.owns g.old (joined (env_of view.now).picks) }
+    requires many { HasPicks (env_of view.now).picks (weighted_prog program.now.tree.now) }
+    requires functions { TypesFunctions program.now.types.now.facts program.now.tree.now }
+    requires args { AreArgumentsIn L.owns g.old (env_of view.now).limits args }
+    requires typed { IsSome (given_type (signatures_of program.now.tree.now
+        program.now.types.now.facts) entry.now (value_types args)) }
+    ensures extends { Extends L.owns L.reads L.count g.old g.new }
+    ensures made { IfOk result (λ r. (u : AnyType)
+        → given_type (signatures_of program.now.tree.now program.now.types.now.facts) entry.now
+        (value_types args) ≡ Some u
+        → IsOutcomeIn L.owns g.new (form_for (env_of view.now).limits u) r) }
+    ensures value { IfOk result (λ r.
+        (vs : List Bool) (m : ℕ → ℕ) (values : List Value) (p : List Routine)
+        → PicksRead (L.reads g.old vs) (env_of view.now).picks m
+        → map (read (L.reads g.old vs)) args ≡ map sure values
+        → program_shape p ≡ plain m (weighted_prog program.now.tree.now)
+        → OutcomeReads (L.reads g.new vs) r
+        (evaluated (env_of view.now).limits p entry.now values)) }
+{
+    let none = Deepest { program: *program };
+    let one = Level {
+        program: *program,
+        below: none,
+    };
+    let two = Level {
+        program: *program,
+        below: one,
+    };
+    let three = Level {
+        program: *program,
+        below: two,
+    };
+    let four = Level {
+        program: *program,
+        below: three,
+    };
+    let five = Level {
+        program: *program,
+        below: four,
+    };
+    let six = Level {
+        program: *program,
+        below: five,
+    };
+    let seven = Level {
+        program: *program,
+        below: six,
+    };
+    let eight = Level {
+        program: *program,
+        below: seven,
+    };
+    match view.limits.depth {
+        1 => {
+            let outcome = one.call(alloc, g, view, entry, args)?;
+            Ok(outcome)
+        }
+        2 => {
+            let outcome = two.call(alloc, g, view, entry, args)?;
+            Ok(outcome)
+        }
+        3 => {
+            let outcome = three.call(alloc, g, view, entry, args)?;
+            Ok(outcome)
+        }
+        4 => {
+            let outcome = four.call(alloc, g, view, entry, args)?;
+            Ok(outcome)
+        }
+        5 => {
+            let outcome = five.call(alloc, g, view, entry, args)?;
+            Ok(outcome)
+        }
+        6 => {
+            let outcome = six.call(alloc, g, view, entry, args)?;
+            Ok(outcome)
+        }
+        7 => {
+            let outcome = seven.call(alloc, g, view, entry, args)?;
+            Ok(outcome)
+        }
+        _ => {
+            let outcome = eight.call(alloc, g, view, entry, args)?;
+            Ok(outcome)
+        }
+    }
+}
