@@ -1,7 +1,7 @@
 //! The slots of a function, from the facts about them.
 
-ghost use Rattle.std.specs.Prelude.{◌≡◌, ◌++◌, ◌∷◌, [], All, map, if◌then◌else◌, IfOk, IsSome, Some};
-ghost use Rattle.std.specs.Prelude.{slice_get};
+ghost use Rattle.std.specs.Prelude.{◌≡◌, ◌++◌, ◌∷◌, [], All, map, if◌then◌else◌, IfOk, IsSome};
+ghost use Rattle.std.specs.Prelude.{Some, slice_get};
 ghost use Rattle.mpy_tree.specs.declared.typing.Slot.TheVariants as slot;
 ghost use Rattle.mpy_tree.specs.Locals.{is_among};
 ghost use Rattle.mpy_tree.specs.Rules.{single};
