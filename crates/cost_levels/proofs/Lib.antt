@@ -1,0 +1,5 @@
+pub mod Beginning
+pub mod Levelled
+pub mod Making
+pub mod Tables
+pub mod Walked

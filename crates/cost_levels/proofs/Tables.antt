@@ -1,0 +1,140 @@
+-- Tables that grow row by row.
+use Rattle.std.proofs.Common.{◌≡◌, ℕ, zero, suc, ◌<◌, ◌≤◌, ◌^◌, List, [], ◌∷◌, ◌++◌, length}
+use Rattle.std.proofs.Common.{map, slice_get, Some, None, refl, sym, ap, ◌∙◌, subst, arith}
+use Rattle.std.proofs.Common.{append_assoc, length-append}
+use Rattle.std.proofs.lemmas.List.{append-nil}
+use Rattle.std.proofs.lemmas.Option.{slice_get_within}
+use Rattle.choice_tree.specs.declared.node.Pick.{Pick}
+use Rattle.choice_tree.specs.NodeViews.{own_pick, pick_of}
+use Rattle.choice_tree.specs.WeightedTrees.{Weighted, Weighteds, plainly, pick, no_weighted}
+use Rattle.choice_tree.specs.WeightedTrees.{weighted_and, children, listed}
+use Rattle.choice_tree.specs.WeightedViews.{Member, weighted_of, members, member_seen}
+use Rattle.cost_levels.specs.declared.rows.Row.{Row}
+use Rattle.cost_levels.specs.declared.rows.Way.{Way}
+use Rattle.cost_levels.specs.Plans.{Plan, Ways, done, at_pick, no_ways, way_and, planned}
+use Rattle.cost_levels.specs.Plans.{all_planned, planned_each, ways_by}
+use Rattle.cost_levels.specs.Rows.{Grows, Shows, ShowWays}
+
+at_more : {X : Type 0} (xs ys : List X) (i : ℕ) (x : X) → slice_get xs i ≡ Some x
+    → slice_get (xs ++ ys) i ≡ Some x
+at_more [] ys i x h = cc
+at_more (y ∷ xs) ys zero x h = h
+at_more (y ∷ xs) ys (suc i) x h = at_more xs ys i x h
+
+at_end : {X : Type 0} (xs : List X) (x : X) → slice_get (xs ++ x ∷ []) (length xs) ≡ Some x
+at_end [] x = refl
+at_end (y ∷ xs) x = at_end xs x
+
+-- what a table shows a longer one shows too
+mutual
+  pub shows_more : (p : Plan) (rows more : List Row) (entry : ℕ) → Shows rows entry p
+      → Shows (rows ++ more) entry p
+  shows_more done rows more entry h = h
+  shows_more (at_pick number base ws) rows more entry h =
+      let r = h.0 in (
+        record {
+          place = r.place;
+          is = r.is;
+          row = r.row;
+          at = at_more rows more r.place r.row r.at;
+          few = r.few;
+        },
+        h.1,
+        h.2,
+        shows_more base rows more r.row.base h.3,
+        ways_more ws rows more r.place r.place r.row.others.items (omega arith) h.4,
+      )
+
+  pub ways_more : (ws : Ways) (rows more : List Row) (most most' : ℕ) (vs : List Way)
+      → most ≤ most' → ShowWays rows most vs ws → ShowWays (rows ++ more) most' vs ws
+  ways_more no_ways rows more most most' vs le h = h
+  ways_more (way_and cost next ws) rows more most most' vs le h =
+      let v = h.0 in
+      let on = h.2 in (
+        v,
+        h.1,
+        omega (arith, on, le),
+        shows_more next rows more v.way.next h.3,
+        ways_more ws rows more most most' v.rest le h.4,
+      )
+
+-- an entry is one of the table's
+pub shows_within : (p : Plan) (rows : List Row) (entry : ℕ) → Shows rows entry p
+    → entry ≤ length rows
+shows_within done rows entry h = omega (arith, h)
+shows_within (at_pick number base ws) rows entry h =
+    let r = h.0 in
+    let below = slice_get_within rows r.place r.row r.at in
+    let is = r.is in
+    omega (arith, below, is)
+
+-- one member more
+pub ways_push : (ms : List Member) (m : Member) (p : Plan) (rows : List Row) (most : ℕ)
+    (vs : List Way) (v : Way) → ShowWays rows most vs (ways_by (members ms) p) → v.cost ≡ m.cost
+    → v.next ≤ most → Shows rows v.next (planned m.tree p)
+    → ShowWays rows most (vs ++ v ∷ []) (ways_by (members (ms ++ m ∷ [])) p)
+ways_push [] m p rows most vs v h cost on shows =
+    rw h (record { way = v; rest = []; is = refl }, cost, on, shows, refl)
+ways_push (x ∷ ms) m p rows most vs v h cost on shows =
+    let first = h.0 in (
+      record {
+        way = first.way;
+        rest = first.rest ++ v ∷ [];
+        is = ap (λ us. us ++ v ∷ []) first.is;
+      },
+      h.1,
+      h.2,
+      h.3,
+      ways_push ms m p rows most first.rest v h.4 cost on shows,
+    )
+
+-- a row is appended
+pub shows_row : (rows : List Row) (r : Row) (base : Plan) (ws : Ways)
+    → length r.others.items < 2 ^ 32 → Shows rows r.base base
+    → ShowWays rows (length rows) r.others.items ws
+    → Shows (rows ++ r ∷ []) (suc (length rows)) (at_pick r.number base ws)
+shows_row rows r base ws few b h = (
+  record { place = length rows; is = refl; row = r; at = at_end rows r; few = few },
+  refl,
+  shows_within base rows r.base b,
+  shows_more base rows (r ∷ []) r.base b,
+  ways_more ws rows (r ∷ []) (length rows) (length rows) r.others.items (omega arith) h,
+)
+
+-- a node's plan, from those of its parts
+each_planned : (ws : Weighteds) (p : Plan) → planned_each (listed ws) p ≡ all_planned ws p
+each_planned no_weighted p = refl
+each_planned (weighted_and w ws) p = ap (planned w) (each_planned ws p)
+
+pub parts_planned : (w : Weighted) (p : Plan) → None ≡ own_pick w
+    → planned_each (children w) p ≡ planned w p
+parts_planned (plainly k ws) p h = each_planned ws p
+parts_planned (pick number base os) p h = cc
+
+pub pick_planned : (w : Weighted) (p : Plan) (q : Pick) → Some (pick_of q) ≡ own_pick w
+    → at_pick q.number (planned (weighted_of q.base.now) p)
+    (ways_by (members (map member_seen q.others.now)) p) ≡ planned w p
+pick_planned (plainly k ws) p q h = cc
+pick_planned (pick number base os) p q h =
+    let same : pick_of q ≡ record { number = number; base = base; others = os } = cc in
+    (λ i. at_pick (same i).number (planned (same i).base p) (ways_by (same i).others p))
+
+-- rows that are appended twice
+pub grows_on : (a b c : List Row) → Grows a b → Grows b c → Grows a c
+grows_on a b c f g =
+    (f.0 ++ g.0, g.1 ∙ ap (λ rs. rs ++ g.0) f.1 ∙ append_assoc a f.0 g.0)
+
+pub grows_none : (a : List Row) → Grows a a
+grows_none a = ([], sym (append-nil a))
+
+pub shows_grown : (old new : List Row) (entry : ℕ) (p : Plan) → Grows old new → Shows old entry p
+    → Shows new entry p
+shows_grown old new entry p g h =
+    subst (λ rs. Shows rs entry p) (sym g.1) (shows_more p old g.0 entry h)
+
+pub ways_grown : (old new : List Row) (vs : List Way) (ws : Ways) → Grows old new
+    → ShowWays old (length old) vs ws → ShowWays new (length new) vs ws
+ways_grown old new vs ws g h =
+    let all = ap length g.1 ∙ length-append old g.0 in
+    subst (λ rs. ShowWays rs (length new) vs ws) (sym g.1)
+    (ways_more ws old g.0 (length old) (length new) vs (omega (arith, all)) h)

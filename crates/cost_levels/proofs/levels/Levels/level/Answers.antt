@@ -1,0 +1,21 @@
+use Rattle.std.proofs.Common.{◌∙◌, List, ◌++◌, ap, subst, sym}
+use Rattle.choice_tree.specs.declared.tree.WProg.{WProg}
+use Rattle.choice_tree.specs.StatementViews.{weighted_prog}
+use Rattle.cost_levels.specs.declared.rows.Row.{Row}
+use Rattle.cost_levels.specs.Levels.{level}
+use Rattle.cost_levels.specs.Plans.{done, listed, planned}
+use Rattle.cost_levels.specs.Rows.{Shows}
+use Rattle.cost_levels.proofs.Walked.{behind, behind_none}
+use Rattle.cost_levels.proofs.levels.Levels.level.Goals as goal
+
+pub returns : goal.returns
+returns c =
+    let plan = planned (weighted_prog c.self.inside.tree.now) done in
+    let shows : Shows c.as_slice.result.now c.self.inside.first plan =
+    subst (λ (rs : List Row). Shows rs c.self.inside.first plan) (sym c.as_slice.ensures.value)
+    c.self.invariant in
+    c.in_ok-push_listed.ensures.listed plan shows
+    ∙ (λ i. c.new-listed.ensures.items i
+    ++ behind (c.new-chosen.ensures.items i) (listed plan c.args.cost))
+    ∙ behind_none (listed plan c.args.cost)
+    ∙ ap (λ (t : WProg). level (weighted_prog t) c.args.cost) c.self.view_is

@@ -1,0 +1,41 @@
+use Rattle.std.proofs.Common.{◌+◌, ◌*◌, ◌≤◌, map, drop, take, length}
+use Rattle.choice_tree.specs.NodeViews.{node_of}
+use Rattle.choice_tree.specs.WeightedTrees.{children, nodes, nodes_in_others}
+use Rattle.choice_tree.specs.WeightedViews.{weighted_of, members, member_seen}
+use Rattle.cost_levels.specs.Plans.{Plan, planned, planned_each, ways_by}
+use Rattle.cost_levels.specs.Rows.{Grows, Shows, ShowWays}
+use Rattle.cost_levels.proofs.rows.+rows.Given as goal
+
+abbrev pub decreases-push_node : goal.decreases-push_node
+decreases-push_node l = 2 * nodes (node_of l.node) + 1
+
+abbrev pub decreases-push_parts : goal.decreases-push_parts
+decreases-push_parts l = 2 * nodes (node_of l.node)
+
+abbrev pub decreases-push_pick : goal.decreases-push_pick
+decreases-push_pick l =
+    2 * (nodes (weighted_of l.pick.base.now)
+    + nodes_in_others (members (map member_seen l.pick.others.now))) + 2
+
+-- the children from a place on were put before the entry
+abbrev pub invariant-push_parts-parts : goal.invariant-push_parts-parts
+invariant-push_parts-parts l = record {
+  within : l.left ≤ length (children (node_of l.fn.node));
+  grown : Grows l.fn.rows.items l.rows.items;
+  shown : (p : Plan) → Shows l.fn.rows.items l.fn.after p → Shows l.rows.items l.entry
+      (planned_each (drop l.left (children (node_of l.fn.node))) p);
+}
+
+abbrev pub decreases-push_parts-parts : goal.decreases-push_parts-parts
+decreases-push_parts-parts l = l.left
+
+-- the base, and the members so far, go on to the entry
+abbrev pub invariant-push_pick-loop-other : goal.invariant-push_pick-loop-other
+invariant-push_pick-loop-other l = record {
+  grown : Grows l.fn.rows.items l.rows.items;
+  base : (p : Plan) → Shows l.fn.rows.items l.fn.after p
+      → Shows l.rows.items l.base (planned (weighted_of l.fn.pick.base.now) p);
+  ways : (p : Plan) → Shows l.fn.rows.items l.fn.after p
+      → ShowWays l.rows.items (length l.rows.items) l.others.items
+      (ways_by (members (map member_seen (take l.other-index l.fn.pick.others.now))) p);
+}

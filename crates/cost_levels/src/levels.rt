@@ -1,0 +1,63 @@
+//! The levels of a tree.
+ghost use Rattle.std.specs.Prelude.{◌≡◌, IfOk};
+ghost use Rattle.choice_tree.specs.StatementViews.{weighted_prog};
+ghost use Rattle.cost_levels.specs.Levels.{level};
+
+use crate::NoMemory;
+use crate::listing::push_listed;
+use crate::rows::{Row, push_node};
+use choice_tree::{Node, Selection, WProg};
+use std::alloc::Global;
+use std::marker::Model;
+
+/// A weighted tree, and a table of its picks by which its selections are listed.
+#[derive(Drop)]
+pub struct Levels<'a> {
+    tree: &'a WProg,
+    rows: Vec<Row>,
+    first: usize,
+}
+
+impl<'a> Model for Levels<'a> {
+    ghost use Rattle.choice_tree.specs.declared.tree.WProg.{WProg};
+    ghost use Rattle.choice_tree.specs.contracts.tree.WProg as prog;
+    ghost use Rattle.choice_tree.specs.StatementViews.{weighted_prog};
+    ghost use Rattle.cost_levels.specs.Plans.{done, planned};
+    ghost use Rattle.cost_levels.specs.Rows.{Shows};
+    ghost use Rattle.std.specs.Coded.{codes};
+
+    ghost Value = { WProg };
+
+    ghost coded = { Prim.hlevel (codes, prog.the_row.coded) };
+
+    ghost view = { λ l. l.tree.now };
+
+    ghost invariant = { λ l. Shows l.rows.items l.first (planned (weighted_prog l.tree.now) done) };
+}
+
+impl<'a> Levels<'a> {
+    /// Those of a tree.
+    pub fn of(alloc: Global, tree: &'a WProg) -> Result<Levels<'a>, NoMemory>
+        ensures { IfOk result (λ l. l ≡ tree.now) }
+    {
+        let mut rows = Vec::new(alloc);
+        let first = push_node(alloc, Node::Prog(tree), 0, &mut rows)?;
+        Ok(Levels { tree, rows, first })
+    }
+
+    /// The selections of a cost that name no pick in a member that isn't chosen.
+    pub fn level(&self, alloc: Global, cost: u32) -> Result<Vec<Selection>, NoMemory>
+        ensures { IfOk result (λ v. v.items ≡ level (weighted_prog self.now) cost) }
+    {
+        let mut chosen = Vec::new(alloc);
+        let mut listed = Vec::new(alloc);
+        push_listed(
+            self.rows.as_slice(),
+            self.first,
+            cost,
+            &mut chosen,
+            &mut listed,
+        )?;
+        Ok(listed)
+    }
+}
