@@ -1,13 +1,15 @@
 //! The levels of a tree.
 ghost use Rattle.std.specs.Prelude.{◌≡◌, IfOk};
+ghost use Rattle.std.specs.List.Sorted.{IsPermutation};
 ghost use Rattle.choice_tree.specs.StatementViews.{weighted_prog};
 ghost use Rattle.cost_levels.specs.Levels.{level};
 
 use crate::NoMemory;
 use crate::listing::push_listed;
 use crate::rows::{Row, push_node};
-use choice_tree::{Node, Selection, WProg};
+use choice_tree::{Choice, Node, Selection, WProg};
 use std::alloc::Global;
+use std::cmp::Ordering;
 use std::marker::Model;
 
 /// A weighted tree, and a table of its picks by which its selections are listed.
@@ -45,9 +47,10 @@ impl<'a> Levels<'a> {
         Ok(Levels { tree, rows, first })
     }
 
-    /// The selections of a cost that name no pick in a member that isn't chosen.
+    /// The selections of a cost that name no pick in a member that isn't chosen, by their numbers:
+    /// those that choose members at earlier picks alone come first.
     pub fn level(&self, alloc: Global, cost: u32) -> Result<Vec<Selection>, NoMemory>
-        ensures { IfOk result (λ v. v.items ≡ level (weighted_prog self.now) cost) }
+        ensures { IfOk result (λ v. IsPermutation (level (weighted_prog self.now) cost) v.items) }
     {
         let mut chosen = Vec::new(alloc);
         let mut listed = Vec::new(alloc);
@@ -58,6 +61,33 @@ impl<'a> Levels<'a> {
             &mut chosen,
             &mut listed,
         )?;
+        listed.sort_by(|a: &Selection, b: &Selection| by_number(a.items(), b.items()))?;
         Ok(listed)
+    }
+}
+
+// The order of the numbers of two selections: the last choice that differs decides.
+fn by_number(a: &[Choice], b: &[Choice]) -> Ordering {
+    let mut i = a.len();
+    let mut j = b.len();
+    'last: loop {
+        if i == 0 || j == 0 {
+            return i.cmp(&j);
+        }
+        i -= 1;
+        j -= 1;
+        match choice_order(a[i], b[j]) {
+            Ordering::Equal => {}
+            differing => return differing,
+        }
+    }
+}
+
+// By the picks, and at the same pick by the members.
+fn choice_order(a: Choice, b: Choice) -> Ordering {
+    if a.pick == b.pick {
+        a.member.cmp(&b.member)
+    } else {
+        a.pick.cmp(&b.pick)
     }
 }

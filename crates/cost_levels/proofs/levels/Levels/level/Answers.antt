@@ -1,4 +1,6 @@
-use Rattle.std.proofs.Common.{◌∙◌, List, ◌++◌, ap, subst, sym}
+use Rattle.std.proofs.Common.{◌≡◌, ◌∙◌, List, ◌++◌, ap, subst, sym}
+use Rattle.std.specs.List.Sorted.{IsPermutation}
+use Rattle.choice_tree.specs.declared.selection.Choice.{Choice}
 use Rattle.choice_tree.specs.declared.tree.WProg.{WProg}
 use Rattle.choice_tree.specs.StatementViews.{weighted_prog}
 use Rattle.cost_levels.specs.declared.rows.Row.{Row}
@@ -14,8 +16,11 @@ returns c =
     let shows : Shows c.as_slice.result.now c.self.inside.first plan =
     subst (λ (rs : List Row). Shows rs c.self.inside.first plan) (sym c.as_slice.ensures.value)
     c.self.invariant in
+    let all : c.push_listed.new.out.items ≡ level (weighted_prog c.args.self.now) c.args.cost =
     c.in_ok-push_listed.ensures.listed plan shows
     ∙ (λ i. c.new-listed.ensures.items i
     ++ behind (c.new-chosen.ensures.items i) (listed plan c.args.cost))
     ∙ behind_none (listed plan c.args.cost)
-    ∙ ap (λ (t : WProg). level (weighted_prog t) c.args.cost) c.self.view_is
+    ∙ ap (λ (t : WProg). level (weighted_prog t) c.args.cost) c.self.view_is in
+    subst (λ (ss : List (List Choice)). IsPermutation ss c.sort_by.new.self.items) all
+    c.in_ok-sort_by.ensures.permutation
