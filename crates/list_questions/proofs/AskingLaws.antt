@@ -4,28 +4,36 @@ use Rattle.std.proofs.Common.{sym, ap, ◌∙◌}
 use Rattle.std.proofs.lemmas.List.{map_push}
 use Rattle.std.proofs.lemmas.List.Elements.{All-contains, Contains-append_left}
 use Rattle.mpy_tree.specs.declared.value.Value.{Value}
+use Rattle.choice_tree.specs.declared.selection.Choice.{Choice}
+use Rattle.choice_tree.specs.declared.tree.WProg.{WProg}
 use Rattle.input_space.specs.declared.case.Case.{Case}
-use Rattle.input_space.specs.Tasks.{Task, tree_of}
-use Rattle.selection_numbers.specs.Numbers.{selection_of}
-use Rattle.list_questions.specs.declared.ranking.Ranked.{Ranked}
-use Rattle.list_questions.specs.Asking.{IsAsking, Fails, AllFail, wanted_on}
+use Rattle.input_space.specs.Tasks.{Task}
+use Rattle.list_questions.specs.declared.trial.Reached.{Reached}
+use Rattle.list_questions.specs.Asking.{IsAsking, IsReached, Fails, wanted_on}
 use Rattle.list_questions.specs.TaskSpace.{SelectionMeets, wanted}
 use Rattle.list_questions.proofs.Chosen.{all_if_contained}
 
 -- what fails on some cases fails on more
-fails_on_more : (k : Task) (xs ys : List Case) (r : Ranked) → Fails k xs r → Fails k (xs ++ ys) r
-fails_on_more k xs ys r fails all =
-    let meets = SelectionMeets k (selection_of (tree_of k) r.number) in
+fails_on_more : (k : Task) (xs ys : List Case) (s : List Choice) → Fails k xs s → Fails k (xs ++ ys) s
+fails_on_more k xs ys s fails all =
+    let meets = SelectionMeets k s in
     fails (all_if_contained meets xs (λ x c. All-contains meets (xs ++ ys) x all (Contains-append_left xs ys x c)))
 
-pub asking_more : (k : Task) (counts : List ℕ) (ranking : List Ranked) (passed : ℕ) (table : List (Option Value)) (kept : List Case) (values : List Value)
-    (x : Case) (v : Value) → IsAsking k counts ranking passed table kept values → wanted k x.values ≡ Some v
-    → IsAsking k counts ranking passed table (kept ++ x ∷ []) (values ++ v ∷ [])
-asking_more k counts ranking passed table kept values x v asking is = record {
-  counts_are = asking.counts_are;
-  ranked = asking.ranked;
-  within = asking.within;
-  passed_by = λ i r on below at. fails_on_more k kept (x ∷ []) r (asking.passed_by i r on below at);
+reached_more : (k : Task) (xs ys : List Case) (r : Reached) → IsReached k xs r → IsReached k (xs ++ ys) r
+reached_more k xs ys r is = record {
+  level_is = is.level_is;
+  within = is.within;
+  lower = λ n s below there. fails_on_more k xs ys s (is.lower n s below there);
+  passed_by = λ i s on below at. fails_on_more k xs ys s (is.passed_by i s on below at);
+}
+
+pub asking_more : (k : Task) (tree : WProg) (last : ℕ) (reached : Reached) (table : List (Option Value)) (kept : List Case) (values : List Value)
+    (x : Case) (v : Value) → IsAsking k tree last reached table kept values → wanted k x.values ≡ Some v
+    → IsAsking k tree last reached table (kept ++ x ∷ []) (values ++ v ∷ [])
+asking_more k tree last reached table kept values x v asking is = record {
+  tree_is = asking.tree_is;
+  last_is = asking.last_is;
+  reached_so = reached_more k kept (x ∷ []) reached asking.reached_so;
   table_is = asking.table_is;
   values_are = map_push (λ (y : Case). wanted k y.values) kept x ∙ ap (λ o. wanted_on k kept ++ o ∷ []) is ∙ ap (λ os. os ++ Some v ∷ []) asking.values_are ∙ sym (map_push Some values v);
 }

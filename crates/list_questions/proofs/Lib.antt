@@ -1,6 +1,5 @@
 pub mod AskingLaws
 pub mod Chosen
-pub mod RankingLaws
 pub mod SelectionLaws
 pub mod SoundLaws
 pub mod TableLaws

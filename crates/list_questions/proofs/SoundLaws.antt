@@ -1,7 +1,7 @@
--- What follows of a task's size: few inputs, few selections, and small costs.
+-- What follows of a task's size: few inputs, and small costs.
 use Rattle.std.proofs.Common.{◌≡◌, ◌⊎◌, ℕ, ◌+◌, ◌*◌, ◌<◌, ◌≤◌, ◌^◌, List, length, map, inl, inr, sym, ap, subst, ◌∙◌, arith}
 use Rattle.std.specs.Prelude.{All}
-use Rattle.std.proofs.Math.Nat.{mul-le-mul_left, mul-le-mul_right}
+use Rattle.std.proofs.Math.Nat.{mul-le-mul_right}
 use Rattle.std.proofs.lemmas.Bool.{cases_lt}
 use Rattle.choice_tree.specs.Costs.{all_costs}
 use Rattle.choice_tree.specs.Selections.{choices}
@@ -13,9 +13,6 @@ use Rattle.eml_faults.proofs.Faultless.{small_kept}
 use Rattle.eml_rewrite.proofs.SmallCosts.{program_cheap}
 use Rattle.input_space.specs.Inputs.{inputs}
 use Rattle.input_space.specs.Tasks.{IsSound, Task, setting, tree_of}
-use Rattle.input_space.proofs.SomeInput.{some_inputs}
-use Rattle.selection_numbers.specs.MemberCounts.{member_counts}
-use Rattle.selection_numbers.proofs.Picks.{few_counts}
 
 cases_le : (n most : ℕ) → (n ≤ most) ⊎ (most < n)
 cases_le n most = elim (cases_lt most n) [ inl high ↦ inr high | inr low ↦ inl low ]
@@ -30,23 +27,11 @@ few_inputs k sound = elim (cases_le (length (inputs k.bounds.params)) 1000000) [
   | inr many ↦ absurd (sound.small (inr (factor (choices (tree_of k)) (length (inputs k.bounds.params)) 1000000 (some_choices (tree_of k)) many)))
 ]
 
-pub few_choices : (k : Task) → IsSound k → choices (tree_of k) ≤ 1000000
-few_choices k sound = elim (cases_le (choices (tree_of k)) 1000000) [
-  | inl few ↦ few
-  | inr many ↦
-      let n = choices (tree_of k) in
-      let more : n * 1 ≤ n * length (inputs k.bounds.params) = mul-le-mul_left n (some_inputs k.bounds.limits k.bounds.params k.bounds.ranges) in
-      absurd (sound.small (inr (omega (arith, more, many))))
-]
-
 few_nodes : (k : Task) → IsSound k → size (tree_of k) ≤ 1000000
 few_nodes k sound = elim (cases_le (size (tree_of k)) 1000000) [
   | inl few ↦ few
   | inr many ↦ absurd (sound.small (inl many))
 ]
-
-pub few_picks : (k : Task) → IsSound k → length (member_counts (tree_of k)) ≤ 2 ^ 32
-few_picks k sound = let counts = few_counts (tree_of k) in let nodes = few_nodes k sound in omega (arith, counts, nodes)
 
 cheap_rules : (rs : List Correction) → All IsSmall rs → All (λ r. r.cost ≤ 9) rs
 cheap_rules rs small = λ i d within. (small i d within).cost_to

@@ -1,118 +1,128 @@
--- Trials of the selections of a ranking.
-use Rattle.std.proofs.Common.{◌≡◌, ◌⊎◌, ℕ, ◌+◌, ◌<◌, ◌≤◌, List, [], ◌∷◌, Option, None, Some, length, refl, sym, ap, subst, ◌∙◌, arith, slice_get, inl, inr}
-use Rattle.std.specs.Prelude.{All, IfSome, MatchOption, slice_index_or}
+-- Trials of the selections of levels.
+use Rattle.std.proofs.Common.{◌≡◌, ◌⊎◌, ℕ, ◌+◌, ◌<◌, ◌≤◌, List, Option, None, Some, length, sym, ap, subst, ◌∙◌, arith, slice_get, inl, inr}
+use Rattle.std.specs.Prelude.{All, IfSome}
 use Rattle.std.specs.List.{Contains}
-use Rattle.std.specs.List.Sorted.{IsNonDecreasingBy}
+use Rattle.std.specs.List.Sorted.{IsPermutation}
+use Rattle.std.proofs.lemmas.List.Sorted.{Contains-permutation, IsPermutation-sym}
 use Rattle.std.proofs.lemmas.Bool.{cases_lt}
-use Rattle.std.proofs.lemmas.List.Elements.{All-contains}
-use Rattle.std.proofs.lemmas.Option.{get_or_from_slice_get, same_Some, slice_get-get_or, slice_get_within}
-use Rattle.mpy_tree.specs.declared.value.Value.{Value}
+use Rattle.std.proofs.lemmas.Option.{same_Some, slice_get_within}
 use Rattle.mpy_tree.specs.Shapes.{program_shape}
 use Rattle.choice_tree.specs.declared.selection.Choice.{Choice}
 use Rattle.choice_tree.specs.Choices.{member_of}
 use Rattle.choice_tree.specs.Contexts.{elsewhere, outermost}
 use Rattle.choice_tree.specs.Growing.{grown, steps}
-use Rattle.choice_tree.specs.Selections.{Fits, cost}
+use Rattle.choice_tree.specs.Selections.{cost, most_cost, plain}
+use Rattle.choice_tree.proofs.GreatestCost.{is_greatest}
+use Rattle.cost_levels.specs.Levels.{AreLevels, level}
+use Rattle.cost_levels.proofs.Levelled.{are_levels}
 use Rattle.input_space.specs.declared.case.Case.{Case}
 use Rattle.input_space.specs.Tasks.{Task, setting, tree_of}
 use Rattle.cegis_loop.specs.Space.{IsLow}
-use Rattle.selection_numbers.specs.Numbers.{AreNumbered, selection_of}
-use Rattle.selection_numbers.proofs.Numbered.{are_numbered}
-use Rattle.list_questions.specs.declared.ranking.Ranked.{Ranked}
-use Rattle.list_questions.specs.declared.trial.Stopped.{Stopped}
-use Rattle.list_questions.specs.Asking.{AllFail, EndsAt, Fails, IsAsking, IsBeyond, IsFoundAt, StopsAt}
-use Rattle.list_questions.specs.Rankings.{IsRanking, ranked}
+use Rattle.list_questions.specs.declared.trial.Reached.{Reached}
+use Rattle.list_questions.specs.Answering.{NoneLow}
+use Rattle.list_questions.specs.Asking.{AllFail, Fails, IsBeyond, IsReached}
 use Rattle.list_questions.specs.TaskSpace.{SelectionMeets, space}
-use Rattle.list_questions.proofs.Chosen.{at_place, contained_at}
+use Rattle.list_questions.specs.Trials.{StopsAt}
+use Rattle.list_questions.proofs.Chosen.{at_place}
 
-numbers : (k : Task) → AreNumbered (tree_of k)
-numbers k = let t = program_shape k.submission in are_numbered (grown (setting k) (steps t) elsewhere (outermost (setting k)) t)
+levels : (k : Task) → AreLevels (tree_of k)
+levels k = let t = program_shape k.submission in are_levels (grown (setting k) (steps t) elsewhere (outermost (setting k)) t)
 
 eq_or_below : (j n : ℕ) → j < n + 1 → (j ≡ n) ⊎ (j < n)
 eq_or_below j n below = elim (cases_lt j n) [ inl lower ↦ inr lower | inr higher ↦ inl (omega arith) ]
 
 -- one selection more fails
-pub fail_more : (k : Task) (xs : List Case) (rs : List Ranked) (from n : ℕ) (r : Ranked) → AllFail k xs rs from n → slice_get rs n ≡ Some r → Fails k xs r → AllFail k xs rs from (n + 1)
-fail_more k xs rs from n r before at here i q on below found = elim (eq_or_below i n below) [
-  | inl same ↦ subst (Fails k xs) (same_Some r q (sym at ∙ ap (slice_get rs) (sym same) ∙ found)) here
-  | inr lower ↦ before i q on lower found
+pub fail_more : (k : Task) (xs : List Case) (ss : List (List Choice)) (from n : ℕ) (s : List Choice) → AllFail k xs ss from n → slice_get ss n ≡ Some s → Fails k xs s → AllFail k xs ss from (n + 1)
+fail_more k xs ss from n s before at here i t on below found = elim (eq_or_below i n below) [
+  | inl same ↦ subst (Fails k xs) (same_Some s t (sym at ∙ ap (slice_get ss) (sym same) ∙ found)) here
+  | inr lower ↦ before i t on lower found
 ]
 
-pub fail_on : (k : Task) (xs : List Case) (rs : List Ranked) (from to end : ℕ) → AllFail k xs rs from to → AllFail k xs rs to end → AllFail k xs rs from end
-fail_on k xs rs from to end before after i r on below at = elim (cases_lt i to) [
-  | inl lower ↦ before i r on lower at
-  | inr higher ↦ after i r higher below at
-]
+-- the selections from one place to another were passed by
+pub passed_to : (k : Task) (xs : List Case) (r : Reached) (place : ℕ) → IsReached k xs r → StopsAt k xs r.level.items r.passed place
+    → IsReached k xs (record { cost = r.cost; level = r.level; passed = place })
+passed_to k xs r place is stops = record {
+  level_is = is.level_is;
+  within = stops.within;
+  lower = is.lower;
+  passed_by = λ i s on below at. elim (cases_lt i r.passed) [
+    | inl lower ↦ is.passed_by i s on lower at
+    | inr higher ↦ stops.passed i s higher below at
+  ];
+}
 
--- a cost that isn't beyond the bound is within it
+-- all of the level that was reached fail
+whole_level : (k : Task) (xs : List Case) (r : Reached) → IsReached k xs r → length r.level.items ≤ r.passed → (s : List Choice) → Contains (level (tree_of k) r.cost) s → Fails k xs s
+whole_level k xs r is all s there =
+    let at = at_place r.level.items s (Contains-permutation (level (tree_of k) r.cost) r.level.items s is.level_is there) in
+    let below = slice_get_within r.level.items at.0 s at.1 in
+    is.passed_by at.0 s (omega arith) (omega (arith, below, all)) at.1
+
+-- and so the next level is reached
+pub next_reached : (k : Task) (xs : List Case) (r new : Reached) → IsReached k xs r → length r.level.items ≤ r.passed → new.cost ≡ r.cost + 1
+    → IsPermutation (level (tree_of k) (r.cost + 1)) new.level.items → new.passed ≡ 0 → IsReached k xs new
+next_reached k xs r new is all cost_is level_is none = record {
+  level_is = subst (λ n. IsPermutation (level (tree_of k) n) new.level.items) (sym cost_is) level_is;
+  within = omega (arith, none);
+  lower = λ n s below there. elim (eq_or_below n r.cost (omega (arith, below, cost_is))) [
+    | inl same ↦ whole_level k xs r is all s (subst (λ m. Contains (level (tree_of k) m) s) same there)
+    | inr lower ↦ is.lower n s lower there
+  ];
+  passed_by = λ i s on below at. absurd (omega (arith, below, none));
+}
+
+-- at the start
+pub fresh_reached : (k : Task) (xs : List Case) (r : Reached) → r.cost ≡ 0 → IsPermutation (level (tree_of k) 0) r.level.items → r.passed ≡ 0 → IsReached k xs r
+fresh_reached k xs r cost_is level_is none = record {
+  level_is = subst (λ n. IsPermutation (level (tree_of k) n) r.level.items) (sym cost_is) level_is;
+  within = omega (arith, none);
+  lower = λ n s below there. absurd (omega (arith, below, cost_is));
+  passed_by = λ i s on below at. absurd (omega (arith, below, none));
+}
+
+-- a cost that isn't beyond the bound is within it, and one within a bound is below those beyond it
 within_bound : (most : Option ℕ) (n : ℕ) → (IsBeyond most n → ⊥) → IfSome most (λ m. n ≤ m)
 within_bound None n h = tt
 within_bound (Some m) n h = elim (cases_lt m n) [ inl above ↦ absurd (h above) | inr within ↦ within ]
 
-beyond_all : (most : Option ℕ) (m n : ℕ) → IsBeyond most m → m ≤ n → IfSome most (λ b. n ≤ b) → ⊥
-beyond_all None m n beyond more within = beyond
-beyond_all (Some b) m n beyond more within = omega (arith, beyond, more, within)
+below_beyond : (most : Option ℕ) (n m : ℕ) → IsBeyond most m → IfSome most (λ b. n ≤ b) → n < m
+below_beyond None n m beyond within = absurd beyond
+below_beyond (Some b) n m beyond within = omega (arith, beyond, within)
 
-rank_cost : (k : Task) (rs : List Ranked) (i : ℕ) (r : Ranked) → IsRanking (tree_of k) rs → slice_get rs i ≡ Some r → r.cost ≡ cost (member_of (selection_of (tree_of k) r.number)) (tree_of k)
-rank_cost k rs i r is at = ap (λ (x : Ranked). x.cost) (All-contains (λ r. r ≡ ranked (tree_of k) r.number) rs r is.each (contained_at rs i r at))
+-- selections of one tree agree on the same cases
+same_agree : (k : Task) (s t : List Choice) (xs : List Case) → plain (member_of t) (tree_of k) ≡ plain (member_of s) (tree_of k) → All (SelectionMeets k s) xs → All (SelectionMeets k t) xs
+same_agree k s t xs same met = λ i d within p made. met i d within p (made ∙ same)
 
 -- what was found is low
-found_low : (k : Task) (xs : List Case) (rs : List Ranked) (most : Option ℕ) (place : ℕ) (s : List Choice) → IsRanking (tree_of k) rs → IsFoundAt k xs rs most place s → IsLow (space k) most xs s
-found_low k xs rs most place s is found = record {
-  choice = subst (Fits (tree_of k)) (sym found.is) ((numbers k).each_fits found.rank.number);
-  within =
-      within_bound most (cost (member_of s) (tree_of k))
-      (subst (λ n. IsBeyond most n → ⊥) (rank_cost k rs place found.rank is found.at ∙ ap (λ (t : List Choice). cost (member_of t) (tree_of k)) (sym found.is)) found.within);
-  agrees = found.agrees;
-}
+pub found_low : (k : Task) (xs : List Case) (r : Reached) (most : Option ℕ) (s : List Choice) → IsReached k xs r → Contains r.level.items s → (IsBeyond most r.cost → ⊥) → All (SelectionMeets k s) xs
+    → IsLow (space k) most xs s
+found_low k xs r most s is there within agrees =
+    let c : Contains (level (tree_of k) r.cost) s = Contains-permutation r.level.items (level (tree_of k) r.cost) s (IsPermutation-sym (level (tree_of k) r.cost) r.level.items is.level_is) there in
+    record {
+      choice = (levels k).each_fits r.cost s c;
+      within = subst (λ n. IfSome most (λ m. n ≤ m)) (sym ((levels k).each_costs r.cost s c)) (within_bound most r.cost within);
+      agrees = agrees;
+    }
 
--- later selections cost no less
-cost_rises : (rs : List Ranked) (i j : ℕ) (q r : Ranked) → IsNonDecreasingBy (λ (x : Ranked). x.cost) rs → i ≤ j → slice_get rs i ≡ Some q → slice_get rs j ≡ Some r → q.cost ≤ r.cost
-cost_rises rs i j q r rising on at further =
-    let less = rising i j q on (slice_get_within rs j r further) in
-    subst (λ (x : Ranked). x.cost ≤ r.cost) (get_or_from_slice_get rs i q q at)
-    (subst (λ (x : Ranked). (slice_index_or rs i q).cost ≤ x.cost) (get_or_from_slice_get rs j r q further) less)
-
--- where nothing was found nothing is low
-none_low : (k : Task) (xs : List Case) (rs : List Ranked) (most : Option ℕ) (place : ℕ) → IsRanking (tree_of k) rs → AllFail k xs rs 0 place → EndsAt rs most place
-    → (s : List Choice) → IsLow (space k) most xs s → ⊥
-none_low k xs rs most place is failed ends s low =
-    let has = (numbers k).each_has_one s low.choice in
+-- beyond the bound nothing is low
+pub none_within : (k : Task) (xs : List Case) (r : Reached) (most : Option ℕ) → IsReached k xs r → IsBeyond most r.cost → NoneLow k most xs
+none_within k xs r most is beyond s low =
     let w = tree_of k in
-    let at = at_place rs (ranked w has.number) (is.all has.number has.below) in
-    elim (cases_lt at.0 place) [
-      | inl before ↦ failed at.0 (ranked w has.number) (omega arith) before at.1 (subst (λ t. All (SelectionMeets k t) xs) (sym has.is) low.agrees)
-      | inr after ↦
-          let within = slice_get_within rs at.0 (ranked w has.number) at.1 in
-          let here : slice_get rs place ≡ Some (slice_index_or rs place (ranked w has.number)) = slice_get-get_or rs place (ranked w has.number) (omega (arith, within, after)) in
-          let first = slice_index_or rs place (ranked w has.number) in
-          let more = cost_rises rs place at.0 first (ranked w has.number) is.rising after here at.1 in
-          beyond_all most first.cost (ranked w has.number).cost (ends first here) more
-          (subst (λ (t : List Choice). IfSome most (λ m. cost (member_of t) w ≤ m)) (sym has.is) low.within)
+    let stands = (levels k).each_made s in
+    is.lower (cost (member_of s) w) stands.selection (below_beyond most (cost (member_of s) w) r.cost beyond low.within) stands.there
+    (same_agree k s stands.selection xs stands.tree low.agrees)
+
+-- nor after the last level
+pub none_left : (k : Task) (xs : List Case) (r : Reached) (most : Option ℕ) → IsReached k xs r → length r.level.items ≤ r.passed → most_cost (tree_of k) ≤ r.cost → NoneLow k most xs
+none_left k xs r most is all last s low =
+    let w = tree_of k in
+    let n = cost (member_of s) w in
+    let stands = (levels k).each_made s in
+    let agrees = same_agree k s stands.selection xs stands.tree low.agrees in
+    let within = (is_greatest (setting k) k.submission).below s in
+    elim (cases_lt n r.cost) [
+      | inl lower ↦ is.lower n stands.selection lower stands.there agrees
+      | inr higher ↦
+          let same : n ≡ r.cost = omega (arith, higher, within, last) in
+          whole_level k xs r is all stands.selection (subst (λ m. Contains (level w m) stands.selection) same stands.there) agrees
     ]
-
-pub proposed : (k : Task) (counts : List ℕ) (rs : List Ranked) (passed : ℕ) (table : List (Option Value)) (kept : List Case) (values : List Value) (most : Option ℕ) (stop : Stopped)
-    → IsAsking k counts rs passed table kept values → StopsAt k kept rs most passed stop
-    → MatchOption stop.selection ((s : List Choice) → IsLow (space k) most kept s → ⊥) (IsLow (space k) most kept)
-proposed k counts rs passed table kept values most stop asking stops = answer_is stop.selection stops.answer
-  where
-    answer_is : (o : Option (List Choice)) → MatchOption o (EndsAt rs most stop.place) (IsFoundAt k kept rs most stop.place)
-        → MatchOption o ((s : List Choice) → IsLow (space k) most kept s → ⊥) (IsLow (space k) most kept)
-    answer_is None ends = none_low k kept rs most stop.place asking.ranked (fail_on k kept rs 0 passed stop.place asking.passed_by stops.passed) ends
-    answer_is (Some s) found = found_low k kept rs most stop.place s asking.ranked found
-
--- the selections that were passed by
-pub passed_on : (k : Task) (counts : List ℕ) (rs : List Ranked) (passed : ℕ) (table : List (Option Value)) (kept : List Case) (values : List Value) (most : Option ℕ) (stop : Stopped)
-    → IsAsking k counts rs passed table kept values → StopsAt k kept rs most passed stop → IsAsking k counts rs stop.place table kept values
-passed_on k counts rs passed table kept values most stop asking stops = record {
-  counts_are = asking.counts_are;
-  ranked = asking.ranked;
-  within = stops.within;
-  passed_by = fail_on k kept rs 0 passed stop.place asking.passed_by stops.passed;
-  table_is = asking.table_is;
-  values_are = asking.values_are;
-}
-
--- past the end there is nothing
-pub ends_past : (rs : List Ranked) (most : Option ℕ) → EndsAt rs most (length rs)
-ends_past rs most r at = absurd (let below = slice_get_within rs (length rs) r at in omega arith)

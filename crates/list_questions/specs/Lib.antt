@@ -1,5 +1,4 @@
 pub mod Answering
 pub mod Asking
-pub mod Rankings
 pub mod Trials
 pub mod TaskSpace

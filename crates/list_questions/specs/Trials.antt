@@ -1,23 +1,25 @@
 -- Selections tried on the cases that are kept.
-use Rattle.std.specs.Prelude.{◌≡◌, ◌≤◌, ◌^◌, List, All, length, map, Some}
+use Rattle.std.specs.Prelude.{◌≡◌, ◌≤◌, ℕ, List, All, length, map, Some, slice_get}
 use Rattle.choice_tree.specs.declared.selection.Choice.{Choice}
+use Rattle.choice_tree.specs.Selections.{most_cost}
+use Rattle.choice_tree.specs.StatementViews.{weighted_prog}
 use Rattle.input_space.specs.declared.case.Case.{Case}
 use Rattle.input_space.specs.TaskParts.{task_with}
 use Rattle.input_space.specs.Tasks.{Task, tree_of}
-use Rattle.selection_numbers.specs.MemberCounts.{member_counts}
-use Rattle.selection_numbers.specs.Numbers.{selection_of}
-use Rattle.list_questions.specs.declared.ranking.Ranked.{Ranked}
 use Rattle.list_questions.specs.declared.trial.Trial.{Trial}
-use Rattle.list_questions.specs.Asking.{wanted_on}
+use Rattle.list_questions.specs.Asking.{AllFail, wanted_on}
 use Rattle.list_questions.specs.TaskSpace.{SelectionMeets}
 
--- the counts are those of the tree, and the values those of the reference
+-- the levels are those of the tree up to its greatest cost, and the values those of the reference
 pub record IsTrial (t : Trial) : Type 0 where
-  pub counts_are : t.counts.now ≡ member_counts (tree_of (task_with t.runs.task.now))
-  pub few : length t.counts.now ≤ 2 ^ 32
+  pub tree_is : weighted_prog t.levels.now ≡ tree_of (task_with t.runs.task.now)
+  pub last_is : t.last ≡ most_cost (tree_of (task_with t.runs.task.now))
   pub values_are : wanted_on (task_with t.runs.task.now) t.kept.now ≡ map Some t.values.now
 
--- the selection of this rank, which agrees on the cases
-pub record IsAgreeing (k : Task) (xs : List Case) (r : Ranked) (s : List Choice) : Type 0 where
-  pub is : s ≡ selection_of (tree_of k) r.number
-  pub agrees : All (SelectionMeets k s) xs
+-- a walk over selections from a place on, up to one that agrees on the cases, or to their end
+pub record StopsAt (k : Task) (xs : List Case) (ss : List (List Choice)) (from place : ℕ)
+    : Type 0 where
+  pub on : from ≤ place
+  pub within : place ≤ length ss
+  pub passed : AllFail k xs ss from place
+  pub agrees : (s : List Choice) → slice_get ss place ≡ Some s → All (SelectionMeets k s) xs

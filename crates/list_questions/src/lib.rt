@@ -2,7 +2,6 @@
 #![tactic(auto)]
 
 mod questions;
-mod ranking;
 mod runs;
 mod trial;
 

@@ -8,14 +8,13 @@ ghost use Rattle.list_questions.specs.Asking.{task_of};
 ghost use Rattle.list_questions.specs.TaskSpace.{space, wanted, wanted_inputs};
 
 use crate::NoMemory;
-use crate::ranking::{Ranked, ranking};
 use crate::runs::{Expected, Runs};
-use crate::trial::Trial;
+use crate::trial::{Reached, Trial};
 use cegis_loop::{Asked, Questions};
 use choice_tree::{Selection, cost, most_cost, plain};
+use cost_levels::Levels;
 use input_space::{Case, Cases, Task};
 use mpy_tree::Value;
-use selection_numbers::MemberCounts;
 use std::alloc::Global;
 use std::marker::Model;
 
@@ -26,10 +25,11 @@ use std::marker::Model;
 #[derive(Drop)]
 pub struct ListQuestions<'a> {
     runs: Runs<'a>,
-    counts: MemberCounts,
-    ranking: Vec<Ranked>,
-    // Each selection before this place of the ranking fails on a kept case.
-    passed: usize,
+    levels: Levels<'a>,
+    // The greatest cost of a selection.
+    last: u32,
+    // Each selection before the place that was reached fails on a kept case.
+    reached: Reached,
     // The values of the reference on all inputs.
     table: Vec<Option<Value>>,
     kept: Cases,
@@ -49,7 +49,7 @@ impl<'a> Model for ListQuestions<'a> {
 
     ghost view = { λ q. record { parts = q.runs.task.now; kept = q.kept } };
 
-    ghost invariant = { λ q. IsAsking (task_with q.runs.task.now) q.counts q.ranking.items q.passed
+    ghost invariant = { λ q. IsAsking (task_with q.runs.task.now) q.levels q.last q.reached
         q.table.items q.kept q.values.items };
 }
 
@@ -60,14 +60,19 @@ impl<'a> ListQuestions<'a> {
     {
         t.is_sound();
         let runs = Runs { alloc, task: t };
-        let counts = MemberCounts::of(alloc, t.tree())?;
-        let ranking = ranking(alloc, t.tree(), &counts)?;
+        let levels = Levels::of(alloc, t.tree())?;
+        let reached = Reached {
+            cost: 0,
+            level: levels.level(alloc, 0)?,
+            passed: 0,
+        };
+        let last = most_cost(t.tree());
         let table = runs.all_wanted()?;
         Ok(ListQuestions {
             runs,
-            counts,
-            ranking,
-            passed: 0,
+            levels,
+            last,
+            reached,
             table,
             kept: Cases::from_vec(Vec::new(alloc)),
             values: Vec::new(alloc),
@@ -113,17 +118,14 @@ impl<'a> ListQuestions<'a> {
         ensures same { self.new ≡ self.old }
         ensures found { IfOk result (IsProposed self.old most) }
     {
-        self.runs.task.is_sound();
         let trial = Trial {
             runs: self.runs,
-            counts: &self.counts,
-            ranking: self.ranking.as_slice(),
+            levels: &self.levels,
+            last: self.last,
             kept: self.kept.items(),
             values: self.values.as_slice(),
         };
-        let stopped = trial.first_within(self.passed, most)?;
-        self.passed = stopped.place;
-        Ok(stopped.selection)
+        trial.next(&mut self.reached, most)
     }
 
     // Finds the first input on which the reference gives a value, and keeps it.
@@ -202,8 +204,7 @@ impl Questions for ListQuestions<'_> {
     }
 
     fn most_cost(&self) -> u32 {
-        self.runs.task.is_sound();
-        most_cost(self.runs.task.tree())
+        self.last
     }
 
     fn cost_of(&self, c: &Selection) -> u32 {

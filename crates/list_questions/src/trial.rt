@@ -1,35 +1,42 @@
 //! Selections tried on the cases that are kept.
-ghost use Rattle.std.specs.Prelude.{◌≡◌, ◌↔◌, ◌<◌, ◌≤◌, IfOk, IsTrue, MatchOption, All};
-ghost use Rattle.std.specs.Prelude.{Some, length, map, slice_get};
+ghost use Rattle.std.specs.Prelude.{◌≡◌, ◌↔◌, ◌≤◌, IfOk, IsTrue, MatchOption, All, length, map};
+ghost use Rattle.std.specs.Prelude.{Some};
+ghost use Rattle.std.specs.List.Sorted.{IsPermutation};
 ghost use Rattle.mpy_tree.specs.View.{routines_of};
+ghost use Rattle.choice_tree.specs.StatementViews.{weighted_prog};
 ghost use Rattle.input_space.specs.TaskParts.{task_with};
-ghost use Rattle.list_questions.specs.Asking.{Fails, IsBeyond, StopsAt, wanted_on};
-ghost use Rattle.list_questions.specs.Trials.{IsAgreeing, IsTrial};
-ghost use Rattle.list_questions.specs.TaskSpace.{Meets};
+ghost use Rattle.cegis_loop.specs.Space.{IsLow};
+ghost use Rattle.cost_levels.specs.Levels.{level as level_of};
+ghost use Rattle.list_questions.specs.Answering.{NoneLow};
+ghost use Rattle.list_questions.specs.Asking.{IsBeyond, IsReached, wanted_on};
+ghost use Rattle.list_questions.specs.Trials.{IsTrial, StopsAt};
+ghost use Rattle.list_questions.specs.TaskSpace.{Meets, SelectionMeets, space};
 
 use crate::NoMemory;
-use crate::ranking::Ranked;
 use crate::runs::Runs;
 use choice_tree::{Selection, plain};
+use cost_levels::Levels;
 use input_space::Case;
 use mpy_tree::{Prog, Value};
-use selection_numbers::MemberCounts;
 
-/// The selections of a task by rising cost, and the kept cases with the reference's values there.
+/// How far the selections of a task were tried.
+#[derive(Drop)]
+pub(crate) struct Reached {
+    // The selections of this cost, of which so many were passed by.
+    pub(crate) cost: u32,
+    pub(crate) level: Vec<Selection>,
+    pub(crate) passed: usize,
+}
+
+/// The selections of a task by rising cost, the greatest of which is the last, and the kept cases
+/// with the reference's values there.
 #[derive(Clone, Copy)]
 pub(crate) struct Trial<'a> {
     pub(crate) runs: Runs<'a>,
-    pub(crate) counts: &'a MemberCounts,
-    pub(crate) ranking: &'a [Ranked],
+    pub(crate) levels: &'a Levels<'a>,
+    pub(crate) last: u32,
     pub(crate) kept: &'a [Case],
     pub(crate) values: &'a [Value],
-}
-
-/// Where a trial stopped, and the selection there that agrees, if it is within the bound.
-#[derive(Drop)]
-pub(crate) struct Stopped {
-    pub(crate) place: usize,
-    pub(crate) selection: Option<Selection>,
 }
 
 impl Trial<'_> {
@@ -48,57 +55,72 @@ impl Trial<'_> {
         Ok(true)
     }
 
-    // A selection of the ranking, if it agrees on the kept cases.
-    fn agreeing(&self, rank: Ranked) -> Result<Option<Selection>, NoMemory>
+    // Whether a selection agrees on the kept cases.
+    fn is_agreeing(&self, selection: &Selection) -> Result<bool, NoMemory>
         requires { IsTrial self.now }
-        ensures { IfOk result (λ o. MatchOption o
-            (Fails (task_with self.now.runs.task.now) self.now.kept.now rank)
-            (IsAgreeing (task_with self.now.runs.task.now) self.now.kept.now rank)) }
+        ensures { IfOk result (λ b. IsTrue b ↔ All (SelectionMeets
+            (task_with self.now.runs.task.now) selection.now) self.now.kept.now) }
     {
-        let alloc = self.runs.alloc;
-        let selection = self.counts.selection(alloc, rank.number)?;
-        let program = plain(alloc, self.runs.task.tree(), &selection)?;
-        if self.agrees(&program)? {
-            Ok(Some(selection))
-        } else {
-            Ok(None)
-        }
+        let program = plain(self.runs.alloc, self.runs.task.tree(), selection)?;
+        self.agrees(&program)
     }
 
-    // The selection at a place of the ranking.
-    fn rank_at(&self, place: usize) -> Ranked
-        requires { place < length self.now.ranking.now }
-        ensures { slice_get self.now.ranking.now place ≡ Some result }
-    {
-        self.ranking[place]
-    }
-
-    /// The first selection from a place of the ranking on that agrees on the kept cases, where none
-    /// before it costs more than the bound.
-    pub(crate) fn first_within(&self, from: usize, most: Option<u32>) -> Result<Stopped, NoMemory>
+    // The place of the first selection of these, from a place on, that agrees on the kept cases.
+    fn first_agreeing(&self, level: &[Selection], from: usize) -> Result<usize, NoMemory>
         requires trial { IsTrial self.now }
-        requires within { from ≤ length self.now.ranking.now }
+        requires within { from ≤ length level.now }
         ensures { IfOk result (StopsAt (task_with self.now.runs.task.now) self.now.kept.now
-            self.now.ranking.now most from) }
+            level.now from) }
     {
-        for place in from..self.ranking.len() {
-            let rank = self.rank_at(place);
-            if is_beyond(most, rank.cost) {
-                return Ok(Stopped {
-                    place,
-                    selection: None,
-                });
-            }
-            if let Some(selection) = self.agreeing(rank)? {
-                return Ok(Stopped {
-                    place,
-                    selection: Some(selection),
-                });
+        for place in from..level.len() {
+            if self.is_agreeing(&level[place])? {
+                return Ok(place);
             }
         }
-        Ok(Stopped {
-            place: self.ranking.len(),
-            selection: None,
+        Ok(level.len())
+    }
+
+    /// The next selection that agrees on the kept cases and costs no more than the bound.
+    pub(crate) fn next(
+        &self,
+        reached: &mut Reached,
+        most: Option<u32>,
+    ) -> Result<Option<Selection>, NoMemory>
+        requires trial { IsTrial self.now }
+        requires reached { IsReached (task_with self.now.runs.task.now) self.now.kept.now
+            reached.old }
+        ensures reached { IsReached (task_with self.now.runs.task.now) self.now.kept.now
+            reached.new }
+        ensures found { IfOk result (λ o. MatchOption o
+            (NoneLow (task_with self.now.runs.task.now) most self.now.kept.now)
+            (IsLow (space (task_with self.now.runs.task.now)) most self.now.kept.now)) }
+    {
+        'levels: loop {
+            if is_beyond(most, reached.cost) {
+                return Ok(None);
+            }
+            reached.passed = self.first_agreeing(reached.level.as_slice(), reached.passed)?;
+            if reached.passed < reached.level.len() {
+                return Ok(Some(reached.level[reached.passed].copy()?));
+            }
+            if self.last <= reached.cost {
+                return Ok(None);
+            }
+            *reached = self.first_of(reached.cost + 1)?;
+        }
+    }
+
+    // The level of a cost, of which none was tried.
+    fn first_of(&self, cost: u32) -> Result<Reached, NoMemory>
+        ensures cost { IfOk result (λ r. r.cost ≡ cost) }
+        ensures level { IfOk result (λ r. IsPermutation (level_of
+            (weighted_prog self.now.levels.now) cost) r.level.items) }
+        ensures passed { IfOk result (λ r. r.passed ≡ 0) }
+    {
+        Ok(Reached {
+            cost,
+            level: self.levels.level(self.runs.alloc, cost)?,
+            passed: 0,
         })
     }
 }

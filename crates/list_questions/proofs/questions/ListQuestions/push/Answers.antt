@@ -13,7 +13,7 @@ invariant_of-self-2 c =
     let i = c.self.inside in
     let k = task_with i.runs.task.now in
     let is : wanted k c.args.case.values ≡ Some c.args.value = subst (λ (a : Asking). wanted (task_of a) c.args.case.values ≡ Some c.args.value) (sym c.self.view_is) c.requires in
-    let more = asking_more k i.counts i.ranking.items i.passed i.table.items i.kept i.values.items c.args.case c.args.value c.self.invariant is in
+    let more = asking_more k i.levels i.last i.reached i.table.items i.kept i.values.items c.args.case c.args.value c.self.invariant is in
     let kept : c.push.new.self ≡ i.kept ++ c.args.case ∷ [] = c.in_ok-push.ensures.more in
     let values : c.push_reserved.new.self.items ≡ i.values.items ++ c.args.value ∷ [] =
     c.push_reserved.ensures.items ∙ ap (λ (vs : List Value). vs ++ c.args.value ∷ []) c.in_ok-reserve.ensures.items in
