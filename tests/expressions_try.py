@@ -281,23 +281,7 @@ fn put_answer(alloc: Global, out: &mut String, words: &[&str]) -> Result<(), any
     }
     put_outcomes(alloc, out, words, &e)
 }
-
-fn main(rt: HostRuntime) -> Result<(), anyhow::Error> {
-    let alloc = rt.alloc();
-    for line in BufReader::new(alloc, rt.reader())?.lines(alloc) {
-        let text = line?;
-        let mut words = Vec::new(alloc);
-        for word in text.as_str().split('\t') {
-            words.push(word)?;
-        }
-        let mut out = String::new(alloc);
-        put(&mut out, "=")?;
-        put_answer(alloc, &mut out, words.as_slice())?;
-        println!(rt; "{out}")?;
-    }
-    Ok(())
-}
-'''.replace('GATES', str(GATES)) + unproved.HELPERS
+'''.replace('GATES', str(GATES)) + unproved.HELPERS + unproved.ANSWERING
 
 
 class Harness(unproved.Harness):

@@ -14,7 +14,6 @@ evaluated here under many truth values, and the outcome must be the model's for 
 length is above the cap, or a number isn't one of a member, nothing is claimed. Printed are the counts of what appeared and each
 difference; the exit status is 1 where there is one.
 """
-import argparse
 import collections
 import itertools
 import os
@@ -206,22 +205,14 @@ class Comparison:
 
 
 def main():
-    words = argparse.ArgumentParser(description=__doc__, formatter_class=argparse.RawDescriptionHelpFormatter)
-    words.add_argument('seed', type=int)
-    words.add_argument('count', type=int, nargs='?', default=3000)
-    words.add_argument('--first', type=int, default=0)
+    words = unproved.arguments(__doc__, count=3000)
     given = words.parse_args()
     if not os.environ.get('MODEL'):
         words.error('MODEL is not set')
     model = Model(os.environ['MODEL'])
     comparison = Comparison(model)
     with tempfile.TemporaryDirectory() as folder:
-        batches = list(unproved.in_batches(given, BATCH))
-        inputs = [[line for number in batch for line in Case(model, given.seed, number).lines()] for batch in batches]
-        for batch, answers in zip(batches, map(iter, Harness(folder).answers_to_each(inputs))):
-            for case in (Case(model, given.seed, number) for number in batch):
-                comparison.compare(case, list(itertools.islice(answers, len(case.lines()))))
-            print('%d tasks, %d outcomes' % (batch[-1] + 1, comparison.compared), file=sys.stderr)
+        unproved.compare_cases(given, BATCH, lambda number: Case(model, given.seed, number), Harness(folder), comparison)
     print('%d outcomes' % comparison.compared)
     return unproved.told(comparison.counts, given, 'tasks', comparison.differing)
 

@@ -247,31 +247,44 @@ def kind_of(answer):
     return 'tree with one selection' if words[5] == '1;' else 'tree, all rewritings' if words[-1] != '-' else 'larger tree'
 
 
+class Case:
+    """A random task, and whether its tree is to be told as a text."""
+
+    def __init__(self, seed, number, whole):
+        request = rule_requests.a_request(random.Random('trees/%d/%d' % (seed, number)))
+        self.number, self.whole = number, whole
+        self.sources = [request.files[it] for it in request.words[1:5]]
+
+    def lines(self):
+        return ['\t'.join(['text' if self.whole else 'digest'] + [it.hex() for it in self.sources])]
+
+
+class Comparison:
+    """The counts of all that was compared, and of what differed."""
+
+    def __init__(self, model):
+        self.model, self.counts, self.differing = model, collections.Counter(), 0
+
+    def compare(self, case, answers):
+        want, got = self.model.answer(case.sources, case.whole), answers[0]
+        self.counts[kind_of(want)] += 1
+        if want != got:
+            self.differing += 1
+            print('%d: %r\n  wanted %s\n  given  %s' % (case.number, case.sources, want, got), flush=True)
+        elif case.whole:
+            print(got)
+
+
 def main():
     words = unproved.arguments(__doc__)
     words.add_argument('--text', action='store_true')
     given = words.parse_args()
     if not os.environ.get('MODEL'):
         words.error('MODEL is not set')
-    model, counts, differing = Model(os.environ['MODEL']), collections.Counter(), 0
+    comparison = Comparison(Model(os.environ['MODEL']))
     with tempfile.TemporaryDirectory() as folder:
-        harness = Harness(folder)
-        for batch in unproved.in_batches(given, BATCH):
-            tasks = []
-            for number in batch:
-                rng = random.Random('trees/%d/%d' % (given.seed, number))
-                request = rule_requests.a_request(rng)
-                tasks.append((number, [request.files[it] for it in request.words[1:5]]))
-            wanted = [model.answer(sources, given.text) for _, sources in tasks]
-            lines = ['text ' * given.text + ' '.join(':' + it.hex() for it in sources) for _, sources in tasks]
-            for (number, sources), want, got in zip(tasks, wanted, harness.answers(lines)):
-                counts[kind_of(want)] += 1
-                if want != got:
-                    differing += 1
-                    print('%d: %r\n  wanted %s\n  given  %s' % (number, sources, want, got), flush=True)
-                elif given.text:
-                    print(got)
-    return unproved.told(counts, given, 'tasks', differing)
+        unproved.compare_cases(given, BATCH, lambda number: Case(given.seed, number, given.text), Harness(folder), comparison)
+    return unproved.told(comparison.counts, given, 'tasks', comparison.differing)
 
 
 if __name__ == '__main__':

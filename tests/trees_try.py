@@ -1,9 +1,9 @@
 """A program over tasks and their weighted trees, run unproved on a copy of the crates.
 
-Its input has a line for each task, with the four sources in hexadecimal, a `:` before each. It answers each by one line
-that begins with `=`: the refusal, or of the tree the digest of its text, its greatest cost, the number of its selections
-and its weight, the weight of the reference, and the digest of all costs, programs and edits of selections, sorted, or `-`
-where there are more than MOST selections. `text` in front of a line gives the text of the tree instead of its digest.
+Each line has words with tabs between them: `digest` or `text`, and the four sources of a task in hexadecimal. The answer is one
+line that begins with `=`: the refusal, or of the tree the digest of its text, or the text itself, its greatest cost, the number
+of its selections and its weight, the weight of the reference, and the digest of all costs, programs and edits of selections,
+sorted, or `-` where there are more than MOST selections.
 """
 import unproved
 
@@ -20,7 +20,7 @@ use mpy_printer::{print_expr, print_prog};
 use mpy_tree::{ArithOp, CmpOp, Name, Source};
 use selection_numbers::MemberCounts;
 use std::alloc::Global;
-use std::fs;
+use std::io::{BufRead, BufReader};
 use task_read::{TaskError, read_task};
 use tree_weights::{lift, weight};
 
@@ -281,7 +281,7 @@ fn put_task(alloc: Global, out: &mut String, task: &Task, whole: bool) -> Result
     let w = task.tree();
     let mut text = String::new(alloc);
     put_tree(alloc, &mut text, w)?;
-    put(out, "=tree ")?;
+    put(out, "tree ")?;
     if whole {
         put(out, text.as_str())?;
     } else {
@@ -313,46 +313,22 @@ fn source_name(source: Source) -> &'static str {
 
 fn put_answer(alloc: Global, out: &mut String, words: &[&str]) -> Result<(), anyhow::Error> {
     let mut texts: Vec<Vec<u8>> = Vec::new(alloc);
-    let mut whole = false;
-    for word in words {
-        if *word == "text" {
-            whole = true;
-        } else {
-            let digits = word.strip_prefix(":").unwrap_or("");
-            texts.push(unhex(alloc, digits.as_bytes())?)?;
-        }
-    }
-    if texts.len() != 4 {
-        return put(out, "=?");
+    for word in &words[1..5] {
+        texts.push(unhex(alloc, word.as_bytes())?)?;
     }
     match read_task(alloc, texts[0].as_slice(), texts[1].as_slice(), texts[2].as_slice(), texts[3].as_slice()) {
-        Ok(task) => put_task(alloc, out, &task, whole),
+        Ok(task) => put_task(alloc, out, &task, words[0] == "text"),
         Err(TaskError::Refused(r)) => {
-            put(out, "=refused ")?;
+            put(out, "refused ")?;
             put(out, source_name(r.source))?;
             put(out, " ")?;
             put(out, r.cause.name())?;
             put_number(alloc, out, " ", u64::from(r.line))
         }
-        Err(TaskError::NoMemory) => put(out, "=no memory"),
+        Err(TaskError::NoMemory) => put(out, "no memory"),
     }
 }
-
-fn main(rt: HostRuntime) -> Result<(), anyhow::Error> {
-    let alloc = rt.alloc();
-    let text = fs::read_to_string(&rt, "input.txt")?;
-    for line in text.lines() {
-        let mut words = Vec::new(alloc);
-        for word in line.split(' ') {
-            words.push(word)?;
-        }
-        let mut out = String::new(alloc);
-        put_answer(alloc, &mut out, words.as_slice())?;
-        println!(rt; "{out}")?;
-    }
-    Ok(())
-}
-'''.replace('MOST', str(MOST)) + unproved.HELPERS
+'''.replace('MOST', str(MOST)) + unproved.HELPERS + unproved.ANSWERING
 
 
 class Harness(unproved.Harness):

@@ -5,6 +5,7 @@ one line that begins with `=`. HELPERS are functions that it may use: hexadecima
 behind others.
 """
 import argparse
+import itertools
 import os
 import re
 import shutil
@@ -36,6 +37,24 @@ fn put_hex(out: &mut String, bytes: &[u8]) -> Result<(), anyhow::Error> {
 
 fn put(out: &mut String, words: &str) -> Result<(), anyhow::Error> {
     out.push_str(words)?;
+    Ok(())
+}
+'''
+# The program's main, where it answers each line of standard input by `put_answer` from the words between the line's tabs.
+ANSWERING = r'''
+fn main(rt: HostRuntime) -> Result<(), anyhow::Error> {
+    let alloc = rt.alloc();
+    for line in BufReader::new(alloc, rt.reader())?.lines(alloc) {
+        let text = line?;
+        let mut words = Vec::new(alloc);
+        for word in text.as_str().split('\t') {
+            words.push(word)?;
+        }
+        let mut out = String::new(alloc);
+        put(&mut out, "=")?;
+        put_answer(alloc, &mut out, words.as_slice())?;
+        println!(rt; "{out}")?;
+    }
     Ok(())
 }
 '''
@@ -117,13 +136,24 @@ def in_batches(given, size):
         yield range(first, min(first + size, end))
 
 
-def arguments(doc, kinds=None):
-    """The parser of the words of a comparison: what kind, a seed, a count, and the number of the first case."""
+def compare_cases(given, size, case_of, harness, comparison):
+    """Compares the answers to the lines of each case, by one build of the program. So many cases stand in one input."""
+    batches = list(in_batches(given, size))
+    inputs = [[line for number in batch for line in case_of(number).lines()] for batch in batches]
+    for batch, answers in zip(batches, map(iter, harness.answers_to_each(inputs))):
+        for case in map(case_of, batch):
+            comparison.compare(case, list(itertools.islice(answers, len(case.lines()))))
+        print('%d compared' % (batch[-1] + 1 - given.first), file=sys.stderr)
+
+
+def arguments(doc, kinds=None, count=None):
+    """The parser of the words of a comparison: what kind, a seed, a count, and the number of the first case. `count` is how many
+    cases there are where the words don't say it."""
     words = argparse.ArgumentParser(description=doc, formatter_class=argparse.RawDescriptionHelpFormatter)
     if kinds:
         words.add_argument('kind', choices=kinds)
     words.add_argument('seed', type=int)
-    words.add_argument('count', type=int)
+    words.add_argument('count', type=int, nargs='?' if count else None, default=count)
     words.add_argument('--first', type=int, default=0)
     return words
 
