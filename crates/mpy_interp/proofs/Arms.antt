@@ -16,7 +16,7 @@ use Rattle.mpy_tree.specs.Syntax.{Action, Branch, Branches, Statement, Block}
 use Rattle.mpy_tree.specs.Syntax as ast
 use Rattle.mpy_tree.specs.View.{term_of, maybe_term, action_of, block_of, act_step, arm_step, arms_step, stmt_step, stmts_step}
 use Rattle.mpy_interp.specs.declared.completion.Completion.{Completion}
-use Rattle.mpy_interp.specs.declared.stop.Stop.{Stop}
+use Rattle.value_operations.specs.declared.stop.Stop.{Stop}
 use Rattle.mpy_interp.specs.Completions.{EndsAs}
 
 pub assign_is : (x : List ℕ) (e : Expr) → action_of (Assign x e) ≡ ast.Assign x (term_of e)

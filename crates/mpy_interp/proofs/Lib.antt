@@ -1,5 +1,3 @@
 pub mod Arms
-pub mod Copies
 pub mod Lookups
 pub mod Turning
-pub mod Wholes

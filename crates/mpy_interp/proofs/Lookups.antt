@@ -17,9 +17,9 @@ use Rattle.mpy_tree.specs.declared.outcome.Halt.{Halt}
 use Rattle.mpy_tree.specs.Values.{◌>>=◌, State, same_bytes, assign, nothing_set, fault, on_line, set_or_fault}
 use Rattle.mpy_tree.specs.Running.{bound}
 use Rattle.mpy_tree.specs.Statements.{Ran, Next, Failed, store}
-use Rattle.mpy_interp.specs.declared.stop.Stop.{Stop}
-use Rattle.mpy_interp.specs.declared.stop.Stop.TheVariants as stop
-use Rattle.mpy_interp.specs.Answers.{MeetsBy}
+use Rattle.value_operations.specs.declared.stop.Stop.{Stop}
+use Rattle.value_operations.specs.declared.stop.Stop.TheVariants as stop
+use Rattle.value_operations.specs.Answers.{MeetsBy}
 use Rattle.mpy_interp.specs.Frames.{Changes, changed, looked, place_of, value_in}
 
 abbrev is_of : List ℕ → Binding → Bool

@@ -2,8 +2,8 @@
 use Rattle.std.specs.Prelude.{◌≡◌, ⊤}
 use Rattle.std.specs.declared.result.Result.{Result}
 use Rattle.std.specs.declared.result.Result.TheVariants.{Ok, Err}
-use Rattle.mpy_interp.specs.declared.stop.Stop.{Stop}
-use Rattle.mpy_interp.specs.declared.stop.Stop.TheVariants as stop
+use Rattle.value_operations.specs.declared.stop.Stop.{Stop}
+use Rattle.value_operations.specs.declared.stop.Stop.TheVariants as stop
 use Rattle.mpy_interp.specs.declared.completion.Completion.{Completion}
 use Rattle.mpy_interp.specs.declared.completion.Completion.TheVariants as completion
 use Rattle.mpy_tree.specs.Values.{State}

@@ -6,8 +6,8 @@ use Rattle.std.specs.List.{find, position}
 use Rattle.mpy_tree.specs.declared.value.Value.{Value}
 use Rattle.mpy_interp.specs.declared.frame.Binding.{Binding}
 use Rattle.mpy_interp.specs.declared.frame.Frame.{Frame}
-use Rattle.mpy_interp.specs.declared.stop.Stop.{Stop}
-use Rattle.mpy_interp.specs.declared.stop.Stop.TheVariants as stop
+use Rattle.value_operations.specs.declared.stop.Stop.{Stop}
+use Rattle.value_operations.specs.declared.stop.Stop.TheVariants as stop
 use Rattle.mpy_tree.specs.declared.outcome.Halt.{Halt}
 use Rattle.mpy_tree.specs.Values.{◌>>=◌, State, same_bytes, on_line, set_or_fault}
 use Rattle.mpy_tree.specs.Statements.{Ran, Next, Failed, store}

@@ -10,11 +10,9 @@ ghost use Rattle.mpy_tree.specs.Statements.{store, set_by, set_at, set_at_by};
 use crate::calls::Calls;
 use crate::completion::Completion;
 use crate::frame::Frame;
-use crate::lists::element_at;
 use crate::machine::Machine;
-use crate::operators::operate;
-use crate::stop::Stop;
 use mpy_tree::{ArithOp, Expr, Name};
+use value_operations::{Stop, element_at, operate};
 
 /// The element `x[i]` of a list.
 #[derive(Drop)]

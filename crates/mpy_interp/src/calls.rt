@@ -3,11 +3,11 @@ ghost use Rattle.std.specs.Prelude.{◌≡◌, ℕ, List};
 ghost use Rattle.std.specs.declared.result.Result.{Result};
 ghost use Rattle.mpy_tree.specs.declared.value.Value.{Value};
 ghost use Rattle.mpy_tree.specs.declared.outcome.Halted.{Halted};
-ghost use Rattle.mpy_interp.specs.Answers.{Meets};
+ghost use Rattle.value_operations.specs.Answers.{Meets};
 
-use crate::stop::Stop;
 use mpy_tree::{Name, Value};
 use std::alloc::Global;
+use value_operations::Stop;
 
 /// What calls of the program's functions give.
 pub trait Calls {

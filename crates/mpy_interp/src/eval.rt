@@ -2,21 +2,20 @@
 ghost use Rattle.std.specs.Prelude.{◌≡◌, ℕ, List, map};
 ghost use Rattle.mpy_tree.specs.Syntax as ast;
 ghost use Rattle.mpy_tree.specs.View.{term_of, terms_of, end_by};
-ghost use Rattle.mpy_interp.specs.Answers.{Meets, MeetsBy};
+ghost use Rattle.value_operations.specs.Answers.{Meets, MeetsBy};
 ghost use Rattle.mpy_interp.specs.Frames.{state_of};
 ghost use Rattle.mpy_interp.specs.Operands.{value_behind};
 ghost use Rattle.mpy_tree.specs.Expressions.{value_of, values_of, maybe_value_of};
 
 use crate::calls::Calls;
-use crate::comparisons::{compared, is_true};
 use crate::frame::Frame;
-use crate::lists::{element_at, list_literal, part_between, text_literal};
 use crate::machine::Machine;
-use crate::numbers::make_number;
 use crate::operand::Operand;
-use crate::operators::{negate, operate};
-use crate::stop::{Stop, stuck};
 use mpy_tree::{ArithOp, CmpOp, Expr, Exprs, Name, Value};
+use value_operations::{
+    Stop, compared, element_at, is_true, list_literal, make_number, negate, operate, part_between,
+    stuck, text_literal,
+};
 
 impl<C: Calls> Machine<'_, C> {
     /// The value of an expression in a statement on a line.

@@ -9,13 +9,11 @@ ghost use Rattle.mpy_tree.specs.Statements.{give, run_block, run_action, run_arm
 
 use crate::assignments::{Change, Place};
 use crate::calls::Calls;
-use crate::comparisons::is_true;
 use crate::completion::Completion;
 use crate::frame::Frame;
-use crate::lists::members_of;
 use crate::machine::Machine;
-use crate::stop::{Stop, faulted};
 use mpy_tree::{Act, Arms, Expr, FaultKind, Name, Stmts};
+use value_operations::{Stop, faulted, is_true, members_of};
 
 impl<C: Calls> Machine<'_, C> {
     /// Runs a body.

@@ -1,16 +1,15 @@
 //! The locals of a call.
 ghost use Rattle.std.specs.Prelude.{◌≡◌, IfOk, OnOk, MatchOption, IfSome, Some, None};
-ghost use Rattle.mpy_interp.specs.Answers.{Meets, MeetsBy};
+ghost use Rattle.value_operations.specs.Answers.{Meets, MeetsBy};
 ghost use Rattle.mpy_tree.specs.Values.{on_line, set_or_fault, assign};
 ghost use Rattle.mpy_tree.specs.Running.{bound};
 ghost use Rattle.mpy_interp.specs.Frames.{Changes, changed, place_of, state_of};
 ghost use Rattle.mpy_tree.specs.Operations.{append, put};
 
-use crate::lists::{append_to, replace_at};
-use crate::stop::{Stop, faulted};
 use mpy_tree::{Chars, FaultKind, Ints, Limits, Name, NoMemory, Value};
 use std::alloc::Global;
 use std::mem::replace;
+use value_operations::{Stop, append_to, faulted, replace_at};
 
 /// A local that is set, by its name in the program.
 #[derive(Drop)]

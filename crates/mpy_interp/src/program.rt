@@ -1,7 +1,7 @@
 //! What a program gives on its arguments.
 ghost use Rattle.std.specs.Prelude.{◌≡◌, IfOk, Some};
 ghost use Rattle.mpy_tree.specs.View.{routine_of, routines_of};
-ghost use Rattle.mpy_interp.specs.Answers.{Meets};
+ghost use Rattle.value_operations.specs.Answers.{Meets};
 ghost use Rattle.mpy_tree.specs.Running.{no_calls, found, enter, evaluated};
 ghost use Rattle.mpy_tree.specs.Outcomes.{run_outcome};
 
@@ -9,9 +9,9 @@ use crate::calls::Calls;
 use crate::completion::Completion;
 use crate::frame::Frame;
 use crate::machine::Machine;
-use crate::stop::{Stop, faulted, stuck};
 use mpy_tree::{FaultKind, Func, Limits, Name, NoMemory, Outcome, Prog, Types, Value, Values};
 use std::alloc::{AllocError, Global};
+use value_operations::{Stop, faulted, stuck};
 
 /// How a run of the program ends on these arguments, of which the function `entry` is called.
 ///

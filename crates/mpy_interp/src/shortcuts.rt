@@ -3,19 +3,17 @@
 ghost use Rattle.std.specs.Prelude.{◌≡◌, IfSome};
 ghost use Rattle.mpy_tree.specs.Syntax as ast;
 ghost use Rattle.mpy_tree.specs.View.{term_of, terms_of};
-ghost use Rattle.mpy_interp.specs.Answers.{GivesCharacter, GivesNumber, GivesTruth};
+ghost use Rattle.mpy_interp.specs.Answers.{GivesCharacter, GivesTruth};
+ghost use Rattle.value_operations.specs.Answers.{GivesNumber};
 ghost use Rattle.mpy_interp.specs.Answers.{length_given};
 ghost use Rattle.mpy_interp.specs.Frames.{state_of};
 ghost use Rattle.mpy_tree.specs.Expressions.{value_of};
 
-use crate::builtins::length_of_value;
 use crate::calls::Calls;
-use crate::comparisons::relate_numbers;
 use crate::frame::Frame;
-use crate::lists::{byte_in, number_in};
 use crate::machine::Machine;
-use crate::numbers::{number_by, within};
 use mpy_tree::{ArithOp, Builtin, CmpOp, Expr, Exprs, Name, Value};
+use value_operations::{byte_in, length_of_value, number_by, number_in, relate_numbers, within};
 
 impl<C: Calls> Machine<'_, C> {
     /// The number that an expression gives, if it is found.
