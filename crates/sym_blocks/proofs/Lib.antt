@@ -7,7 +7,6 @@ pub mod Going
 pub mod Sizes
 pub mod Items
 pub mod Reading
-pub mod Follow
 pub mod Settings
 pub mod TypedParts
 pub mod Laters

@@ -10,7 +10,6 @@ use Rattle.mpy_tree.specs.declared.typing.Slot.TheVariants as slot
 use Rattle.mpy_tree.specs.declared.typing.Ty.{Ty}
 use Rattle.mpy_tree.specs.declared.value.Value.{Value}
 use Rattle.mpy_tree.specs.Names.{has_twice}
-use Rattle.mpy_tree.specs.SetTypes.{called}
 use Rattle.mpy_tree.specs.Values.{State}
 use Rattle.choice_tree.specs.Typing.{Scope}
 use Rattle.choice_tree.specs.WeightedTrees.{Weighted}
@@ -29,11 +28,11 @@ use Rattle.sym_paths.specs.Later.{path_set, path_values}
 use Rattle.sym_paths.specs.Locals.{local_is}
 use Rattle.sym_paths.specs.Paths.{HoldsPath, gone_way, reached, set_to, way}
 use Rattle.sym_paths.specs.Slots.{slot_forms, type_among, type_at as type_there}
-use Rattle.typed_trees.specs.Locals.{SameLocals}
+use Rattle.typed_trees.specs.Locals.{SameCalls, SameLocals}
 use Rattle.typed_trees.specs.TypedStatements.{local_type, result_type}
+use Rattle.typed_trees.proofs.LocalTypes.{all_follow, calls_follow}
 use Rattle.sym_blocks.specs.declared.body.Body.{Body}
 use Rattle.sym_blocks.specs.Bodies.{IsBodyIn, body_scope, body_slot, scope_in}
-use Rattle.sym_blocks.proofs.Follow.{SameCalls, called_within, calls_follow, type_follows}
 
 -- the locals of a path, and the picks of a body
 abbrev pub env_on : {B C : Type 0} → Body B C → Path B → Env B
@@ -128,8 +127,8 @@ module _ {S B C : Type 0} {owns : S → B → Type 0} {s : S} (c : Signatures) (
       ∙ sym (ap (λ (b : Bool). if b then body_slot run.slots.now x else c.slots j x) (is_other j (length c.program) h))
 
   same_calls : SameCalls (scope_at c (env_on run p)) (scope_in c run)
-  same_calls f os = calls_follow (scope_at c (env_on run p)).slots (scope_in c run).slots (length c.program) same_slots (called c.program f) (λ g e. called_within c.program f g e) os
+  same_calls = calls_follow (scope_at c (env_on run p)) (scope_in c run) refl same_slots
 
   -- an expression has the same type on the path as in the body
   pub same_type_on : (w : Weighted) → type_of (scope_at c (env_on run p)) w ≡ type_of (scope_in c run) w
-  same_type_on = type_follows (scope_at c (env_on run p)) (scope_in c run) same_locals same_calls
+  same_type_on w = all_follow (scope_at c (env_on run p)) (scope_in c run) w same_locals same_calls

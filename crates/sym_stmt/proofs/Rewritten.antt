@@ -30,7 +30,7 @@ use Rattle.typed_trees.proofs.GrownStatements.{statement_grown}
 use Rattle.typed_trees.proofs.TypedFunctions.{func_typed, program_typed}
 use Rattle.sym_stmt.specs.Programs.{TypesProgram, functions_of, header, scope_in}
 use Rattle.sym_stmt.proofs.ProgramFacts.{AreHeadersTyped, IsAlone, IsHeaderTyped, are_facts}
-use Rattle.sym_stmt.proofs.Scopes.{typed_follows}
+use Rattle.typed_trees.proofs.StatementsFollow.{typed_follows}
 
 -- the functions of a weighted program have the names and the parameters of those of a program
 abbrev HaveHeaders : List WFunc → List Routine → Type 0

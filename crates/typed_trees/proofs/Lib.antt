@@ -9,4 +9,5 @@ pub mod TypedPlaces
 pub mod TypedFunctions
 pub mod WholeRules
 pub mod LocalTypes
+pub mod StatementsFollow
 mod WorkedExamples
