@@ -5,9 +5,10 @@
 
 Run it at the top of the repository, with `rt` on the path; the programs are evaluated unproved, on a copy of the crates, by the
 program of `tests/programs_try.py`. MODEL is the path of the model's command line; its modules lie beside it, and it counts picks and
-weights. For each assignment: the weight of the reference and its gates with variables for all bits of the arguments; and over the
-submissions that are read to a task and weigh no more than 1,000,000 the most picks, the greatest weight of a weighted program, and the most gates, with variables for
-all bits of the arguments and of the picks' members; and that weight and those gates of one submission in the mean.
+weights. For each assignment: the weight of the
+reference and its gates with variables for all bits of the arguments; and over the submissions that are read to a task and weigh no
+more than 1,000,000 the most picks, the greatest weight of a weighted program, and the most gates, with variables for all bits of
+the arguments and of the picks' members; and that weight and those gates of one submission in the mean.
 """
 import os
 import sys
