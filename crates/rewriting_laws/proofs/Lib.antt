@@ -1,0 +1,9 @@
+pub mod Nothing
+pub mod Becoming
+pub mod Alike
+pub mod FromTrees
+pub mod Opening
+pub mod Calling
+pub mod OwnNames
+pub mod Types
+pub mod Unshared

@@ -1,0 +1,2 @@
+pub mod RuleCalls
+pub mod RewritingLaws

@@ -1,0 +1,18 @@
+-- What rules make of a program is no worse than the program.
+use Rattle.std.specs.Prelude.{◌≡◌, ℕ, List, [], None}
+use Rattle.mpy_tree.specs.Faults.{names_fault}
+use Rattle.mpy_tree.specs.Sharing.{shared}
+use Rattle.mpy_tree.specs.Syntax.{Routine}
+use Rattle.choice_tree.specs.Contexts.{Setting}
+use Rattle.choice_tree.specs.Rewriting.{Edit, IsRewriting}
+use Rattle.rewriting_laws.specs.RuleCalls.{CallBuiltinsAlone}
+
+-- Where no statement of a program shares a list, none of any rewriting does. No function of the
+-- program has the name of a builtin, and the rules call builtins alone, so no function is called in
+-- the rewriting that isn't called in the program.
+abbrev pub RewritingsStayUnshared : Type 0
+RewritingsStayUnshared =
+    (g : Setting) (p : List Routine) (n : ℕ) (es : List Edit)
+    → CallBuiltinsAlone g.rules → names_fault g.program ≡ None
+    → shared g.slots g.program ≡ [] → IsRewriting g g.program p n es
+    → shared g.slots p ≡ []
