@@ -107,7 +107,8 @@ mutual
   -- the arms, and what stands behind them
   arms_alike : (g : Setting) (c : Context) (m : ℕ) (xs : Branches) (l : MaybeBlock)
       (ys : Branches) (q : MaybeBlock) (i : ℕ)
-      → AllBecome g (kind.If m) i c (arms_shapes xs (last_shapes l)) (arms_shapes ys (last_shapes q))
+      → AllBecome g (kind.If m) i c (arms_shapes xs (last_shapes l))
+      (arms_shapes ys (last_shapes q))
       → AlikeArms g c.scope xs ys × LastBecomes g c m l q
   arms_alike g c m no_arms l no_arms q i h = (no_arm, (i, h))
   arms_alike g c m no_arms no_block (arm_and (arm n f b) ys) q i h = absurd h

@@ -7,3 +7,11 @@ pub mod Calling
 pub mod OwnNames
 pub mod Types
 pub mod Unshared
+pub mod Locals
+pub mod Slots
+pub mod TypedNodes
+pub mod TypedSites
+pub mod TypedFunctions
+pub mod Typed
+pub mod Tasks
+mod WorkedExamples

@@ -25,7 +25,7 @@ not_less : (x : ℕ) (o : Option ℕ) → lesser (Some x) o ≡ None → ⊥
 not_less x None e = cc
 not_less x (Some y) e = cc
 
-none_least : (xs : List ℕ) → least xs ≡ None → xs ≡ []
+pub none_least : (xs : List ℕ) → least xs ≡ None → xs ≡ []
 unfolding least
 none_least [] e = refl
 none_least (x ∷ xs) e = absurd (not_less x (least xs) e)
@@ -66,7 +66,9 @@ own_from p before (r ∷ rs) h =
       own_from p (before ++ r.name ∷ []) rs (nil_right (head ++ body) rest h),
     )
 
+pub no_name_lines : (p : List Routine) → names_fault p ≡ None → name_lines p ≡ []
+no_name_lines p h =
+    none_least (name_lines p) (not_earlier (least (name_lines p)) (least (arity_lines p)) h)
+
 pub own_names : (p : List Routine) → names_fault p ≡ None → OwnNames p
-own_names p h =
-    own_from p [] p
-    (none_least (name_lines p) (not_earlier (least (name_lines p)) (least (arity_lines p)) h))
+own_names p h = own_from p [] p (no_name_lines p h)

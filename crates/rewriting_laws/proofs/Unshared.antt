@@ -17,7 +17,8 @@ use Rattle.choice_tree.specs.Contexts.{Setting, scope_in}
 use Rattle.choice_tree.specs.Typing.{Scope}
 use Rattle.choice_tree.proofs.ShapeTypes.{shape_type}
 use Rattle.rewriting_laws.specs.RuleCalls.{CallBuiltinsAlone}
-use Rattle.rewriting_laws.proofs.Alike.{AlikeAct, AlikeFrom, AlikeSite, AlikeSites, AlikeTerms, Whole}
+use Rattle.rewriting_laws.proofs.Alike.{AlikeAct, AlikeFrom, AlikeSite, AlikeSites, AlikeTerms}
+use Rattle.rewriting_laws.proofs.Alike.{Whole}
 use Rattle.rewriting_laws.proofs.Alike.{append, assign, augment, augment_at, both_ask, both_do}
 use Rattle.rewriting_laws.proofs.Alike.{branch, give, give_none, go_on, go_over, leave, nowhere}
 use Rattle.rewriting_laws.proofs.Alike.{pass, put, repeat, sites_alike, terms_alike, there}

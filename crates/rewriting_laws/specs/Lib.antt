@@ -1,2 +1,3 @@
 pub mod RuleCalls
 pub mod RewritingLaws
+pub mod TaskLaws

@@ -1,11 +1,25 @@
 -- What rules make of a program is no worse than the program.
 use Rattle.std.specs.Prelude.{◌≡◌, ℕ, List, [], None}
+use Rattle.mpy_tree.specs.declared.typing.Fact.{Fact}
+use Rattle.mpy_tree.specs.declared.typing.Ty.{Ty}
 use Rattle.mpy_tree.specs.Faults.{names_fault}
 use Rattle.mpy_tree.specs.Sharing.{shared}
 use Rattle.mpy_tree.specs.Syntax.{Routine}
+use Rattle.mpy_tree.specs.Typings.{AreTypes}
 use Rattle.choice_tree.specs.Contexts.{Setting}
 use Rattle.choice_tree.specs.Rewriting.{Edit, IsRewriting}
+use Rattle.choice_tree.specs.Templates.{Correction}
+use Rattle.typed_trees.specs.TypingLaws.{setting_by}
 use Rattle.rewriting_laws.specs.RuleCalls.{CallBuiltinsAlone}
+
+-- Facts that type a program type every rewriting of it by any rules: by them each node and each
+-- statement of it obeys its rule, and it has no fault of names, numbers of arguments or the entry.
+abbrev pub RewritingsStayTyped : Type 0
+RewritingsStayTyped =
+    (rules : List Correction) (T : List Fact) (s p : List Routine) (entry : List ℕ) (ts : List Ty)
+    (n : ℕ) (es : List Edit)
+    → AreTypes T s entry ts → IsRewriting (setting_by rules s T) s p n es
+    → AreTypes T p entry ts
 
 -- Where no statement of a program shares a list, none of any rewriting does. No function of the
 -- program has the name of a builtin, and the rules call builtins alone, so no function is called in

@@ -1,7 +1,18 @@
-//! That what rules make of a program is no worse than the program.
-ghost use Rattle.rewriting_laws.specs.RewritingLaws.{RewritingsStayUnshared};
+//! Laws of the rewritings of a program, and of those of a task's submission.
+ghost use Rattle.rewriting_laws.specs.RewritingLaws.{RewritingsStayTyped, RewritingsStayUnshared};
+ghost use Rattle.rewriting_laws.specs.TaskLaws.{CandidatesAreTypedAndUnshared};
 
-/// Every rewriting of a program in which no statement shares a list has none that does either.
+/// Facts that type a program type every rewriting of it.
+pub fn rewritings_stay_typed()
+    ensures { RewritingsStayTyped }
+{}
+
+/// Where no statement of a program shares a list, none of any rewriting does.
 pub fn rewritings_stay_unshared()
     ensures { RewritingsStayUnshared }
+{}
+
+/// Both hold of each rewriting of the submission of a task.
+pub fn candidates_are_typed_and_unshared()
+    ensures { CandidatesAreTypedAndUnshared }
 {}

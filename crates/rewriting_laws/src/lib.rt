@@ -1,6 +1,9 @@
-//! Laws of the rewritings of a program, each the contract of a function without a body.
+//! What rules make of a program is no worse than the program: laws, each the contract of a function
+//! without a body.
 #![tactic(auto)]
 
 mod laws;
 
-pub use laws::rewritings_stay_unshared;
+pub use laws::{
+    candidates_are_typed_and_unshared, rewritings_stay_typed, rewritings_stay_unshared,
+};

@@ -1,0 +1,103 @@
+-- Facts that type a program type every rewriting of it.
+use Rattle.std.proofs.Common.{◌≡◌, ℕ, List, [], ◌∷◌, length, Option, Some, None, refl, ap, ◌∙◌}
+use Rattle.std.proofs.Common.{subst, sym}
+use Rattle.mpy_tree.specs.declared.typing.Fact.{Fact}
+use Rattle.mpy_tree.specs.declared.typing.Ty.{Ty}
+use Rattle.mpy_tree.specs.Builtins.{builtin_of}
+use Rattle.mpy_tree.specs.Faults.{broken_from, earlier, entry_fault, fault_on, names_fault}
+use Rattle.mpy_tree.specs.Faults.{nodes_fault, or_fault, slots, slots_fault}
+use Rattle.mpy_tree.specs.Flows.{Keeps, entry_flows, flows, flows_from}
+use Rattle.mpy_tree.specs.Leasts.{least}
+use Rattle.mpy_tree.specs.Names.{arity_lines, name_lines}
+use Rattle.mpy_tree.specs.Rules.{single}
+use Rattle.mpy_tree.specs.Running.{found}
+use Rattle.mpy_tree.specs.SetTypes.{FactSet, called}
+use Rattle.mpy_tree.specs.Syntax.{Routine}
+use Rattle.mpy_tree.specs.Typings.{AreTypes, set_of}
+use Rattle.mpy_types.proofs.Every.{Every, all_of, every_both, every_front, every_of, every_rest}
+use Rattle.choice_tree.specs.Contexts.{Setting}
+use Rattle.choice_tree.specs.Rewriting.{Edit, IsRewriting}
+use Rattle.choice_tree.specs.Templates.{Correction}
+use Rattle.typed_trees.specs.TypingLaws.{setting_by}
+use Rattle.rewriting_laws.proofs.FromTrees.{rewritings_alike}
+use Rattle.rewriting_laws.proofs.OwnNames.{OwnNames, no_name_lines, none_least, own_names}
+use Rattle.rewriting_laws.proofs.Slots.{SameHeads, alone, alone_alike, facts_stand, faultless_from}
+use Rattle.rewriting_laws.proofs.Slots.{neither, no_fault, settled_alike, settled_from}
+use Rattle.rewriting_laws.proofs.TypedFunctions.{all_keep, entry_keeps, fine_from}
+use Rattle.rewriting_laws.proofs.TypedFunctions.{heads_alike, none_broken, none_miscounted}
+use Rattle.rewriting_laws.proofs.TypedFunctions.{none_named, same_entry_fault, same_entry_flows}
+
+own_alike : (rs qs : List Routine) → SameHeads rs qs → OwnNames rs → OwnNames qs
+own_alike [] [] h own = tt
+own_alike [] (q ∷ qs) h own = absurd h
+own_alike (r ∷ rs) [] h own = absurd h
+own_alike (r ∷ rs) (q ∷ qs) h own =
+    (ap builtin_of h.0.name ∙ own.0, own_alike rs qs h.1 own.1)
+
+not_on : (o : Option ℕ) → fault_on o ≡ None → o ≡ None
+not_on None h = refl
+not_on (Some line) h = cc
+
+least_of_none : least [] ≡ None
+unfolding least
+least_of_none = refl
+
+none_earlier : (xs ys : List ℕ) → xs ≡ [] → ys ≡ [] → earlier (least xs) (least ys) ≡ None
+none_earlier xs ys h k =
+    (λ i. earlier (least (h i)) (least (k i))) ∙ (λ i. earlier (least_of_none i) (least_of_none i))
+
+none_on : (xs : List ℕ) → xs ≡ [] → fault_on (least xs) ≡ None
+none_on xs h = ap (λ ys. fault_on (least ys)) h ∙ ap fault_on least_of_none
+
+module _ (rules : List Correction) (T : List Fact) (s p : List Routine) (entry : List ℕ)
+    (ts : List Ty) (types : AreTypes T s entry ts) where
+  abbrev F : FactSet
+  F = set_of T
+
+  abbrev g : Setting
+  g = setting_by rules s T
+
+  pub still_types : (n : ℕ) (es : List Edit) → IsRewriting g s p n es → AreTypes T p entry ts
+  still_types n es rewritten =
+      let alike = rewritings_alike g s p n es rewritten in
+      let heads = heads_alike g 0 s p alike in
+      let entered = entry_fault (found s entry) (length ts) in
+      let typed = or_fault (slots_fault F (slots s)) (nodes_fault (single F) s) in
+      let names = no_fault (names_fault s) (or_fault entered typed) types.faultless in
+      let entries = no_fault entered typed names.1 in
+      let both = no_fault (slots_fault F (slots s)) (nodes_fault (single F) s) entries.1 in
+      let own = own_alike s p heads (own_names s names.0) in
+      let settled = settled_alike F 0 s p heads (settled_from F 0 s both.0) in
+      let others = alone_alike F 0 s p heads (alone s T types.of_slots) in
+      let lines = no_name_lines s names.0 in
+      let broken = broken_from (single F) s 0 s in
+      let flow = every_of (Keeps F s) (flows s entry ts) types.closed in
+      let enters = entry_flows (called s entry) ts in
+      let given = every_front (Keeps F s) enters (flows_from s 0 s) flow in
+      let inner = every_rest (Keeps F s) enters (flows_from s 0 s) flow in
+      let fine =
+      fine_from g F refl p alike own 0 s p [] alike heads settled others lines
+      (none_least broken (not_on (least broken) both.1)) inner in
+      let first = entry_keeps F s p (called s entry) ts given in
+      record {
+        of_slots = facts_stand s p heads T types.of_slots;
+        closed =
+            all_of (Keeps F p) (flows p entry ts)
+            (every_both (Keeps F p) (entry_flows (called p entry) ts) (flows_from p 0 p)
+            (subst (Every (Keeps F p)) (sym (same_entry_flows s p entry 0 ts heads)) first)
+            (all_keep g F refl p alike own 0 p fine));
+        faultless =
+            neither (names_fault p)
+            (or_fault (entry_fault (found p entry) (length ts))
+            (or_fault (slots_fault F (slots p)) (nodes_fault (single F) p)))
+            (none_earlier (name_lines p) (arity_lines p)
+            (none_named g F refl p alike own 0 s p [] heads fine lines)
+            (none_miscounted g F refl p alike own 0 p fine))
+            (neither (entry_fault (found p entry) (length ts))
+            (or_fault (slots_fault F (slots p)) (nodes_fault (single F) p))
+            (same_entry_fault s p entry (length ts) heads ∙ entries.0)
+            (neither (slots_fault F (slots p)) (nodes_fault (single F) p)
+            (faultless_from F 0 p settled)
+            (none_on (broken_from (single F) p 0 p)
+            (none_broken g F refl p alike own 0 p fine))));
+      }
