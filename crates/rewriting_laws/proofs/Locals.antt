@@ -53,10 +53,10 @@ module _ (x : List ℕ) where
   kept_first false true false r h = refl
   kept_first false false c r h = refl
 
-  among_if : (ys zs : List (List ℕ)) (z : List ℕ) (b : Bool)
+  among_if : (zs : List (List ℕ)) (z : List ℕ) (b : Bool)
       → among (cond b (z ∷ zs) zs) ≡ (if b then same_bytes x z || among zs else among zs)
-  among_if ys zs z true = refl
-  among_if ys zs z false = refl
+  among_if zs z true = refl
+  among_if zs z false = refl
 
   among_filter : (ys xs : List (List ℕ))
       → among (filter (is_among ys) xs) ≡ among ys && among xs
@@ -66,7 +66,7 @@ module _ (x : List ℕ) where
       and_false true = refl
       and_false false = refl
   among_filter ys (z ∷ xs) =
-      among_if ys (filter (is_among ys) xs) z (is_among ys z)
+      among_if (filter (is_among ys) xs) z (is_among ys z)
       ∙ (λ i. if is_among ys z then same_bytes x z || among_filter ys xs i
       else among_filter ys xs i)
       ∙ kept_first (among ys) (is_among ys z) (same_bytes x z) (among xs)
