@@ -12,4 +12,6 @@ pub mod HeadRules
 pub mod Members
 pub mod TreeTypes
 pub mod Slicing
+pub mod Parting
+pub mod Knowing
 pub mod Scopes

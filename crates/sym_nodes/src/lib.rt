@@ -7,6 +7,8 @@ pub mod choices;
 pub mod comparisons;
 pub mod decided;
 pub mod env;
+pub mod given;
+pub mod known;
 pub mod literals;
 pub mod locals;
 pub mod nodes;

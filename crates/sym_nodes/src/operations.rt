@@ -15,6 +15,7 @@ ghost use Rattle.sym_nodes.specs.Operands.{ArePartsIn, PartsGive, types_of, valu
 use crate::arithmetic::{arith_value, negative_value};
 use crate::builtins::builtin_operation;
 use crate::comparisons::compare_value;
+use crate::known::known_operation;
 use crate::literals::{bool_literal, int_literal, list_operation};
 use crate::operands::{one_value, two_values};
 use crate::sequences::{index_value, slice_value};
@@ -29,6 +30,30 @@ use sym_values::{SymOutcome, SymValue};
 
 /// What a node gives on the values of its parts.
 pub fn operation<L: Logic>(
+    alloc: Global,
+    g: &mut L,
+    limits: &Limits,
+    head: Head<'_>,
+    parts: &[SymOutcome<L::Bit>],
+) -> Result<SymOutcome<L::Bit>, NoMemory>
+    requires parts { ArePartsIn L.owns g.old limits.now parts.now }
+    requires many { HasParts (head_kind head) (length parts.now) }
+    requires typed { IsSome (operation_type (head_kind head) (types_of parts.now)) }
+    ensures extends { Extends L.owns L.reads L.count g.old g.new }
+    ensures made { IfOk result (λ r. (t : Ty)
+        → operation_type (head_kind head.entry) (types_of parts.now) ≡ Some t
+        → IsOutcomeIn L.owns g.new (form_for limits.now t) r) }
+    ensures value { IfOk result (λ r. PartsGive L.reads g.old g.new parts.now r
+        (given_by limits.now (head_kind head.entry))) }
+{
+    if let Some(known) = known_operation(alloc, g, limits, head, parts)? {
+        return Ok(known);
+    }
+    circuit(alloc, g, limits, head, parts)
+}
+
+/// What a node gives on the values of its parts, whatever is known of them.
+fn circuit<L: Logic>(
     alloc: Global,
     g: &mut L,
     limits: &Limits,

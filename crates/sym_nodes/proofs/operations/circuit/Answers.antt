@@ -12,7 +12,7 @@ use Rattle.sym_nodes.specs.Nodes.{built_type, operation, operation_type}
 use Rattle.sym_nodes.specs.Operands.{types_of}
 use Rattle.sym_nodes.proofs.Arity.{one_gives, two_types}
 use Rattle.sym_nodes.proofs.Typed.{one_typed, two_typed}
-use Rattle.sym_nodes.proofs.operations.operation.Goals as goal
+use Rattle.sym_nodes.proofs.operations.circuit.Goals as goal
 
 pub negative_value-requires-clause-number : goal.negative_value-requires-clause-number
 negative_value-requires-clause-number g c = one_typed c.args.limits.now c.args.parts.now c.one_value-a.result.now c.requires.parts c.one_value-a.ensures
