@@ -1,9 +1,9 @@
 -- What the interpreter's answers say.
-use Rattle.std.specs.Prelude.{◌≡◌, ⊤, ℕ, List, ◌++◌, ◌∷◌, [], Option, Some, None, Bool}
+use Rattle.std.specs.Prelude.{◌≡◌, ⊤, ℕ, List, ◌++◌, ◌∷◌, [], Option, Some, None, Bool, ℤ}
 use Rattle.std.specs.declared.result.Result.{Result}
 use Rattle.std.specs.declared.result.Result.TheVariants.{Ok}
 use Rattle.mpy_tree.specs.declared.value.Value.{Value}
-use Rattle.mpy_tree.specs.declared.value.Value.TheVariants.{Bool as Truth, Text}
+use Rattle.mpy_tree.specs.declared.value.Value.TheVariants.{Int, Bool as Truth, Text}
 use Rattle.mpy_tree.specs.declared.outcome.Halted.{Halted}
 use Rattle.mpy_tree.specs.declared.limits.Limits.{Limits}
 use Rattle.mpy_tree.specs.Values.{◌>>=◌, on_line}
@@ -26,3 +26,8 @@ GivesTruth (Some b) m = m ≡ Ok (Truth b)
 -- the length of a value that was given
 abbrev pub length_given : Limits → ℕ → Result Value Halted → Result Value Halted
 length_given l line r = r >>= λ v. on_line line (length_of l v)
+
+-- a number that was found is what the definition gives, alone
+abbrev pub GivesNumberAlone : Option ℤ → Result (List Value) Halted → Type 0
+GivesNumberAlone None m = ⊤
+GivesNumberAlone (Some z) m = m ≡ Ok (Int z ∷ [])

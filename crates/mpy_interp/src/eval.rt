@@ -242,8 +242,13 @@ impl<C: Calls> Machine<'_, C> {
         ensures { Meets result (value_of self.now.limits.now (C.gives self.now.calls.now)
             (state_of frame.now) line (ast.Call f.now (terms_of es.now))) }
     {
-        let vs = self.eval_all(frame, line, es)?;
-        self.apply(f, vs, line)
+        match self.number_alone(frame, line, es) {
+            Some(z) => self.apply_to_number(f, z, line),
+            None => {
+                let vs = self.eval_all(frame, line, es)?;
+                self.apply(f, vs, line)
+            }
+        }
     }
 
     // The values of expressions, from left to right.

@@ -5,9 +5,9 @@ ghost use Rattle.mpy_tree.specs.Syntax as ast;
 ghost use Rattle.mpy_tree.specs.View.{term_of, terms_of};
 ghost use Rattle.mpy_interp.specs.Answers.{GivesCharacter, GivesTruth};
 ghost use Rattle.value_operations.specs.Answers.{GivesNumber};
-ghost use Rattle.mpy_interp.specs.Answers.{length_given};
+ghost use Rattle.mpy_interp.specs.Answers.{GivesNumberAlone, length_given};
 ghost use Rattle.mpy_interp.specs.Frames.{state_of};
-ghost use Rattle.mpy_tree.specs.Expressions.{value_of};
+ghost use Rattle.mpy_tree.specs.Expressions.{value_of, values_of};
 
 use crate::calls::Calls;
 use crate::frame::Frame;
@@ -79,6 +79,17 @@ impl<C: Calls> Machine<'_, C> {
             (state_of frame.now) line (term_of e.now))) }
     {
         length_of_value(self.limits, frame.local(name_in(e)?)?)
+    }
+
+    /// The number that the one argument of a call gives, if there is just one and it is found.
+    pub fn number_alone(&self, frame: &Frame<'_>, line: u32, es: &Exprs) -> Option<i32>
+        ensures { GivesNumberAlone result (values_of self.now.limits.now
+            (C.gives self.now.calls.now) (state_of frame.now) line (terms_of es.now)) }
+    {
+        match es.items() {
+            [e] => self.number(frame, line, e),
+            _ => None,
+        }
     }
 
     /// The truth that an expression gives, if it is found.
