@@ -5,15 +5,18 @@ ghost use Rattle.mpy_tree.specs.View.{term_of, maybe_term, action_of, block_of, 
 ghost use Rattle.mpy_tree.specs.View.{block_or_none};
 ghost use Rattle.mpy_interp.specs.Completions.{EndsAs};
 ghost use Rattle.mpy_interp.specs.Frames.{state_of};
-ghost use Rattle.mpy_tree.specs.Statements.{give, run_block, run_action, run_arms, run_else};
+ghost use Rattle.mpy_tree.specs.Operations.{members};
+ghost use Rattle.mpy_tree.specs.Statements.{for_turns, give, given, run_block, run_action};
+ghost use Rattle.mpy_tree.specs.Statements.{run_arms, run_else};
+ghost use Rattle.mpy_tree.specs.Values.{on_line};
 
 use crate::assignments::{Change, Place};
 use crate::calls::Calls;
 use crate::completion::Completion;
 use crate::frame::Frame;
 use crate::machine::Machine;
-use mpy_tree::{Act, Arms, Expr, FaultKind, Name, Stmts};
-use value_operations::{Stop, faulted, is_true, members_of};
+use mpy_tree::{Act, Arms, Expr, FaultKind, Name, Stmts, Value};
+use value_operations::{Stop, faulted, is_true, member_at};
 
 impl<C: Calls> Machine<'_, C> {
     /// Runs a body.
@@ -148,7 +151,6 @@ impl<C: Calls> Machine<'_, C> {
     }
 
     // Runs a `for`.
-    #[tactic(auto, using(crate::proofs::Turning::one_member))]
     #[inline(never)]
     #[cycle(exec)]
     fn exec_for<'a>(
@@ -164,21 +166,43 @@ impl<C: Calls> Machine<'_, C> {
             (ast.For x.now (term_of e.now) (block_of body.now)) line (state_of frame.old)) }
     {
         let list = self.value(frame, line, e)?;
-        let values = members_of(self.alloc, line, &list)?;
-        let mut turns = self.limits.turns;
-        for v in &values {
-            if turns == 0 {
+        self.exec_over(frame, body, line, x, &list)
+    }
+
+    // Runs the turns of a `for` over a value.
+    #[tactic(auto, using(crate::proofs::Turning::turns))]
+    #[cycle(exec)]
+    fn exec_over<'a>(
+        &self,
+        frame: &mut Frame<'a>,
+        body: &'a Stmts,
+        line: u32,
+        x: &'a Name,
+        list: &Value,
+    ) -> Result<Completion, Stop>
+        ensures { EndsAs result (state_of frame.new)
+            (given (on_line line (members list.now)) (λ vs.
+            for_turns vs self.now.limits.now.turns x.now
+            (run_block self.now.limits.now (C.gives self.now.calls.now) (block_of body.now))
+            line (state_of frame.old))) }
+    {
+        let mut turn = 0;
+        'turns: loop {
+            let v = match member_at(self.alloc, line, list, turn as usize)? {
+                None => return Ok(Completion::Next),
+                Some(v) => v,
+            };
+            if turn == self.limits.turns {
                 return Err(faulted(FaultKind::Turns, line));
             }
-            frame.set(x, v.copy()?)?;
+            frame.set(x, v)?;
             match self.exec_block(frame, body)? {
                 Completion::Next => {}
                 Completion::Continued => {}
                 Completion::Broke => return Ok(Completion::Next),
                 Completion::Returned(v) => return Ok(Completion::Returned(v)),
             }
-            turns -= 1;
+            turn += 1;
         }
-        Ok(Completion::Next)
     }
 }

@@ -12,7 +12,7 @@ mod stop;
 pub use builtins::{call_builtin, call_on_number, length_of_value};
 pub use comparisons::{compared, is_true, relate_numbers};
 pub use lists::{
-    append_to, byte_in, element_at, list_literal, members_of, number_in, part_between, replace_at,
+    append_to, byte_in, element_at, list_literal, member_at, number_in, part_between, replace_at,
     text_literal,
 };
 pub use numbers::{make_number, number_by, within};

@@ -1,11 +1,12 @@
 //! Operators on lists and texts.
 ghost use Rattle.std.specs.Prelude.{◌≡◌, ◌*◌, ◌<◌, ◌≤◌, ◌⊎◌, MatchOption, ℕ, ◌++◌, ◌∷◌, [], length};
-ghost use Rattle.std.specs.Prelude.{map, IfOk, IfSome, Ok, Err};
+ghost use Rattle.std.specs.Prelude.{IfOk, IfSome, Ok, Err};
 ghost use Rattle.value_operations.specs.Answers.{Meets, MeetsBy};
+ghost use Rattle.value_operations.specs.Members.{member_in};
 ghost use Rattle.mpy_tree.specs.Operations.{copy_count};
 ghost use Rattle.mpy_tree.specs.Values.{on_line};
 ghost use Rattle.mpy_tree.specs.Operations.{list_within, text_within, repeated, index, index_in};
-ghost use Rattle.mpy_tree.specs.Operations.{element, slice, end_or, put, append, members, numbers};
+ghost use Rattle.mpy_tree.specs.Operations.{element, slice, end_or, put, append};
 ghost use Rattle.mpy_tree.specs.Operations.{cut};
 ghost use Rattle.mpy_tree.specs.Expressions.{wholes, list_of, end_of, slice_of};
 
@@ -318,36 +319,20 @@ fn append_number(l: &Limits, line: u32, xs: Ints, z: i32) -> Result<Value, Stop>
     list_within_cap(l, line, Ints::from_vec(items))
 }
 
-/// The members that a `for` goes over.
-#[tactic(auto, using(mpy_tree::proofs::Texts::characters_are))]
-pub fn members_of(alloc: Global, line: u32, v: &Value) -> Result<Vec<Value>, Stop>
-    ensures { MeetsBy (λ v. v.items) result (on_line line (members v.now)) }
+/// The member at a place of those that a `for` goes over, if they are so many.
+#[tactic(auto, using(crate::proofs::Members::number_at, crate::proofs::Members::character_at))]
+pub fn member_at(alloc: Global, line: u32, v: &Value, k: usize) -> Result<Option<Value>, Stop>
+    ensures { Meets result (on_line line (member_in v.now k)) }
 {
     match v {
-        Value::List(xs) => Ok(number_values(alloc, xs.items())?),
-        Value::Text(cs) => Ok(text_values(alloc, cs.characters(alloc)?)?),
+        Value::List(xs) => match xs.items().get(k) {
+            None => Ok(None),
+            Some(z) => Ok(Some(Value::Int(*z))),
+        },
+        Value::Text(cs) => match cs.character(alloc, k)? {
+            None => Ok(None),
+            Some(c) => Ok(Some(Value::Text(c))),
+        },
         _ => Err(stuck(line)),
     }
-}
-
-// Numbers as values.
-fn number_values(alloc: Global, xs: &[i32]) -> Result<Vec<Value>, NoMemory>
-    ensures { IfOk result (λ r. r.items ≡ numbers xs.now) }
-{
-    let mut values = Vec::with_capacity(alloc, xs.len())?;
-    for x in xs {
-        values.push(Value::Int(*x))?;
-    }
-    Ok(values)
-}
-
-// Texts as values.
-fn text_values(alloc: Global, texts: Vec<Chars>) -> Result<Vec<Value>, NoMemory>
-    ensures { IfOk result (λ r. r.items ≡ map Value.Text texts.items) }
-{
-    let mut values = Vec::with_capacity(alloc, texts.len())?;
-    for t in texts {
-        values.push(Value::Text(t))?;
-    }
-    Ok(values)
 }

@@ -1,9 +1,14 @@
+use Rattle.std.proofs.Common.{◌<◌, arith, rules}
 use Rattle.mpy_interp.specs.Frames.{state_of}
 use Rattle.mpy_tree.specs.Syntax as ast
 use Rattle.mpy_tree.specs.View.{term_of, maybe_term, block_of}
 use Rattle.mpy_tree.specs.declared.tree.Act.{Assign, Augment, Put, AugmentAt, Append, Return, While, For}
+use Rattle.mpy_tree.specs.Operations.{members}
+use Rattle.mpy_tree.specs.Statements.{run_block}
+use Rattle.mpy_interp.proofs.Turning.{turn_begun}
 use Rattle.mpy_interp.proofs.Arms.{ends_as, assign_is, augment_is, put_is, augment_at_is, append_is, return_is, while_is, for_is}
 use Rattle.mpy_interp.proofs.machine.Machine.+exec.Goals as goal
+use Rattle.mpy_interp.proofs.machine.Machine.+exec.Goals.{exec_over-in-Next, exec_over-in-Continued}
 
 pub exec_act-returns-in-Assign : goal.exec_act-returns-in-Assign
 exec_act-returns-in-Assign g t c =
@@ -36,3 +41,35 @@ exec_act-returns-in-While g t c =
 pub exec_act-returns-in-For : goal.exec_act-returns-in-For
 exec_act-returns-in-For g t c =
     ends_as c.args.self.now.limits.now (g.C.Calls.gives c.args.self.now.calls.now) c.args.act.now (For c.in-For.x c.in-For.e c.in-For.body) (ast.For c.in-For.x (term_of c.in-For.e) (block_of c.in-For.body)) c.args.line (state_of c.args.frame.now) (state_of c.exec_for.new.frame) c.exec_for.result c.in-For.is (for_is c.in-For.x c.in-For.e c.in-For.body) c.exec_for.ensures
+
+pub exec_over-returns-in_err-exec_block : goal.exec_over-returns-in_err-exec_block
+exec_over-returns-in_err-exec_block g t c =
+    let l = c.args.self.now.limits.now in
+    let body = run_block l (g.C.Calls.gives c.args.self.now.calls.now) (block_of c.args.body.now) in
+    let more : c.turns.turn < l.turns = omega arith in
+    let begun = turn_begun (members c.args.list.now) c.turns.turn l.turns c.in_ok-member_at.field-0 c.in-Some.v c.args.x.now body c.args.line (state_of c.args.frame.now) (state_of c.turns.frame) (state_of c.set.new.self) c.turns.invariant.left c.in_ok-member_at.ensures c.in-Some.is more c.in_ok-set.ensures in
+    search (rules, begun)
+
+pub exec_over-returns-in-Broke : goal.exec_over-returns-in-Broke
+exec_over-returns-in-Broke g t c =
+    let l = c.args.self.now.limits.now in
+    let body = run_block l (g.C.Calls.gives c.args.self.now.calls.now) (block_of c.args.body.now) in
+    let more : c.turns.turn < l.turns = omega arith in
+    let begun = turn_begun (members c.args.list.now) c.turns.turn l.turns c.in_ok-member_at.field-0 c.in-Some.v c.args.x.now body c.args.line (state_of c.args.frame.now) (state_of c.turns.frame) (state_of c.set.new.self) c.turns.invariant.left c.in_ok-member_at.ensures c.in-Some.is more c.in_ok-set.ensures in
+    search (rules, begun)
+
+pub exec_over-returns-in-Returned : goal.exec_over-returns-in-Returned
+exec_over-returns-in-Returned g t c =
+    let l = c.args.self.now.limits.now in
+    let body = run_block l (g.C.Calls.gives c.args.self.now.calls.now) (block_of c.args.body.now) in
+    let more : c.turns.turn < l.turns = omega arith in
+    let begun = turn_begun (members c.args.list.now) c.turns.turn l.turns c.in_ok-member_at.field-0 c.in-Some.v c.args.x.now body c.args.line (state_of c.args.frame.now) (state_of c.turns.frame) (state_of c.set.new.self) c.turns.invariant.left c.in_ok-member_at.ensures c.in-Some.is more c.in_ok-set.ensures in
+    search (rules, begun)
+
+pub exec_over-turns-preserved : goal.exec_over-turns-preserved
+exec_over-turns-preserved g t c =
+    let l = c.args.self.now.limits.now in
+    let body = run_block l (g.C.Calls.gives c.args.self.now.calls.now) (block_of c.args.body.now) in
+    let more : c.turns.turn < l.turns = omega arith in
+    let begun = turn_begun (members c.args.list.now) c.turns.turn l.turns c.in_ok-member_at.field-0 c.in-Some.v c.args.x.now body c.args.line (state_of c.args.frame.now) (state_of c.turns.frame) (state_of c.set.new.self) c.turns.invariant.left c.in_ok-member_at.ensures c.in-Some.is more c.in_ok-set.ensures in
+    elim c.match-branch-5.branch [ exec_over-in-Next w ↦ record { within = omega (arith, more); left = search (rules, begun, w.in-Next) } | exec_over-in-Continued w ↦ record { within = omega (arith, more); left = search (rules, begun, w.in-Continued) } ]

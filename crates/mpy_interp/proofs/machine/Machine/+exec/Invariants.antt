@@ -1,11 +1,14 @@
-use Rattle.std.proofs.Common.{◌≡◌, ℕ, ◌+◌, ◌*◌, max, Option, Some, None, map, drop}
+use Rattle.std.proofs.Common.{◌≡◌, ℕ, ◌+◌, ◌-◌, ◌*◌, ◌≤◌, max, Option, Some, None, map, drop}
 use Rattle.mpy_tree.proofs.tree.Arms.TheLaws.{the_size}
 use Rattle.mpy_tree.proofs.tree.Stmts.TheLaws.{the_size as body_size}
 use Rattle.mpy_tree.specs.declared.tree.Stmts.{Stmts}
 use Rattle.mpy_tree.specs.View.{term_of, statement_of, branch_of, block, branches, block_of, branches_of, block_or_none}
 use Rattle.mpy_interp.specs.Frames.{state_of}
+use Rattle.mpy_tree.specs.Values.{on_line}
+use Rattle.mpy_tree.specs.Operations.{members}
 use Rattle.mpy_tree.specs.Expressions.{value_of}
-use Rattle.mpy_tree.specs.Statements.{run_block, run_arms, run_else, while_turns, for_turns}
+use Rattle.mpy_tree.specs.Statements.{run_block, run_arms, run_else, while_turns}
+use Rattle.mpy_interp.proofs.Turning.{turns_from}
 use Rattle.mpy_interp.proofs.machine.Machine.+exec.Given as goal
 
 -- from here on the rest of the body gives what the body gives
@@ -33,28 +36,37 @@ abbrev pub decreases-exec_while-turns : goal.decreases-exec_while-turns
 decreases-exec_while-turns g l = l.left
 
 -- the turns that are left give, on the members that are left, what all give
-abbrev pub invariant-exec_for-loop-v : goal.invariant-exec_for-loop-v
-invariant-exec_for-loop-v g l =
-    for_turns l.v-items l.self.limits.now.turns l.x (run_block l.self.limits.now (g.C.Calls.gives l.self.calls.now) (block_of l.body)) l.line (state_of l.fn.frame)
-    ≡ for_turns (drop l.v-index l.v-items) l.turns l.x (run_block l.self.limits.now (g.C.Calls.gives l.self.calls.now) (block_of l.body)) l.line (state_of l.frame)
+abbrev pub invariant-exec_over-turns : goal.invariant-exec_over-turns
+invariant-exec_over-turns g l = record {
+  within : l.turn ≤ l.self.limits.now.turns;
+  left :
+      turns_from 0 (on_line l.line (members l.list)) l.self.limits.now.turns l.x (run_block l.self.limits.now (g.C.Calls.gives l.self.calls.now) (block_of l.body)) l.line (state_of l.fn.frame)
+      ≡ turns_from l.turn (on_line l.line (members l.list)) (l.self.limits.now.turns - l.turn) l.x (run_block l.self.limits.now (g.C.Calls.gives l.self.calls.now) (block_of l.body)) l.line (state_of l.frame);
+}
+
+abbrev pub decreases-exec_over-turns : goal.decreases-exec_over-turns
+decreases-exec_over-turns g l = l.self.limits.now.turns - l.turn
 
 -- the size of a body that may be missing
 abbrev last_size : Option Stmts → ℕ
 last_size None = 0
 last_size (Some b) = body_size b
 
--- twice the size of what is run, and one more where just a part of it is run next
+-- three times the size of what is run, and one or two more where just a part of it is run next
 abbrev pub decreases-exec_block : goal.decreases-exec_block
-decreases-exec_block g l = 2 * goal.size-exec_block g l
+decreases-exec_block g l = 3 * goal.size-exec_block g l
 
 abbrev pub decreases-exec_act : goal.decreases-exec_act
-decreases-exec_act g l = 2 * goal.size-exec_act g l
+decreases-exec_act g l = 3 * goal.size-exec_act g l
 
 abbrev pub decreases-exec_if : goal.decreases-exec_if
-decreases-exec_if g l = 2 * max (the_size l.arms.now) (last_size l.last.now) + 1
+decreases-exec_if g l = 3 * max (the_size l.arms.now) (last_size l.last.now) + 2
 
 abbrev pub decreases-exec_while : goal.decreases-exec_while
-decreases-exec_while g l = 2 * goal.size-exec_while g l + 1
+decreases-exec_while g l = 3 * goal.size-exec_while g l + 2
 
 abbrev pub decreases-exec_for : goal.decreases-exec_for
-decreases-exec_for g l = 2 * goal.size-exec_for g l + 1
+decreases-exec_for g l = 3 * goal.size-exec_for g l + 2
+
+abbrev pub decreases-exec_over : goal.decreases-exec_over
+decreases-exec_over g l = 3 * body_size l.body.now + 1
