@@ -43,15 +43,18 @@ impl<C: Calls> Machine<'_, C> {
         }
     }
 
-    /// The value of an expression, by the shortcut where it gives a number.
+    /// The value of an expression, by the shortcut where it gives a number and isn't a name.
     #[cycle(eval)]
     pub fn value(&self, frame: &Frame<'_>, line: u32, e: &Expr) -> Result<Value, Stop>
         ensures { Meets result (value_of self.now.limits.now (C.gives self.now.calls.now)
             (state_of frame.now) line (term_of e.now)) }
     {
-        match self.number(frame, line, e) {
-            Some(z) => Ok(Value::Int(z)),
-            None => self.eval(frame, line, e),
+        match e {
+            Expr::Name(x) => frame.get(line, x),
+            _ => match self.number(frame, line, e) {
+                Some(z) => Ok(Value::Int(z)),
+                None => self.eval(frame, line, e),
+            },
         }
     }
 

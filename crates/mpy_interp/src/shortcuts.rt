@@ -25,6 +25,7 @@ impl<C: Calls> Machine<'_, C> {
         match e {
             Expr::Int(n) => within(self.limits, *n as i64),
             Expr::Name(x) => frame.number(x),
+            Expr::Neg(a) => within(self.limits, -(self.number(frame, line, a)? as i64)),
             Expr::Arith(op, a, b) => self.number_by(frame, line, *op, a, b),
             Expr::Index(a, i) => self.number_at(frame, line, a, i),
             Expr::Call(f, es) => self.number_of_call(frame, line, f, es),
