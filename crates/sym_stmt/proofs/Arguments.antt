@@ -81,13 +81,6 @@ module _ {S B : Type 0} {owns : S → B → Type 0} {s : S} (l : Limits) where
       let tail = arguments_formed args (All-tail (IsTypedIn owns s l) a args h) in
       λ i. head i ∷ tail i
 
-  pub arguments_owned : (args : List (SymValue B)) → All (IsTypedIn owns s l) args
-      → OwnsAll owns s (values_bits args)
-  arguments_owned [] h = record { each = All-nil (owns s) }
-  arguments_owned (a ∷ args) h =
-      owns_both (All-head (IsTypedIn owns s l) a args h).owned
-      (arguments_owned args (All-tail (IsTypedIn owns s l) a args h))
-
   -- the forms of the slots begin with those of the arguments
   pub arguments_begin : (types : SlotTypes) (j : ℕ) (params : List (List ℕ)) (slots : Slots)
       (args : List (SymValue B)) → AreSlotsOf types j params l slots

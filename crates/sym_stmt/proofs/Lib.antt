@@ -5,3 +5,4 @@ pub mod Scopes
 pub mod ProgramFacts
 pub mod Rewritten
 pub mod Calls
+mod CallLevels

@@ -1,6 +1,7 @@
 //! Weighted programs as bits, over any logic.
 #![tactic(auto)]
 
+mod depths;
 mod entering;
 mod laws;
 mod levels;

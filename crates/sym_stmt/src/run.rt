@@ -18,7 +18,7 @@ ghost use Rattle.sym_expr.specs.Signatures.{AreArgumentsIn, given_type, value_ty
 ghost use Rattle.sym_nodes.specs.Views.{env_of};
 ghost use Rattle.sym_stmt.specs.Programs.{TypesFunctions, TypesProgram, signatures_of};
 
-use crate::levels::{Deepest, Level};
+use crate::depths::remembering;
 use crate::program::Program;
 use bit_words::NoMemory;
 use bit_words::bits::Bits;
@@ -26,7 +26,8 @@ use bit_words::logic::Logic;
 use choice_tree::WProg;
 use mpy_tree::{Limits, Name, Names, Types};
 use std::alloc::Global;
-use sym_expr::{Functions, Picks, View};
+use std::marker::Brand;
+use sym_expr::{Picks, View};
 use sym_values::{SymOutcome, SymValue, SymValues};
 
 /// The outcome of a weighted program on arguments of the entry's types: under all truth values it
@@ -70,7 +71,7 @@ pub fn sym_run<L: Logic>(
         depth: 0,
     };
     let given = copies(alloc, args)?;
-    let outcome = at_depth(alloc, g, &program, &view, entry, given)?;
+    let outcome = remembering::<L, Brand>(alloc, g, &program, &view, entry, given)?;
     Ok(outcome)
 }
 
@@ -84,101 +85,4 @@ fn copies<B: Copy>(alloc: Global, args: &Vec<SymValue<B>>) -> Result<SymValues<B
         all.push(copy)?;
     }
     Ok(all)
-}
-
-// The outcome of a call of the entry, from which calls may go as deep as the limits allow.
-fn at_depth<L: Logic>(
-    alloc: Global,
-    g: &mut L,
-    program: &Program<'_>,
-    view: &View<'_, L::Bit>,
-    entry: &Name,
-    args: SymValues<L::Bit>,
-) -> Result<SymOutcome<L::Bit>, NoMemory>
-    requires picks { OwnsAll L.owns g.old (joined (env_of view.now).picks) }
-    requires many { HasPicks (env_of view.now).picks (weighted_prog program.now.tree.now) }
-    requires functions { TypesFunctions program.now.types.now.facts program.now.tree.now }
-    requires args { AreArgumentsIn L.owns g.old (env_of view.now).limits args }
-    requires typed { IsSome (given_type (signatures_of program.now.tree.now
-        program.now.types.now.facts) entry.now (value_types args)) }
-    ensures extends { Extends L.owns L.reads L.count g.old g.new }
-    ensures made { IfOk result (λ r. (u : AnyType)
-        → given_type (signatures_of program.now.tree.now program.now.types.now.facts) entry.now
-        (value_types args) ≡ Some u
-        → IsOutcomeIn L.owns g.new (form_for (env_of view.now).limits u) r) }
-    ensures value { IfOk result (λ r.
-        (vs : List Bool) (m : ℕ → ℕ) (values : List Value) (p : List Routine)
-        → PicksRead (L.reads g.old vs) (env_of view.now).picks m
-        → map (read (L.reads g.old vs)) args ≡ map sure values
-        → program_shape p ≡ plain m (weighted_prog program.now.tree.now)
-        → OutcomeReads (L.reads g.new vs) r
-        (evaluated (env_of view.now).limits p entry.now values)) }
-{
-    let none = Deepest { program: *program };
-    let one = Level {
-        program: *program,
-        below: none,
-    };
-    let two = Level {
-        program: *program,
-        below: one,
-    };
-    let three = Level {
-        program: *program,
-        below: two,
-    };
-    let four = Level {
-        program: *program,
-        below: three,
-    };
-    let five = Level {
-        program: *program,
-        below: four,
-    };
-    let six = Level {
-        program: *program,
-        below: five,
-    };
-    let seven = Level {
-        program: *program,
-        below: six,
-    };
-    let eight = Level {
-        program: *program,
-        below: seven,
-    };
-    match view.limits.depth {
-        1 => {
-            let outcome = one.call(alloc, g, view, entry, args)?;
-            Ok(outcome)
-        }
-        2 => {
-            let outcome = two.call(alloc, g, view, entry, args)?;
-            Ok(outcome)
-        }
-        3 => {
-            let outcome = three.call(alloc, g, view, entry, args)?;
-            Ok(outcome)
-        }
-        4 => {
-            let outcome = four.call(alloc, g, view, entry, args)?;
-            Ok(outcome)
-        }
-        5 => {
-            let outcome = five.call(alloc, g, view, entry, args)?;
-            Ok(outcome)
-        }
-        6 => {
-            let outcome = six.call(alloc, g, view, entry, args)?;
-            Ok(outcome)
-        }
-        7 => {
-            let outcome = seven.call(alloc, g, view, entry, args)?;
-            Ok(outcome)
-        }
-        _ => {
-            let outcome = eight.call(alloc, g, view, entry, args)?;
-            Ok(outcome)
-        }
-    }
 }

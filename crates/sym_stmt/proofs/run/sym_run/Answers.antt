@@ -4,8 +4,8 @@ use Rattle.sym_stmt.specs.Programs.{signatures_of}
 use Rattle.sym_stmt.proofs.Arguments.{types_there}
 use Rattle.sym_stmt.proofs.run.sym_run.Goals as goal
 
-pub at_depth-requires-clause-typed : goal.at_depth-requires-clause-typed
-at_depth-requires-clause-typed g c =
+pub remembering-requires-clause-typed : goal.remembering-requires-clause-typed
+remembering-requires-clause-typed g c =
     let sigs = signatures_of c.args.w.now c.args.t.now.facts in
     let types = types_there c.args.args.now.items ∙ ap value_types (sym c.in_ok-given.ensures) in
     sym (ap (λ os. is_some (given_type sigs c.args.entry.now os)) types) ∙ c.requires.typed.enters

@@ -11,7 +11,8 @@ use Rattle.sym_expr.specs.Signatures.{Signatures, given_type, value_types}
 use Rattle.sym_blocks.specs.Bodies.{body_scope}
 use Rattle.typed_trees.specs.TypedStatements.{IsTyped}
 use Rattle.sym_stmt.specs.Programs.{functions_of, signatures_of}
-use Rattle.sym_stmt.proofs.Arguments.{arguments_are, arguments_begin, arguments_owned, read_each, same_many}
+use Rattle.sym_calls.proofs.Owning.{arguments_owned}
+use Rattle.sym_stmt.proofs.Arguments.{arguments_are, arguments_begin, read_each, same_many}
 use Rattle.sym_stmt.proofs.Calls.{call_reads, given_at, given_nowhere, some_type}
 use Rattle.sym_stmt.proofs.Headers.{found_at, picks_of}
 use Rattle.sym_stmt.proofs.Scopes.{body_typed}

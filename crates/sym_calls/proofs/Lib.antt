@@ -1,0 +1,6 @@
+mod Alikes
+mod Laters
+pub mod Within
+mod Making
+pub mod Owning
+pub mod Pairs
