@@ -10,9 +10,9 @@ program of `tests/values_try.py`. Counted are all gates that a call makes: with 
 with free items but constant lengths. The exit status is 1 where a row isn't the document's.
 
 `limits` prints for each node how many gates a unit of its weight has at most, at some widths and caps with free operands, and at
-which of them there are more gates than it weighs. `time` prints the microseconds of some operations on constants of 8 bits and
-on lists of three of them, with the making of the operands; there must be no gates. For that the program of `values/` is proved
-and built.
+which of them there are more gates than it weighs. `time` prints the microseconds of making a constant number of 8 bits, of some
+nodes of such numbers, of making a constant list of three of them, and of some nodes of such lists; there must be no gates. For
+that the program of `values/` is proved and built.
 """
 import collections
 import os
@@ -28,9 +28,9 @@ Row = collections.namedtuple('Row', ('node', 'weight', 'call', 'free', 'constant
 
 ITEMS, CHARACTERS = 'l3,-1,0,3', 't6162'
 # What `values` makes, in the order of its numbers, and how often.
-NUMBERS = ('two numbers', '+', '-', '*', '//', '%', '**', 'opposite', '<', 'max')
-LISTS = ('two lists', '==', '+', 'choice', 'len', 'index', 'slice', '*')
-USES = ['mpy_tree', 'bit_words', 'bit_lists', 'sym_values', 'list_values', 'bit_graph']
+NUMBERS = ('a number', '+', '-', '*', '//', '%', '**', 'opposite', '<')
+LISTS = ('a list', '==', '+', '*', 'index', 'slice', 'not')
+USES = ['mpy_tree', 'bit_words', 'sym_values', 'choice_tree', 'sym_nodes', 'bit_graph']
 ROUNDS, RUNS = 10_000, 5
 # The limits that `limits` goes through.
 WIDTHS, CAPS = (3, 5, 8, 16), (1, 4, 8, 16)
@@ -175,7 +175,7 @@ def print_limits(harness):
 
 
 def print_times():
-    """The shortest of some runs of each operation."""
+    """The shortest of some runs of each node."""
     with tempfile.TemporaryDirectory() as work:
         built = Built(work, 'values', USES)
         for names, first in ((NUMBERS, 0), (LISTS, len(NUMBERS))):

@@ -13,7 +13,9 @@ loop-i-preserved g c =
     let at = slice_get_read bits _ i c.index-bits-i.result refl (omega arith) c.index-bits-i.is in
     let twice = double i in
     let most : 2 ^ (i + 1) ≤ 2 ^ 16 = pow_mono {j = 16} (omega arith) in
-    let more = λ (vs : List Bool). digit_more (g.L.Logic.reads c.args.g.now vs) bits i c.loop-i.number c.index-bits-i.result c.in_ok-known.field-0 at (c.in_ok-known.ensures vs) (before.value vs) in
+    let more = λ (vs : List Bool). digit_more (g.L.Logic.reads c.args.g.now vs) bits i
+    c.loop-i.number c.index-bits-i.result c.in_ok-known.field-0 at (c.in_ok-known.ensures vs)
+    (before.value vs) in
     elim c.if-branch.branch [
       | then-branch w ↦ record {
         weight = omega arith;

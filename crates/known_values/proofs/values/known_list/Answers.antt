@@ -8,4 +8,5 @@ returns-in-Some-2 g c vs =
     let len = c.args.len.now in
     let items = c.args.items.now in
     let known = rw c.in-Some-2.is at c.in_ok-known_ints.ensures in
-    list_known (g.L.Logic.reads c.args.g.now vs) (List len items) len items c.in-Some.count c.in-Some-2.numbers refl (c.in-Some.ensures.value vs) c.in-Some.ensures.within (known vs)
+    list_known (g.L.Logic.reads c.args.g.now vs) (List len items) len items c.in-Some.count
+    c.in-Some-2.numbers refl (c.in-Some.ensures.value vs) c.in-Some.ensures.within (known vs)
