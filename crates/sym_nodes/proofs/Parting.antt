@@ -1,6 +1,6 @@
 -- A slice of values, by the ends that are there.
 use Rattle.std.proofs.Common.{◌≡◌, ◌∙◌, ◌+◌, ◌-◌, Bool, true, false, List, [], ◌∷◌, length, get_or}
-use Rattle.std.proofs.Common.{Option, Some, None, ap, sym, arith}
+use Rattle.std.proofs.Common.{Option, Some, None, ap, arith}
 use Rattle.mpy_tree.specs.declared.value.Value.{Value}
 use Rattle.mpy_tree.specs.Expressions.{slice_of}
 use Rattle.choice_tree.specs.Heads.{one_if}

@@ -1,4 +1,4 @@
-use Rattle.std.proofs.Common.{◌≡◌, ℕ, Bool, List}
+use Rattle.std.proofs.Common.{◌≡◌, Bool, List}
 use Rattle.bit_words.specs.Logic.{Extends}
 use Rattle.bit_words.specs.Words.{nat_read}
 use Rattle.sym_nodes.specs.Members.{place_chosen}
