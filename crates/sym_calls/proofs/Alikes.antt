@@ -1,5 +1,5 @@
 -- Lists that are alike as far as they were looked at.
-use Rattle.std.proofs.Common.{◌≡◌, ◌+◌, ℕ, Bool, List, [], ◌∷◌, ◌++◌, Some, map, take, length, slice_get, sym, ap, ◌∙◌, ◌≤◌, refl}
+use Rattle.std.proofs.Common.{◌≡◌, ◌+◌, ℕ, List, [], ◌∷◌, ◌++◌, Some, map, take, length, slice_get, ap, ◌∙◌, ◌≤◌, refl}
 use Rattle.std.proofs.lemmas.List.{map_push, take_all}
 use Rattle.sym_values.proofs.Held.{take_read}
 

@@ -1,5 +1,5 @@
 -- What later states leave of calls that were made.
-use Rattle.std.proofs.Common.{◌≡◌, ℕ, Bool, List, [], ◌∷◌, ◌++◌, All, map, sym as back, ap, ◌∙◌, Some, true, false, if◌then◌else◌, refl, subst}
+use Rattle.std.proofs.Common.{◌≡◌, ℕ, Bool, List, [], ◌∷◌, ◌++◌, map, sym as back, ap, ◌∙◌, Some, true, false, if◌then◌else◌, refl, subst}
 use Rattle.std.proofs.lemmas.List.Elements.{All-push}
 use Rattle.mpy_tree.specs.declared.typing.Ty.TheVariants as ty
 use Rattle.bit_words.specs.Logic.{Extends, Keeps, OwnsAll, extends_keeps}
@@ -10,7 +10,7 @@ use Rattle.sym_values.specs.declared.value.SymOutcome.{SymOutcome}
 use Rattle.sym_values.specs.Forms.{form_for, joined, values_bits}
 use Rattle.sym_values.specs.Later.{outcome_in_later, outcome_later, values_later}
 use Rattle.sym_values.specs.Owned.{owns_one}
-use Rattle.sym_values.specs.Reading.{OutcomeReads, map_bits, read, spelled, sure}
+use Rattle.sym_values.specs.Reading.{OutcomeReads, map_bits, read, spelled}
 use Rattle.sym_nodes.specs.Environments.{PicksRead}
 use Rattle.sym_expr.specs.Signatures.{given_type, value_types}
 use Rattle.sym_calls.specs.declared.call.Call.{Call}

@@ -2,7 +2,7 @@
 use Rattle.std.proofs.Common.{List}
 use Rattle.bit_words.specs.Logic.{OwnsAll}
 use Rattle.sym_values.specs.declared.value.SymOutcome.{SymOutcome}
-use Rattle.sym_values.specs.Forms.{Form, bits_of}
+use Rattle.sym_values.specs.Forms.{Form}
 use Rattle.sym_values.specs.Results.{IsOutcomeIn}
 
 module _ {S T B : Type 0} {owns : S → B → Type 0} {own : T → B → Type 0} {s : S} {t : T}

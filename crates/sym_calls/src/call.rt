@@ -1,5 +1,8 @@
 //! Calls of functions.
 
+ghost use Rattle.std.specs.Prelude.{◌≡◌, IfOk};
+
+use bit_words::NoMemory;
 use mpy_tree::{Limits, Name};
 use sym_values::{SymOutcome, SymValues};
 
@@ -18,4 +21,24 @@ pub struct Call<B: Copy> {
 pub struct MadeCall<B: Copy> {
     pub call: Call<B>,
     pub outcome: SymOutcome<B>,
+}
+
+/// The call of a function at a level.
+pub(crate) fn call_of<B: Copy>(
+    level: u32,
+    limits: &Limits,
+    name: &Name,
+    args: &SymValues<B>,
+) -> Result<Call<B>, NoMemory>
+    ensures { IfOk result (λ c. c
+        ≡ record { level = level; limits = limits.now; name = name.now; args = args.now }) }
+{
+    let name = name.copy()?;
+    let args = args.copy()?;
+    Ok(Call {
+        level,
+        limits: *limits,
+        name,
+        args,
+    })
 }

@@ -14,7 +14,7 @@ ghost use Rattle.sym_expr.specs.Signatures.{AreArgumentsIn, given_type, value_ty
 ghost use Rattle.sym_calls.specs.Pairs.{paired};
 ghost use Rattle.sym_calls.specs.Reuse.{CanReuse};
 
-use crate::call::Call;
+use crate::call::call_of;
 use crate::matching::copy_of;
 use crate::remembering::Remembering;
 use crate::setting::Setting;
@@ -81,12 +81,7 @@ where
             → map (read (L.reads g.old.logic.now vs)) args ≡ map sure values
             → OutcomeReads (L.reads g.new.logic.now vs) r (calls f.now values line)) }
     {
-        let call = Call {
-            level: self.level,
-            limits: *view.limits,
-            name: f.copy()?,
-            args: args.copy()?,
-        };
+        let call = call_of(self.level, view.limits, f, &args)?;
         match g.find(&call) {
             Some(outcome) => {
                 let known = copy_of(outcome)?;
@@ -94,8 +89,7 @@ where
             }
             None => {
                 let outcome = self.functions.call(alloc, g, view, f, args)?;
-                let known = copy_of(&outcome)?;
-                g.remember(call, known)?;
+                g.remember(call, &outcome)?;
                 Ok(outcome)
             }
         }

@@ -1,13 +1,13 @@
 //! A logic that remembers calls.
 
-ghost use Rattle.std.specs.Prelude.{◌≡◌, OnErr, OnOk, IfSome};
+ghost use Rattle.std.specs.Prelude.{◌≡◌, ◌++◌, ◌∷◌, [], IfSome, OnOk};
 ghost use Rattle.bit_words.specs.Logic.{OwnsAll};
 ghost use Rattle.sym_values.specs.Forms.{joined, values_bits};
 ghost use Rattle.sym_calls.specs.Pairs.{paired};
 ghost use Rattle.sym_calls.specs.Remembered.{AreRight, IsAnswer};
 
 use crate::call::{Call, MadeCall};
-use crate::matching::is_same_call;
+use crate::matching::{copy_of, is_same_call};
 use crate::setting::Setting;
 use bit_words::NoMemory;
 use bit_words::logic::Logic;
@@ -117,13 +117,19 @@ impl<'a, L: Logic, K: Setting<L::Bit>> Remembering<'a, L, K> {
     pub(crate) fn remember(
         &mut self,
         call: Call<L::Bit>,
-        outcome: SymOutcome<L::Bit>,
+        outcome: &SymOutcome<L::Bit>,
     ) -> Result<(), NoMemory>
         requires args { OwnsAll L.owns self.old.logic.now (values_bits call.args) }
-        requires answer { IsAnswer L.owns L.reads K.fixed self.old.logic.now call outcome }
+        requires answer { IsAnswer L.owns L.reads K.fixed self.old.logic.now call outcome.now }
         ensures unchanged { self.new.logic ≡ self.old.logic }
+        ensures made { OnOk result (self.new.made.items
+            ≡ self.old.made.items ++ record { call = call; outcome = outcome.now } ∷ []) }
     {
-        self.made.push(MadeCall { call, outcome })?;
+        let kept = copy_of(outcome)?;
+        self.made.push(MadeCall {
+            call,
+            outcome: kept,
+        })?;
         Ok(())
     }
 }

@@ -5,7 +5,8 @@ ghost use Rattle.sym_calls.specs.Remembered.{Fixed};
 
 use std::marker::Brand;
 
-/// What is fixed while calls are remembered. It exists for proofs alone: a call at `Brand` picks it.
+/// What is fixed while calls are remembered. It stands in types alone, and has no value: where the
+/// memory is made, the proof of a call at `Brand` picks it.
 pub trait Setting<B> {
     ghost fixed: { Fixed B };
 }
