@@ -7,7 +7,7 @@ use Rattle.std.specs.List.{list_any, position_from}
 use Rattle.std.proofs.lemmas.Bool.{and_parts}
 use Rattle.std.proofs.lemmas.Iterator.Adapters.{position_from-zero}
 use Rattle.std.proofs.lemmas.List.{length-map, map-append}
-use Rattle.std.proofs.lemmas.List.Elements.{All-head, All-nil, All-tail}
+use Rattle.std.proofs.lemmas.List.Elements.{All-head, All-tail}
 use Rattle.std.proofs.lemmas.List.Quantifiers.{position-Some}
 use Rattle.std.proofs.lemmas.Option.{slice_get-get_or, slice_get-map}
 use Rattle.std.proofs.lemmas.Slice.Eq.{bytes_eq-Decides}
@@ -18,10 +18,8 @@ use Rattle.mpy_tree.specs.declared.typing.Ty.TheVariants as ty
 use Rattle.mpy_tree.specs.declared.value.Value.{Value}
 use Rattle.mpy_tree.specs.Rules.{Slots as SlotTypes, are_arguments, is_argument, same_type}
 use Rattle.mpy_tree.specs.Values.{same_bytes}
-use Rattle.bit_words.specs.Logic.{OwnsAll}
-use Rattle.bit_words.specs.Later.{owns_both}
 use Rattle.sym_values.specs.declared.value.SymValue.{SymValue}
-use Rattle.sym_values.specs.Forms.{form_for, forms_of, values_bits}
+use Rattle.sym_values.specs.Forms.{form_for, forms_of}
 use Rattle.sym_values.specs.Reading.{read, sure}
 use Rattle.sym_nodes.specs.Operands.{IsTypedIn, ty_of}
 use Rattle.sym_paths.specs.declared.slots.Slots.{Slots}

@@ -3,7 +3,7 @@ use Rattle.std.proofs.Common.{◌≡◌, ℕ, suc, zero, List, refl, sym}
 use Rattle.mpy_tree.specs.declared.limits.Limits.{Limits}
 use Rattle.mpy_tree.specs.declared.typing.Fact.{Fact}
 use Rattle.mpy_tree.specs.Expressions.{Calls}
-use Rattle.mpy_tree.specs.Running.{calls_below, no_calls}
+use Rattle.mpy_tree.specs.Running.{calls_below}
 use Rattle.mpy_tree.specs.Shapes.{program_shape}
 use Rattle.mpy_tree.specs.Syntax.{Routine}
 use Rattle.choice_tree.specs.declared.tree.WProg.{WProg}
