@@ -106,6 +106,7 @@ fn constant_outcome<L: Logic>(
     ensures value { IfOk result (λ r. IfSome r (λ o. (vs : List Bool) →
         OutcomeReads {E = Halt} (L.reads g.now vs) o (Ok value.now))) }
 {
+    // An operation gives no other value, but no clause says so.
     if value.ty() != ty || !value.fits(limits) {
         return Ok(None);
     }
