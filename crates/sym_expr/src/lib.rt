@@ -8,8 +8,8 @@ pub mod functions;
 pub mod laws;
 pub mod walk;
 
-pub use alone::sym_expr;
+pub use alone::{sym_expr, sym_node};
 pub use functions::Functions;
 pub use laws::plain_expressions_have_the_type;
-pub use sym_nodes::{Env, Picks, View, local, sym_node};
+pub use sym_nodes::{Env, Picks, View, local};
 pub use walk::eval;
