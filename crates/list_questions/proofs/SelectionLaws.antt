@@ -1,23 +1,20 @@
 -- What holds of the program of a selection, and of one on the list of cases.
-use Rattle.std.proofs.Common.{◌≡◌, ◌⊎◌, ℕ, zero, suc, ◌+◌, ◌<◌, ◌≤◌, List, [], ◌∷◌, Option, None, Some, length, map, refl, sym, ap, subst, ◌∙◌, arith, slice_get, inl, inr}
-use Rattle.std.specs.Prelude.{All, IfSome, MatchOption, option_map, slice_index_or}
-use Rattle.std.specs.List.{Contains}
+use Rattle.std.proofs.Common.{◌≡◌, ◌⊎◌, ℕ, ◌+◌, ◌<◌, ◌≤◌, List, Some, length, map, sym, ap, subst, ◌∙◌, arith, slice_get, inl, inr}
+use Rattle.std.specs.Prelude.{All, option_map, slice_index_or}
 use Rattle.std.proofs.lemmas.Bool.{cases_lt}
 use Rattle.std.proofs.lemmas.List.{length-map}
-use Rattle.std.proofs.lemmas.Option.{get_or_from_slice_get, same_Some, slice_get-get_or, slice_get-map, slice_get_within}
+use Rattle.std.proofs.lemmas.Option.{same_Some, slice_get-get_or, slice_get-map}
 use Rattle.mpy_tree.specs.declared.value.Value.{Value}
 use Rattle.mpy_tree.specs.Shapes.{program_shape}
 use Rattle.mpy_tree.specs.Syntax.{Routine}
 use Rattle.mpy_laws.proofs.BackFromTrees.{trees_differ}
 use Rattle.choice_tree.specs.declared.selection.Choice.{Choice}
 use Rattle.choice_tree.specs.Choices.{member_of}
-use Rattle.choice_tree.specs.Selections.{Fits, cost, plain}
-use Rattle.choice_tree.specs.WeightedTrees.{Weighted}
+use Rattle.choice_tree.specs.Selections.{plain}
 use Rattle.input_space.specs.declared.case.Case.{Case}
 use Rattle.input_space.specs.Tasks.{Task, tree_of}
 use Rattle.list_questions.specs.Asking.{wanted_on}
 use Rattle.list_questions.specs.TaskSpace.{Meets, SelectionMeets, wanted}
-use Rattle.list_questions.proofs.Chosen.{all_if_contained, contained_at}
 
 -- programs of one tree are one
 pub selection_meets : (k : Task) (s : List Choice) (p : List Routine) (x : Case) → program_shape p ≡ plain (member_of s) (tree_of k) → Meets k p x → SelectionMeets k s x

@@ -16,6 +16,7 @@ use Rattle.input_space.specs.declared.task.TaskParts.{TaskParts}
 use Rattle.input_space.specs.TaskParts.{task_with}
 use Rattle.input_space.specs.Tasks.{Task, tree_of}
 use Rattle.list_questions.specs.declared.runs.Expected.{Expected}
+use Rattle.list_questions.specs.declared.runs.Row.{Row}
 use Rattle.list_questions.specs.declared.trial.Reached.{Reached}
 use Rattle.list_questions.specs.TaskSpace.{Meets, SelectionMeets, wanted, wanted_inputs}
 
@@ -76,6 +77,10 @@ pub record IsExpected (k : Task) (e : Expected) : Type 0 where
 pub record IsFailing (k : Task) (p : List Routine) (e : Expected) : Type 0 where
   pub expected : IsExpected k e
   pub fails : Meets k p e.case → ⊥
+
+-- a row of the table as a case with its value
+abbrev pub expected_in : Row → Expected
+expected_in r = record { case = r.case; value = r.value.now }
 
 -- the reference gives no value on the input at a place
 abbrev pub NoneExpected : Task → ℕ → Type 0

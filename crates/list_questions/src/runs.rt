@@ -5,7 +5,7 @@ ghost use Rattle.mpy_tree.specs.View.{routines_of};
 ghost use Rattle.input_space.specs.Agreement.{ends_on};
 ghost use Rattle.input_space.specs.TaskParts.{task_with};
 ghost use Rattle.list_questions.specs.Asking.{ExpectedAt, IsExpected, IsFailing, NoneExpected};
-ghost use Rattle.list_questions.specs.Asking.{all_wanted};
+ghost use Rattle.list_questions.specs.Asking.{all_wanted, expected_in};
 ghost use Rattle.list_questions.specs.TaskSpace.{Meets, wanted, wanted_inputs};
 
 use crate::NoMemory;
@@ -19,6 +19,26 @@ use std::alloc::Global;
 pub(crate) struct Expected {
     pub(crate) case: Case,
     pub(crate) value: Value,
+}
+
+/// A case, and the value in the table that the reference gives on it.
+#[derive(Drop)]
+struct Row<'t> {
+    case: Case,
+    value: &'t Value,
+}
+
+impl Row<'_> {
+    // The case with a copy of the value.
+    fn kept(self) -> Result<Expected, NoMemory>
+        ensures { IfOk result (λ e. e ≡ expected_in self.entry) }
+    {
+        let value = self.value.copy()?;
+        Ok(Expected {
+            case: self.case,
+            value,
+        })
+    }
 }
 
 /// A task whose programs are run.
@@ -92,23 +112,19 @@ impl Runs<'_> {
     }
 
     // The input at a place, where the table of the reference's values has one.
-    fn expected_at(
-        &self,
-        table: &[Option<Value>],
-        place: usize,
-    ) -> Result<Option<Expected>, NoMemory>
+    fn row<'t>(&self, table: &'t [Option<Value>], place: usize) -> Result<Option<Row<'t>>, NoMemory>
         requires table { table.now ≡ all_wanted (task_with self.now.task.now) }
         requires place { place < length table.now }
         ensures { IfOk result (λ o. MatchOption o
             (NoneExpected (task_with self.now.task.now) place)
-            (ExpectedAt (task_with self.now.task.now) place)) }
+            (λ r. ExpectedAt (task_with self.now.task.now) place (expected_in r))) }
     {
         self.task.is_sound();
         match &table[place] {
             None => Ok(None),
-            Some(value) => Ok(Some(Expected {
+            Some(value) => Ok(Some(Row {
                 case: case_at(self.alloc, self.task.bounds(), place as u64)?,
-                value: value.copy()?,
+                value,
             })),
         }
     }
@@ -123,8 +139,8 @@ impl Runs<'_> {
             (IsExpected (task_with self.now.task.now))) }
     {
         for place in 0..table.len() {
-            if let Some(expected) = self.expected_at(table, place)? {
-                return Ok(Some(expected));
+            if let Some(row) = self.row(table, place)? {
+                return Ok(Some(row.kept()?));
             }
         }
         Ok(None)
@@ -143,9 +159,9 @@ impl Runs<'_> {
             (IsFailing (task_with self.now.task.now) (routines_of program.now))) }
     {
         for place in 0..table.len() {
-            if let Some(expected) = self.expected_at(table, place)? {
-                if !self.gives(program, &expected.case, &expected.value)? {
-                    return Ok(Some(expected));
+            if let Some(row) = self.row(table, place)? {
+                if !self.gives(program, &row.case, row.value)? {
+                    return Ok(Some(row.kept()?));
                 }
             }
         }

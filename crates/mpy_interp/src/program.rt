@@ -110,49 +110,61 @@ fn evaluate(
         program: p,
         below: NoCalls,
     };
+    if l.depth == 1 {
+        return one.call(alloc, entry, args, 1);
+    }
     let two = Deeper {
         limits: l,
         program: p,
         below: one,
     };
+    if l.depth == 2 {
+        return two.call(alloc, entry, args, 1);
+    }
     let three = Deeper {
         limits: l,
         program: p,
         below: two,
     };
+    if l.depth == 3 {
+        return three.call(alloc, entry, args, 1);
+    }
     let four = Deeper {
         limits: l,
         program: p,
         below: three,
     };
+    if l.depth == 4 {
+        return four.call(alloc, entry, args, 1);
+    }
     let five = Deeper {
         limits: l,
         program: p,
         below: four,
     };
+    if l.depth == 5 {
+        return five.call(alloc, entry, args, 1);
+    }
     let six = Deeper {
         limits: l,
         program: p,
         below: five,
     };
+    if l.depth == 6 {
+        return six.call(alloc, entry, args, 1);
+    }
     let seven = Deeper {
         limits: l,
         program: p,
         below: six,
     };
+    if l.depth == 7 {
+        return seven.call(alloc, entry, args, 1);
+    }
     let eight = Deeper {
         limits: l,
         program: p,
         below: seven,
     };
-    match l.depth {
-        1 => one.call(alloc, entry, args, 1),
-        2 => two.call(alloc, entry, args, 1),
-        3 => three.call(alloc, entry, args, 1),
-        4 => four.call(alloc, entry, args, 1),
-        5 => five.call(alloc, entry, args, 1),
-        6 => six.call(alloc, entry, args, 1),
-        7 => seven.call(alloc, entry, args, 1),
-        _ => eight.call(alloc, entry, args, 1),
-    }
+    eight.call(alloc, entry, args, 1)
 }

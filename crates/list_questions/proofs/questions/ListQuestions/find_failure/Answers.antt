@@ -1,6 +1,5 @@
 -- an input on which the selection's program fails, or none
 use Rattle.std.proofs.Common.{◌≡◌, ◌∙◌, ap, subst, sym}
-use Rattle.std.specs.List.{Contains}
 use Rattle.mpy_tree.specs.Shapes.{program_shape}
 use Rattle.mpy_tree.specs.View.{routines_of}
 use Rattle.choice_tree.specs.Choices.{member_of}

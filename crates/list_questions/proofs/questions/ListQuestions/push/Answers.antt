@@ -1,9 +1,8 @@
 -- the case and its value are kept together
 use Rattle.std.proofs.Common.{◌≡◌, ◌∙◌, ◌∷◌, [], ◌++◌, List, Some, ap, subst, sym}
 use Rattle.mpy_tree.specs.declared.value.Value.{Value}
-use Rattle.input_space.specs.declared.case.Case.{Case}
 use Rattle.input_space.specs.TaskParts.{task_with}
-use Rattle.list_questions.specs.Asking.{Asking, IsAsking, task_of}
+use Rattle.list_questions.specs.Asking.{Asking, task_of}
 use Rattle.list_questions.specs.TaskSpace.{wanted}
 use Rattle.list_questions.proofs.AskingLaws.{asking_more}
 use Rattle.list_questions.proofs.questions.ListQuestions.push.Goals as goal

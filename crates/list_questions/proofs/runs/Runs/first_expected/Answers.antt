@@ -1,12 +1,14 @@
 -- the first input on which the reference gives a value, or none
-use Rattle.std.proofs.Common.{◌∙◌, ap, arith, length, sym}
+use Rattle.std.proofs.Common.{arith}
 use Rattle.input_space.specs.TaskParts.{task_with}
+use Rattle.list_questions.specs.Asking.{expected_in}
 use Rattle.list_questions.proofs.TableLaws.{is_expected, no_input, table_length}
 use Rattle.list_questions.proofs.runs.Runs.first_expected.Goals as goal
 
 pub returns-in-Some : goal.returns-in-Some
 returns-in-Some c =
-    is_expected (task_with c.args.self.now.task.now) c.loop-place.place c.in-Some.expected (rw c.in-Some.is at c.in_ok-expected.ensures)
+    rw c.in_ok-kept.ensures
+    (is_expected (task_with c.args.self.now.task.now) c.loop-place.place (expected_in c.in-Some.row) (rw c.in-Some.is at c.in_ok-row.ensures))
 
 pub returns : goal.returns
 returns c =

@@ -1,14 +1,16 @@
 -- the first input on which the program fails, or none
-use Rattle.std.proofs.Common.{◌≡◌, ◌∙◌, ap, arith, length, sym, true}
+use Rattle.std.proofs.Common.{◌≡◌, arith, true}
 use Rattle.mpy_tree.specs.View.{routines_of}
 use Rattle.input_space.specs.TaskParts.{task_with}
+use Rattle.list_questions.specs.Asking.{expected_in}
 use Rattle.list_questions.proofs.TableLaws.{is_failing, meets_all, table_length}
 use Rattle.list_questions.proofs.runs.Runs.first_failure.Goals as goal
 
 pub returns-then-not-branch : goal.returns-then-not-branch
 returns-then-not-branch c =
-    is_failing (task_with c.args.self.now.task.now) (routines_of c.args.program.now) c.loop-place.place c.in-Some.expected (rw c.in-Some.is at c.in_ok-expected.ensures)
-    (λ gives. let holds : c.in_ok-gives.field-0 ≡ true = c.in_ok-gives.ensures.1 gives in cc)
+    rw c.in_ok-kept.ensures
+    (is_failing (task_with c.args.self.now.task.now) (routines_of c.args.program.now) c.loop-place.place (expected_in c.in-Some.row) (rw c.in-Some.is at c.in_ok-row.ensures)
+    (λ gives. let holds : c.in_ok-gives.field-0 ≡ true = c.in_ok-gives.ensures.1 gives in cc))
 
 pub returns : goal.returns
 returns c =

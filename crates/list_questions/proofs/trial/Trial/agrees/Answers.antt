@@ -1,5 +1,5 @@
 -- a program agrees on the kept cases, or fails on one
-use Rattle.std.proofs.Common.{◌≡◌, ◌∙◌, ◌<◌, Some, length, refl, subst, true}
+use Rattle.std.proofs.Common.{◌≡◌, ◌<◌, length, refl, subst, true}
 use Rattle.std.specs.Prelude.{slice_index_or}
 use Rattle.std.proofs.lemmas.List.Elements.{All-contains}
 use Rattle.std.proofs.lemmas.Option.{slice_get-get_or, slice_get_read}
