@@ -18,7 +18,7 @@ use Rattle.eml_rewrite.proofs.Sizes.{more_members}
 abbrev typed_of : Context → Tree → List MatchedRule → List Proposal
 typed_of c t ms = filter (is_alternative c.scope t) (proposals_by c.scope ms)
 
-listed : (g : Setting) (site : Site) (c : Context) (t : Tree) (ms : List MatchedRule)
+pub listed : (g : Setting) (site : Site) (c : Context) (t : Tree) (ms : List MatchedRule)
     → ms ≡ matched_by (here site) g.rules t → typed_of c t ms ≡ alternatives g (here site) c t
 listed g site c t ms e =
     ap (typed_of c t) e

@@ -3,6 +3,8 @@ pub mod Appending
 pub mod AsItStands
 pub mod Depths
 pub mod FullyGrown
+pub mod LeastPrograms
+pub mod LeastSizes
 pub mod Members
 pub mod Nodes
 pub mod Programs

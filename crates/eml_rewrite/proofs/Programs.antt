@@ -26,7 +26,7 @@ use Rattle.eml_rewrite.specs.declared.counter.Counter.{Counter}
 use Rattle.eml_rewrite.specs.declared.error.RewriteError.{RewriteError}
 use Rattle.eml_rewrite.specs.declared.error.RewriteError.TheVariants as stop
 use Rattle.eml_rewrite.specs.Building.{Took, Built, BuiltAll}
-use Rattle.eml_rewrite.specs.Programs.{IsRewritten, funcs_grown, setting_of}
+use Rattle.eml_rewrite.specs.Programs.{AreWithin, IsRewritten, funcs_grown, setting_of}
 use Rattle.eml_rewrite.specs.Statements.{apart_in, body_grown, fully_grown}
 use Rattle.eml_rewrite.proofs.Appending.{each_from}
 use Rattle.eml_rewrite.proofs.FullyGrown.{parts_enough, statement_grown, statement_is}
@@ -98,39 +98,35 @@ program_size g keeps s =
     ap size (program_is g keeps s) ∙ omega arith
 
 pub rewritten : (g : Setting) → KeepPrimes g.rules → (s : List Routine) (w : WProg)
-    (old new : Counter) → old.next ≡ 0 → old.left ≡ 1000000
-    → BuiltAll (λ (r : WFuncs). weighteds (map weighted_func r.items.items)) (Ok w.funcs)
-    (funcs_grown g s) old new
-    → IsRewritten (Ok w) (weighted_program g s)
-rewritten g keeps s w old new n l b =
+    → AreWithin (Ok w.funcs) 1000000 (funcs_grown g s) → IsRewritten (Ok w) (weighted_program g s)
+rewritten g keeps s w b =
     let same : weighted_prog w ≡ weighted_program g s =
-    ap (plainly kind.Program) (b.0 ∙ ap (numbered_all (funcs_grown g s)) n)
-    ∙ sym (program_is g keeps s) in
-    let left = b.1.left in
+    ap (plainly kind.Program) b.0 ∙ sym (program_is g keeps s) in
+    let few = b.1 in
     let all = program_size g keeps s in
     let small : size (weighted_program g s) ≤ 1000000 = omega arith in
     (same, subst (λ x. size x ≤ 1000000) (sym same) small)
 
 not_rewritten : (g : Setting) → KeepPrimes g.rules → (s : List Routine) (e : RewriteError)
-    (old new : Counter) → old.left ≡ 1000000
-    → BuiltAll (λ (r : WFuncs). weighteds (map weighted_func r.items.items)) (Err e) (funcs_grown g
-    s)
-    old new
-    → IsRewritten (Err e) (weighted_program g s)
-not_rewritten g keeps s stop.Large old new l b =
-    let all = program_size g keeps s in omega arith
-not_rewritten g keeps s stop.NoMemory old new l b = tt
+    → AreWithin (Err e) 1000000 (funcs_grown g s) → IsRewritten (Err e) (weighted_program g s)
+not_rewritten g keeps s stop.Large b = let all = program_size g keeps s in omega arith
+not_rewritten g keeps s stop.NoMemory b = tt
 
 pub rewriting_stops : (r : Result WProg RewriteError) (g : Setting) → KeepPrimes g.rules
-    → (s : List Routine) (e : RewriteError) (old new : Counter)
-    → IsErr r × IsErrAnd r (λ y. y ≡ e) → old.left ≡ 1000000
-    → BuiltAll (λ (r : WFuncs). weighteds (map weighted_func r.items.items)) (Err e) (funcs_grown g
-    s)
-    old new
-    → IsRewritten r (weighted_program g s)
-rewriting_stops (Ok w) g keeps s e old new f l b = absurd (f.1)
-rewriting_stops (Err y) g keeps s e old new f l b =
-    rw f.1 (not_rewritten g keeps s e old new l b)
+    → (s : List Routine) (e : RewriteError) → IsErr r × IsErrAnd r (λ y. y ≡ e)
+    → AreWithin (Err e) 1000000 (funcs_grown g s) → IsRewritten r (weighted_program g s)
+rewriting_stops (Ok w) g keeps s e f b = absurd (f.1)
+rewriting_stops (Err y) g keeps s e f b = rw f.1 (not_rewritten g keeps s e b)
+
+-- those that were built
+pub built_within : (r : Result WFuncs RewriteError) (trees : Weighteds) (most : ℕ)
+    (old new : Counter) → old.next ≡ 0 → old.left ≡ most
+    → BuiltAll (λ (r : WFuncs). weighteds (map weighted_func r.items.items)) r trees old new
+    → AreWithin r most trees
+built_within (Ok w) trees most old new n l b =
+    let left = b.1.left in (b.0 ∙ ap (numbered_all trees) n, omega arith)
+built_within (Err stop.Large) trees most old new n l b = omega arith
+built_within (Err stop.NoMemory) trees most old new n l b = tt
 
 -- a function, from its body
 pub func_built : (g : Setting) → KeepPrimes g.rules → (c : Context) (r : Routine) (w : WFunc)
@@ -167,23 +163,20 @@ func_stops seen view (Err y) e g keeps c f old new failed b =
 
 -- the same of the functions that the code reads
 pub rewritten_in : (facts : FactSet) (rules : Rules) (fs gs : List Func) → fs ≡ gs
-    → KeepPrimes (corrections_of rules) → (w : WProg) (old new : Counter) → old.next ≡ 0
-    → old.left ≡ 1000000
-    → BuiltAll (λ (r : WFuncs). weighteds (map weighted_func r.items.items)) (Ok w.funcs)
-    (funcs_grown (setting_of facts rules fs) (map routine_of fs)) old new
+    → KeepPrimes (corrections_of rules) → (w : WProg)
+    → AreWithin (Ok w.funcs) 1000000 (funcs_grown (setting_of facts rules fs) (map routine_of fs))
     → IsRewritten (Ok w) (weighted_program (setting_of facts rules gs) (map routine_of gs))
-rewritten_in facts rules fs gs same keeps w old new n l b =
+rewritten_in facts rules fs gs same keeps w b =
     subst (λ hs. IsRewritten (Ok w)
     (weighted_program (setting_of facts rules hs) (map routine_of hs))) same
-    (rewritten (setting_of facts rules fs) keeps (map routine_of fs) w old new n l b)
+    (rewritten (setting_of facts rules fs) keeps (map routine_of fs) w b)
 
 pub stops_in : (r : Result WProg RewriteError) (facts : FactSet) (rules : Rules)
     (fs gs : List Func) → fs ≡ gs → KeepPrimes (corrections_of rules) → (e : RewriteError)
-    (old new : Counter) → IsErr r × IsErrAnd r (λ y. y ≡ e) → old.left ≡ 1000000
-    → BuiltAll (λ (r : WFuncs). weighteds (map weighted_func r.items.items)) (Err e)
-    (funcs_grown (setting_of facts rules fs) (map routine_of fs)) old new
+    → IsErr r × IsErrAnd r (λ y. y ≡ e)
+    → AreWithin (Err e) 1000000 (funcs_grown (setting_of facts rules fs) (map routine_of fs))
     → IsRewritten r (weighted_program (setting_of facts rules gs) (map routine_of gs))
-stops_in r facts rules fs gs same keeps e old new f l b =
+stops_in r facts rules fs gs same keeps e f b =
     subst (λ hs. IsRewritten r (weighted_program (setting_of facts rules hs) (map routine_of hs)))
     same
-    (rewriting_stops r (setting_of facts rules fs) keeps (map routine_of fs) e old new f l b)
+    (rewriting_stops r (setting_of facts rules fs) keeps (map routine_of fs) e f b)

@@ -133,7 +133,7 @@ base_size g grow large at_if c t h = large elsewhere c t h
 base_size g grow large at_while c t h = large elsewhere c t h
 base_size g grow large (at_for x) c t h = large elsewhere c t h
 
-picked_size : (base : Weighted) (os : Others) → size base ≤ size (picked base os)
+pub picked_size : (base : Weighted) (os : Others) → size base ≤ size (picked base os)
 picked_size base no_others = omega arith
 picked_size base (other_and rule cost w os) = omega arith
 
@@ -169,7 +169,7 @@ typed_expression σ _ os o h = cc
 rooted_lifted : (k : Kind) (ts : Trees) → is_expression k ≡ true → 1 ≤ size (lifted (node k ts))
 rooted_lifted k ts h = rw h (omega arith)
 
-either_rooted : (b : Bool) (k : Kind) (ts : Trees) (w : Weighted) → 1 ≤ size w
+pub either_rooted : (b : Bool) (k : Kind) (ts : Trees) (w : Weighted) → 1 ≤ size w
     → 1 ≤ size (if b then lifted (copy_of (node k ts)) else w)
 either_rooted true k ts w h = omega arith
 either_rooted false k ts w h = h
@@ -194,7 +194,7 @@ rooted_base g f at_if c k ts h r = r c
 rooted_base g f at_while c k ts h r = r c
 rooted_base g f (at_for x) c k ts h r = r c
 
-rooted : (g : Setting) (f : ℕ) (site : Site) (c : Context) (k : Kind) (ts : Trees)
+pub rooted : (g : Setting) (f : ℕ) (site : Site) (c : Context) (k : Kind) (ts : Trees)
     → is_expression k ≡ true → 1 ≤ size (grown g f site c (node k ts))
 rooted g zero site c k ts h =
     rooted_written (copies c (node k ts)) k ts (written_all g ts k 0 c) h

@@ -1,4 +1,5 @@
 pub mod Building
+pub mod LeastSizes
 pub mod Parts
 pub mod Programs
 pub mod Sides

@@ -10,7 +10,7 @@ use Rattle.eml_match.specs.Resolutions.{count, depth, resolution}
 use Rattle.eml_instances.specs.declared.listing.Alternative.{Alternative}
 use Rattle.eml_instances.specs.declared.roots.Resolved.TheVariants as resolved
 use Rattle.eml_instances.specs.Alternatives.{IsNumbered}
-use Rattle.eml_instances.specs.Resolving.{Gives}
+use Rattle.eml_instances.specs.Resolving.{Gives, parts_resolved}
 use Rattle.eml_instances.specs.Substitutions.{bindings_in, locals_in}
 use Rattle.eml_rewrite.specs.declared.side.Side.{Side}
 
@@ -22,6 +22,12 @@ deepest (r ∷ rs) = max (depth r.right) (deepest rs)
 -- the resolution of this number
 abbrev pub draft_at : Side → Draft
 draft_at s = resolution (template_of s.term.now) (locals_in s.bound.now) (bindings_in s.bound.now)
+    s.number
+
+-- those of its parts
+abbrev pub part_drafts : Side → List Draft
+part_drafts s =
+    parts_resolved (template_of s.term.now) (locals_in s.bound.now) (bindings_in s.bound.now)
     s.number
 
 -- there is one of this number, and the side is no deeper than this

@@ -6,6 +6,8 @@ mod counter;
 mod error;
 mod grow;
 mod laws;
+mod least_program;
+mod least_size;
 mod rewriting;
 mod sharing;
 mod side;

@@ -1,0 +1,69 @@
+-- How many nodes weighted trees have at least.
+use Rattle.std.specs.Prelude.{◌≡◌, ℕ, suc, ◌≤◌, ◌+◌, min, true, All, List, [], ◌∷◌, if◌then◌else◌}
+use Rattle.std.specs.List.{sum_by}
+use Rattle.mpy_types.specs.declared.known.Known as known
+use Rattle.mpy_tree.specs.Sites.{Site, site_terms}
+use Rattle.mpy_tree.specs.Shapes.{shape}
+use Rattle.mpy_tree.specs.Trees as kind
+use Rattle.mpy_tree.specs.Trees.{Kind, Tree}
+use Rattle.choice_tree.specs.Contexts.{Setting, elsewhere, Sharing, apart, shared, copied}
+use Rattle.choice_tree.specs.Drafts.{Draft, Drafts, as_is, again, no_drafts, draft_and, Proposal}
+use Rattle.choice_tree.specs.Growing.{grown, steps}
+use Rattle.choice_tree.specs.Heads.{root}
+use Rattle.choice_tree.specs.Matching.{is_expression}
+use Rattle.choice_tree.specs.Typing.{Scope}
+use Rattle.choice_tree.specs.WeightedTrees.{size}
+use Rattle.eml_match.specs.Parts.{parts, seen}
+use Rattle.eml_rewrite.specs.declared.least_size.Counted.{Counted}
+use Rattle.eml_rewrite.specs.declared.spot.Spot.{Spot}
+use Rattle.eml_rewrite.specs.Spots.{context_at, setting_at}
+
+-- the size of the weighted tree of a term in a function, where a list is shared so
+abbrev pub size_by : Setting → Scope → Tree → Sharing → ℕ
+size_by g σ t s = size (grown g (steps t) elsewhere (record { scope = σ; sharing = s }) t)
+
+-- the least of its sizes, wherever it stands there
+abbrev pub least_size : Setting → Scope → Tree → ℕ
+least_size g σ t =
+    min (size_by g σ t apart) (min (size_by g σ t shared) (size_by g σ t copied))
+
+-- of a node over parts of so many nodes; a name has no parts
+abbrev pub node_least : Kind → ℕ → ℕ
+node_least (kind.Name x) n = 1
+node_least k n = if is_expression k then suc n else 0
+
+-- of a draft, by those of the terms that are rewritten again
+abbrev mutual
+  pub draft_least : (Tree → ℕ) → Draft → ℕ
+  draft_least least (as_is k ds) = node_least k (drafts_least least ds)
+  draft_least least (again t) = least t
+
+  pub drafts_least : (Tree → ℕ) → Drafts → ℕ
+  drafts_least least no_drafts = 0
+  drafts_least least (draft_and d ds) = draft_least least d + drafts_least least ds
+
+-- of a node with its parts
+abbrev pub kept_least : (Tree → ℕ) → Tree → ℕ
+kept_least least t = suc (sum_by least (parts t))
+
+-- of a pick without its base, if there is another member
+abbrev pub others_least : (Tree → ℕ) → List Proposal → ℕ
+others_least least [] = 0
+others_least least (p ∷ ps) = suc (sum_by (λ q. draft_least least q.draft) (p ∷ ps))
+
+-- of the expressions that stand on a line
+abbrev pub line_least : (Tree → ℕ) → Site → ℕ
+line_least least s = sum_by (λ t. least (shape t)) (site_terms s)
+
+-- of an expression in the function of a place
+abbrev pub least_at : {K : Type 0} {G : known.Ghosts K} → Spot K G → Tree → ℕ
+least_at s = least_size (setting_at s) (context_at s).scope
+
+-- So many nodes were counted of each of these expressions at most, and each expression has one.
+pub record AreCounted (least : Tree → ℕ) (xs : List Counted) : Type 0 where
+  pub some : (t : Tree) → is_expression (root t) ≡ true → 1 ≤ least t
+  pub each : All (λ x. x.nodes ≤ least (seen x.e)) xs
+
+-- However many nodes those have, there are so many at least.
+abbrev pub IsLeast : List Counted → ℕ → ((Tree → ℕ) → ℕ) → Type 0
+IsLeast xs n all = (least : Tree → ℕ) → AreCounted least xs → n ≤ all least

@@ -1,0 +1,95 @@
+//! How many nodes the weighted tree of a function has at least, without building it.
+ghost use Rattle.std.specs.Prelude.{◌≤◌, IfOk};
+ghost use Rattle.std.specs.List.{sum_by};
+ghost use Rattle.mpy_scopes.specs.Seen.{site_of};
+ghost use Rattle.mpy_tree.specs.Shapes.{routine_shape, shape};
+ghost use Rattle.mpy_tree.specs.Sites.{own_terms};
+ghost use Rattle.mpy_tree.specs.View.{action_of, routine_of, term_of};
+ghost use Rattle.choice_tree.specs.Contexts.{elsewhere};
+ghost use Rattle.choice_tree.specs.RuleViews.{corrections_of};
+ghost use Rattle.choice_tree.specs.Templates.{KeepPrimes};
+ghost use Rattle.choice_tree.specs.WeightedTrees.{size};
+ghost use Rattle.eml_rewrite.specs.LeastSizes.{least_at, line_least};
+ghost use Rattle.eml_rewrite.specs.Spots.{context_at, setting_at};
+ghost use Rattle.eml_rewrite.specs.Statements.{apart_in, fully_grown};
+
+use crate::least_size::{MOST, count_expr};
+use crate::spot::Spot;
+use choice_tree::NoMemory;
+use mpy_scopes::{Site, push_sites};
+use mpy_tree::{Act, Expr, Func};
+use mpy_types::Known;
+use std::alloc::Global;
+
+/// How many nodes the weighted tree of a function has at least.
+pub fn count_func<'a, K: Known>(
+    alloc: Global,
+    spot: &Spot<'a, K>,
+    func: &'a Func,
+) -> Result<u32, NoMemory>
+    requires { KeepPrimes (corrections_of spot.now.rules.now) }
+    ensures { IfOk result (λ n. n ≤ size (fully_grown (setting_at spot.now) elsewhere (apart_in
+        (context_at spot.now)) (routine_shape (routine_of func.now)))) }
+{
+    let mut lines = Vec::new(alloc);
+    push_sites(&func.body, &mut lines)?;
+    let mut nodes = 0u32;
+    for line in &lines {
+        let more = count_line(alloc, spot, *line)?;
+        nodes = nodes.saturating_add(more);
+        if nodes > MOST {
+            return Ok(nodes);
+        }
+    }
+    Ok(nodes)
+}
+
+// Of the expressions that stand on a line.
+fn count_line<'a, K: Known>(
+    alloc: Global,
+    spot: &Spot<'a, K>,
+    line: Site<'a>,
+) -> Result<u32, NoMemory>
+    requires { KeepPrimes (corrections_of spot.now.rules.now) }
+    ensures { IfOk result (λ n. n ≤ line_least (least_at spot.now) (site_of line.entry)) }
+{
+    match line {
+        Site::Asks(_, e) => count_whole(alloc, spot, e),
+        Site::Does(_, act) => count_own(alloc, spot, act),
+    }
+}
+
+// Of the expressions of a statement itself.
+fn count_own<'a, K: Known>(alloc: Global, spot: &Spot<'a, K>, act: &'a Act) -> Result<u32, NoMemory>
+    requires { KeepPrimes (corrections_of spot.now.rules.now) }
+    ensures { IfOk result (λ n. n ≤ sum_by (λ t. least_at spot.now (shape t)) (own_terms
+        (action_of act.now))) }
+{
+    match act {
+        Act::Assign(_, e)
+        | Act::Augment(_, _, e)
+        | Act::Append(_, e)
+        | Act::Return(Some(e))
+        | Act::While(e, _)
+        | Act::For(_, e, _) => count_whole(alloc, spot, e),
+        Act::Put(_, i, e) | Act::AugmentAt(_, i, _, e) => {
+            let first = count_whole(alloc, spot, i)?;
+            let second = count_whole(alloc, spot, e)?;
+            Ok(first.saturating_add(second))
+        }
+        _ => Ok(0),
+    }
+}
+
+// Of the whole expression of a statement.
+fn count_whole<'a, K: Known>(
+    alloc: Global,
+    spot: &Spot<'a, K>,
+    e: &'a Expr,
+) -> Result<u32, NoMemory>
+    requires { KeepPrimes (corrections_of spot.now.rules.now) }
+    ensures { IfOk result (λ n. n ≤ least_at spot.now (shape (term_of e.now))) }
+{
+    let mut counted = Vec::new(alloc);
+    count_expr(alloc, spot, e, &mut counted)
+}
