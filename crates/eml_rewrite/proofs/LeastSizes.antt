@@ -133,7 +133,7 @@ module _ (g : Setting) (σ : Scope) (least : Tree → ℕ) (grow : Growing) (f :
       let sum = sum_by-cons (λ q. draft_least least q.draft) p ps in
       omega arith
 
-  picked_counted : (base : Weighted) (n : ℕ) (ps : List Proposal) (s : Sharing) → n ≤ size base
+  pub picked_counted : (base : Weighted) (n : ℕ) (ps : List Proposal) (s : Sharing) → n ≤ size base
       → Each (λ p. Within f p.draft) ps
       → n + others_least least ps
       ≤ size (picked base (members g grow (record { scope = σ; sharing = s }) ps))
@@ -153,6 +153,18 @@ pub least_below : (g : Setting) → KeepPrimes g.rules → (σ : Scope) (f : ℕ
 least_below g keeps σ f t s h =
     rw (enough g keeps f (steps t) elsewhere (record { scope = σ; sharing = s }) t (omega arith)
     (omega arith)) (least_by g σ t s)
+
+-- what holds of each holds of those that pass a test
+each_if : {A : Type 0} (P : A → Type 0) (x : A) (ys : List A) (b : Bool) → P x → Each P ys
+    → Each P (cond b (x ∷ ys) ys)
+each_if P x ys true h k = (h, k)
+each_if P x ys false h k = k
+
+pub each_filtered : {A : Type 0} (P : A → Type 0) (test : A → Bool) (xs : List A) → Each P xs
+    → Each P (filter test xs)
+each_filtered P test [] h = tt
+each_filtered P test (x ∷ xs) h =
+    each_if P x (filter test xs) (test x) h.0 (each_filtered P test xs h.1)
 
 -- a node, with its parts, and where there are alternatives
 least_of_three : (n a b c : ℕ) → n ≤ a → n ≤ b → n ≤ c → n ≤ min a (min b c)
@@ -178,17 +190,6 @@ node_by g keeps σ k ts n e h here s =
     (each_filtered (λ p. Within f p.draft) (is_alternative σ (node k ts))
     (proposals without_place σ g.rules (node k ts))
     (alternatives_within f σ g.rules (node k ts) keeps (omega arith)))
-  where
-    each_if : {A : Type 0} (P : A → Type 0) (x : A) (ys : List A) (b : Bool) → P x → Each P ys
-        → Each P (cond b (x ∷ ys) ys)
-    each_if P x ys true h k = (h, k)
-    each_if P x ys false h k = k
-
-    each_filtered : {A : Type 0} (P : A → Type 0) (test : A → Bool) (xs : List A) → Each P xs
-        → Each P (filter test xs)
-    each_filtered P test [] h = tt
-    each_filtered P test (x ∷ xs) h =
-        each_if P x (filter test xs) (test x) h.0 (each_filtered P test xs h.1)
 
 -- a name has no parts
 pub over_parts : {X : Type 0} (f : X → ℕ) (k : Kind) (xs : List X) → HasParts k (length xs)
@@ -335,6 +336,16 @@ side_counted least k qs L β f d n e has h =
 pub term_root : (t : Tree) → IsTerm t → is_expression (root t) ≡ true
 term_root (node k ts) h = h.0
 
-pub stands_counted : (least : Tree → ℕ) (t : Tree) → is_expression (root t) ≡ true
-    → 1 ≤ draft_least least (draft_of t)
-stands_counted least (node k ts) h = node_has_one k (drafts_least least (drafts_of ts)) h
+stand_sum : (least : Tree → ℕ) (ts : Trees)
+    → drafts_least least (drafts_of ts) ≡ sum_by (λ u. draft_least least (draft_of u)) (tree_list ts)
+stand_sum least no_trees = refl
+stand_sum least (tree_and t ts) =
+    ap (λ n. draft_least least (draft_of t) + n) (stand_sum least ts)
+    ∙ sym (sum_by-cons (λ u. draft_least least (draft_of u)) t (tree_list ts))
+
+pub stands_counted : (least : Tree → ℕ) (t : Tree) (n : ℕ) → HasParts (root t) (length (parts t))
+    → n ≤ suc (sum_by (λ u. draft_least least (draft_of u)) (parts t))
+    → n ≤ draft_least least (draft_of t)
+stands_counted least (node k ts) n has h =
+    let over = over_parts (λ u. draft_least least (draft_of u)) k (tree_list ts) has in
+    rw (stand_sum least ts) (omega arith)

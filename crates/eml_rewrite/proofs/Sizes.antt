@@ -133,7 +133,7 @@ base_size g grow large at_if c t h = large elsewhere c t h
 base_size g grow large at_while c t h = large elsewhere c t h
 base_size g grow large (at_for x) c t h = large elsewhere c t h
 
-pub picked_size : (base : Weighted) (os : Others) → size base ≤ size (picked base os)
+picked_size : (base : Weighted) (os : Others) → size base ≤ size (picked base os)
 picked_size base no_others = omega arith
 picked_size base (other_and rule cost w os) = omega arith
 

@@ -2,15 +2,18 @@
 use Rattle.std.specs.Prelude.{◌≡◌, ℕ, suc, ◌≤◌, ◌+◌, min, true, All, List, [], ◌∷◌, if◌then◌else◌}
 use Rattle.std.specs.List.{sum_by}
 use Rattle.mpy_types.specs.declared.known.Known as known
-use Rattle.mpy_tree.specs.Sites.{Site, site_terms}
+use Rattle.mpy_tree.specs.Sites.{Site as Line, asks, does}
+use Rattle.mpy_tree.specs.Syntax as ast
+use Rattle.mpy_tree.specs.Syntax.{Action, a_term}
 use Rattle.mpy_tree.specs.Shapes.{shape}
 use Rattle.mpy_tree.specs.Trees as kind
 use Rattle.mpy_tree.specs.Trees.{Kind, Tree}
-use Rattle.choice_tree.specs.Contexts.{Setting, elsewhere, Sharing, apart, shared, copied}
+use Rattle.choice_tree.specs.Contexts.{Setting, Site, elsewhere, at_return, at_assign, at_if}
+use Rattle.choice_tree.specs.Contexts.{at_while, at_for, Sharing, apart, shared, copied, Context}
 use Rattle.choice_tree.specs.Drafts.{Draft, Drafts, as_is, again, no_drafts, draft_and, Proposal}
-use Rattle.choice_tree.specs.Growing.{grown, steps}
+use Rattle.choice_tree.specs.Growing.{alternatives, grown, steps}
 use Rattle.choice_tree.specs.Heads.{root}
-use Rattle.choice_tree.specs.Matching.{is_expression}
+use Rattle.choice_tree.specs.Matching.{here, is_expression}
 use Rattle.choice_tree.specs.Typing.{Scope}
 use Rattle.choice_tree.specs.WeightedTrees.{size}
 use Rattle.eml_match.specs.Parts.{parts, seen}
@@ -51,9 +54,29 @@ abbrev pub others_least : (Tree → ℕ) → List Proposal → ℕ
 others_least least [] = 0
 others_least least (p ∷ ps) = suc (sum_by (λ q. draft_least least q.draft) (p ∷ ps))
 
--- of the expressions that stand on a line
-abbrev pub line_least : (Tree → ℕ) → Site → ℕ
-line_least least s = sum_by (λ t. least (shape t)) (site_terms s)
+-- of an expression that has a place, with the rules of that place
+abbrev pub placed_least : Setting → Context → Site → Tree → ℕ
+placed_least g c site t =
+    let least = least_size g c.scope in
+    least t + others_least least (alternatives g (here site) c t)
+
+-- of the expressions of a statement itself
+abbrev pub action_least : Setting → Context → Action → ℕ
+action_least g c (ast.Assign x e) = placed_least g c (at_assign x) (shape e)
+action_least g c (ast.Augment x op e) = least_size g c.scope (shape e)
+action_least g c (ast.Put x i e) = least_size g c.scope (shape i) + least_size g c.scope (shape e)
+action_least g c (ast.AugmentAt x i op e) =
+    least_size g c.scope (shape i) + least_size g c.scope (shape e)
+action_least g c (ast.Append x e) = least_size g c.scope (shape e)
+action_least g c (ast.Return (a_term e)) = placed_least g c at_return (shape e)
+action_least g c (ast.While e body) = placed_least g c at_while (shape e)
+action_least g c (ast.For x e body) = placed_least g c (at_for x) (shape e)
+action_least g c _ = 0
+
+-- of what stands on a line
+abbrev pub line_least : Setting → Context → Line → ℕ
+line_least g c (does line act) = action_least g c act
+line_least g c (asks line e) = placed_least g c at_if (shape e)
 
 -- of an expression in the function of a place
 abbrev pub least_at : {K : Type 0} {G : known.Ghosts K} → Spot K G → Tree → ℕ

@@ -1,13 +1,15 @@
 //! How many nodes the weighted tree of an expression has at least, without building it.
-ghost use Rattle.std.specs.Prelude.{◌≤◌, All, IfOk, OnOk, map, suc};
+ghost use Rattle.std.specs.Prelude.{◌≤◌, ℕ, All, IfOk, OnOk, map, suc};
 ghost use Rattle.std.specs.List.{sum_by};
 ghost use Rattle.mpy_tree.specs.View.{term_of};
 ghost use Rattle.mpy_tree.specs.Shapes.{shape};
-ghost use Rattle.choice_tree.specs.Contexts.{elsewhere};
+ghost use Rattle.mpy_tree.specs.Trees.{Tree};
+ghost use Rattle.choice_tree.specs.Drafts.{draft_of};
 ghost use Rattle.choice_tree.specs.Growing.{alternatives};
 ghost use Rattle.choice_tree.specs.Matching.{here};
 ghost use Rattle.choice_tree.specs.RuleViews.{corrections_of, template_of};
 ghost use Rattle.choice_tree.specs.Templates.{KeepPrimes};
+ghost use Rattle.eml_match.specs.MatchedRules.{site_of};
 ghost use Rattle.eml_match.specs.Resolutions.{depth};
 ghost use Rattle.eml_instances.specs.Alternatives.{IsNumbered, alternative_seen};
 ghost use Rattle.eml_rewrite.specs.LeastSizes.{AreCounted, IsLeast, draft_least, kept_least};
@@ -73,7 +75,7 @@ fn count_node<'a, K: Known>(
     if kept > MOST {
         return Ok(kept);
     }
-    let others = count_others(alloc, spot, e, counted.as_slice())?;
+    let others = count_others(alloc, spot, Site::Elsewhere, e, counted.as_slice())?;
     Ok(kept.saturating_add(others))
 }
 
@@ -108,17 +110,19 @@ fn count_parts<'a, K: Known>(
     }
 }
 
-// Of the pick, if there is one, and its members besides the base.
-fn count_others<'a, K: Known>(
+/// How many there are, with the pick, in the members besides the base.
+pub fn count_others<'a, K: Known>(
     alloc: Global,
     spot: &Spot<'a, K>,
+    site: Site<'a>,
     e: &'a Expr,
     counted: &[Counted<'a>],
 ) -> Result<u32, NoMemory>
     ensures { IfOk result (λ n. IsLeast counted.now n (λ least. others_least least (alternatives
-        (setting_at spot.now) (here elsewhere) (context_at spot.now) (shape (term_of e.now))))) }
+        (setting_at spot.now) (here (site_of site.entry)) (context_at spot.now) (shape (term_of
+        e.now))))) }
 {
-    let matched = matched_rules(alloc, spot.rules, Site::Elsewhere, e)?;
+    let matched = matched_rules(alloc, spot.rules, site, e)?;
     match alternatives(alloc, spot.scope, e, matched.as_slice(), MOST)? {
         None => Ok(MOST + 1),
         Some(found) => count_members(alloc, spot, found.as_slice(), counted),
@@ -178,7 +182,8 @@ fn count_side(side: &Side<'_, '_>, counted: &[Counted<'_>]) -> u32
 {
     match side.bound.resolved(side.term, side.number) {
         Resolved::Again(t) => nodes_of(counted, t),
-        Resolved::AgainName(_) | Resolved::Term(_) | Resolved::Name(_) => 1,
+        Resolved::Term(t) => nodes_in(t),
+        Resolved::AgainName(_) | Resolved::Name(_) => 1,
         Resolved::Node(_) => count_side_parts(side, counted),
         Resolved::Element(term, number) => {
             let element = Side {
@@ -211,6 +216,22 @@ fn count_side_parts(side: &Side<'_, '_>, counted: &[Counted<'_>]) -> u32
                 };
                 nodes = nodes.saturating_add(count_side(&part, counted));
             }
+        }
+        i += 1;
+    }
+}
+
+// Of an expression as it stands.
+#[cycle(nodes_in)]
+fn nodes_in(e: &Expr) -> u32
+    ensures { (least : Tree → ℕ) → result ≤ draft_least least (draft_of (shape (term_of e.now))) }
+{
+    let mut nodes = 1u32;
+    let mut i = 0usize;
+    'parts: loop {
+        match part(e, i) {
+            None => return nodes,
+            Some(d) => nodes = nodes.saturating_add(nodes_in(d)),
         }
         i += 1;
     }

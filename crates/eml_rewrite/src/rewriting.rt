@@ -26,7 +26,7 @@ use mpy_types::Known;
 use std::alloc::Global;
 
 // Of how many nodes trees are built without being counted first.
-const FEW: u32 = 8192;
+const FEW: u32 = 16384;
 
 /// The weighted tree of all rewritings of a program by rules, where `known` gives the types of the
 /// program's names; `Large` where it has more than 1,000,000 expression nodes, picks among them.

@@ -1,7 +1,7 @@
 use Rattle.std.proofs.Common.{◌+◌, ◌∙◌, refl, ap, map, arith}
 use Rattle.mpy_scopes.specs.Seen.{site_of}
 use Rattle.mpy_tree.specs.View.{routine_of}
-use Rattle.eml_rewrite.specs.LeastSizes.{least_size, line_least}
+use Rattle.eml_rewrite.specs.LeastSizes.{line_least}
 use Rattle.eml_rewrite.specs.Spots.{context_at, setting_at}
 use Rattle.eml_rewrite.proofs.LeastPrograms.{lines_counted}
 use Rattle.eml_rewrite.proofs.LeastSizes.{one_more}
@@ -11,7 +11,7 @@ use Rattle.eml_rewrite.proofs.least_program.count_func.Goals as goal
 pub returns-then-nodes-gt-MOST : goal.returns-then-nodes-gt-MOST
 returns-then-nodes-gt-MOST g c =
     let here = context_at c.args.spot.now in
-    let one = line_least (least_size (setting_at c.args.spot.now) here.scope) in
+    let one = line_least (setting_at c.args.spot.now) here in
     let xs = c.deref-line-items.result.now in
     let front =
     one_more (λ s. one (site_of s)) xs c.loop-line.line-index (c.loop-line.line-index + 1)

@@ -2,9 +2,8 @@ use Rattle.std.proofs.Common.{ℕ, ◌≤◌, ◌∙◌, IfOk, ap, filter, map, 
 use Rattle.mpy_tree.specs.Shapes.{shape}
 use Rattle.mpy_tree.specs.Trees.{Tree}
 use Rattle.mpy_tree.specs.View.{term_of}
-use Rattle.choice_tree.specs.Contexts.{elsewhere}
 use Rattle.choice_tree.specs.Growing.{is_alternative}
-use Rattle.eml_match.specs.MatchedRules.{matched_of, proposals_by}
+use Rattle.eml_match.specs.MatchedRules.{matched_of, proposals_by, site_of}
 use Rattle.eml_instances.specs.Alternatives.{AreAlternatives, alternative_seen}
 use Rattle.eml_rewrite.specs.LeastSizes.{AreCounted, others_least}
 use Rattle.eml_rewrite.specs.Spots.{context_at, setting_at}
@@ -24,7 +23,7 @@ returns-in-None g c = λ least h.
     subst (λ o. AreAlternatives o 1000000 here.scope ms
     (filter (is_alternative here.scope e) (proposals_by here.scope ms))) c.in-None.is found in
     subst (λ ps. 1000001 ≤ others_least least ps)
-    (listed (setting_at c.args.spot.now) elsewhere here e ms
+    (listed (setting_at c.args.spot.now) (site_of c.args.site) here e ms
     (ap (map matched_of) c.as_slice.ensures.value ∙ c.in_ok-matched.ensures))
     (many_counted least h.some here.scope e (proposals_by here.scope ms) 1000000 many)
 
@@ -43,6 +42,6 @@ returns g c =
     → AreCounted least c.args.counted.now → n ≤ others_least least ps))
     (ap (map (alternative_seen here.scope)) c.as_slice-in-Some.ensures.value
     ∙ some.0
-    ∙ listed (setting_at c.args.spot.now) elsewhere here e ms
+    ∙ listed (setting_at c.args.spot.now) (site_of c.args.site) here e ms
     (ap (map matched_of) c.as_slice.ensures.value ∙ c.in_ok-matched.ensures))
     c.count_members.ensures
