@@ -82,11 +82,12 @@ line_least g c (asks line e) = placed_least g c at_if (shape e)
 abbrev pub least_at : {K : Type 0} {G : known.Ghosts K} → Spot K G → Tree → ℕ
 least_at s = least_size (setting_at s) (context_at s).scope
 
--- So many nodes were counted of each of these expressions at most, and each expression has one.
+-- What was counted of each of these expressions is no more than this function gives, and it gives
+-- each expression a node.
 pub record AreCounted (least : Tree → ℕ) (xs : List Counted) : Type 0 where
   pub some : (t : Tree) → is_expression (root t) ≡ true → 1 ≤ least t
   pub each : All (λ x. x.nodes ≤ least (seen x.e)) xs
 
--- However many nodes those have, there are so many at least.
+-- There are so many nodes, by any function that gives each expression what was counted of it.
 abbrev pub IsLeast : List Counted → ℕ → ((Tree → ℕ) → ℕ) → Type 0
 IsLeast xs n all = (least : Tree → ℕ) → AreCounted least xs → n ≤ all least

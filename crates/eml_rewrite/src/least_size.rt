@@ -28,7 +28,7 @@ use mpy_tree::{Expr, same_expr};
 use mpy_types::Known;
 use std::alloc::Global;
 
-/// So many nodes a weighted tree may have.
+/// How many nodes the weighted tree of a program may have.
 pub const MOST: u32 = 1000000;
 
 /// An expression, and so many nodes its weighted tree has at least, wherever it stands.
@@ -38,9 +38,9 @@ pub struct Counted<'a> {
     pub nodes: u32,
 }
 
-/// How many nodes the weighted tree of an expression has at least. The expression and all in it
-/// are put behind those that were counted before; so each is counted once, although its tree may
-/// stand in many members.
+/// How many nodes the weighted tree of an expression has at least, wherever it stands. The parts,
+/// and then the expression itself, are put behind what was counted before. So each is counted once,
+/// in however many members it is rewritten again.
 #[cycle(count_expr)]
 pub fn count_expr<'a, K: Known>(
     alloc: Global,
@@ -58,7 +58,7 @@ pub fn count_expr<'a, K: Known>(
     Ok(nodes)
 }
 
-// The same, with all in it behind those that were counted before.
+// The same, with its parts alone behind what was counted before.
 #[cycle(count_expr)]
 fn count_node<'a, K: Known>(
     alloc: Global,
@@ -79,7 +79,7 @@ fn count_node<'a, K: Known>(
     Ok(kept.saturating_add(others))
 }
 
-// Of the node with its parts.
+// Of the node that stays, with its parts.
 #[cycle(count_expr)]
 fn count_parts<'a, K: Known>(
     alloc: Global,
@@ -110,7 +110,8 @@ fn count_parts<'a, K: Known>(
     }
 }
 
-/// How many there are, with the pick, in the members besides the base.
+/// How many nodes the members of a pick besides its base have at least, and the pick; none where
+/// there is no such member.
 pub fn count_others<'a, K: Known>(
     alloc: Global,
     spot: &Spot<'a, K>,
@@ -129,7 +130,7 @@ pub fn count_others<'a, K: Known>(
     }
 }
 
-// Of a pick of these members, its base aside.
+// The same of these members.
 fn count_members<'a, K: Known>(
     alloc: Global,
     spot: &Spot<'a, K>,
@@ -237,7 +238,7 @@ fn nodes_in(e: &Expr) -> u32
     }
 }
 
-// That of an expression, as it was counted; the parts of what was counted last stand at the end.
+// What was counted of an expression. The parts of the one that is being counted stand at the end.
 fn nodes_of(counted: &[Counted<'_>], e: &Expr) -> u32
     ensures { IsLeast counted.now result (λ least. least (shape (term_of e.now))) }
 {

@@ -25,7 +25,7 @@ use mpy_tree::Prog;
 use mpy_types::Known;
 use std::alloc::Global;
 
-// Of how many nodes trees are built without being counted first.
+// How many nodes are built without a count. Nearly all trees are smaller.
 const FEW: u32 = 16384;
 
 /// The weighted tree of all rewritings of a program by rules, where `known` gives the types of the
@@ -46,8 +46,8 @@ pub fn rewrite<K: Known>(
     Ok(WProg { funcs })
 }
 
-// The weighted trees of the functions. Those that are small are built at once. The others are
-// counted first, so that nothing is built of most that are too large.
+// The weighted trees of the functions. Where they are small they are built at once. Else the nodes
+// are counted first, since where there are far too many, building up to the limit takes long.
 fn rewrite_funcs<K: Known>(
     alloc: Global,
     scopes: &Scopes<'_>,
