@@ -94,7 +94,7 @@ fn type_given<B: Copy>(head: Head<'_>, parts: &[SymOutcome<B>]) -> Ty
 }
 
 /// A value as constant bits, where it has a type and fits the limits.
-fn constant_outcome<L: Logic>(
+pub fn constant_outcome<L: Logic>(
     alloc: Global,
     g: &L,
     limits: &Limits,
@@ -106,7 +106,7 @@ fn constant_outcome<L: Logic>(
     ensures value { IfOk result (λ r. IfSome r (λ o. (vs : List Bool) →
         OutcomeReads {E = Halt} (L.reads g.now vs) o (Ok value.now))) }
 {
-    // An operation gives no other value, but no clause says so.
+    // What is computed is such a value, but no clause of it says so.
     if value.ty() != ty || !value.fits(limits) {
         return Ok(None);
     }
@@ -116,7 +116,7 @@ fn constant_outcome<L: Logic>(
 }
 
 /// A fault in place of a value of a type.
-fn fault_outcome<L: Logic>(
+pub fn fault_outcome<L: Logic>(
     alloc: Global,
     g: &L,
     limits: &Limits,

@@ -6,3 +6,5 @@ pub mod ProgramFacts
 pub mod Rewritten
 pub mod Calls
 mod CallLevels
+mod KnownPicks
+mod KnownRuns

@@ -3,6 +3,8 @@
 
 mod depths;
 mod entering;
+mod known_picks;
+mod known_run;
 mod laws;
 mod levels;
 mod program;

@@ -19,6 +19,7 @@ ghost use Rattle.sym_nodes.specs.Views.{env_of};
 ghost use Rattle.sym_stmt.specs.Programs.{TypesFunctions, TypesProgram, signatures_of};
 
 use crate::depths::remembering;
+use crate::known_run::known_run;
 use crate::program::Program;
 use bit_words::NoMemory;
 use bit_words::bits::Bits;
@@ -70,6 +71,9 @@ pub fn sym_run<L: Logic>(
         limits: l,
         depth: 0,
     };
+    if let Some(outcome) = known_run(alloc, g, &program, &view, entry, args)? {
+        return Ok(outcome);
+    }
     let given = copies(alloc, args)?;
     let outcome = remembering::<L, Brand>(alloc, g, &program, &view, entry, given)?;
     Ok(outcome)
