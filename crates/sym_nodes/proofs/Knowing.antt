@@ -63,7 +63,7 @@ as_many rd parts vs h =
     ∙ length-map parts (λ o. o.value)
 
 -- a list of values is read in one way
-same_sure : (vs ws : List Value) → map sure vs ≡ map sure ws → vs ≡ ws
+pub same_sure : (vs ws : List Value) → map sure vs ≡ map sure ws → vs ≡ ws
 same_sure [] [] e = refl
 same_sure [] (w ∷ ws) e = absurd cc
 same_sure (v ∷ vs) [] e = absurd cc

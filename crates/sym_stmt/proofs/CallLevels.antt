@@ -1,5 +1,6 @@
 -- The levels of calls of a program, while these are remembered.
-use Rattle.std.proofs.Common.{◌≡◌, ℕ, suc, zero, List, refl, sym}
+use Rattle.std.proofs.Common.{◌≡◌, ◌≤◌, ◌<◌, ℕ, suc, zero, List, refl, sym, subst, arith, min}
+use Rattle.std.proofs.Math.Nat.{min-eq_left, min-eq_right, zero-min}
 use Rattle.mpy_tree.specs.declared.limits.Limits.{Limits}
 use Rattle.mpy_tree.specs.declared.typing.Fact.{Fact}
 use Rattle.mpy_tree.specs.Expressions.{Calls}
@@ -12,7 +13,8 @@ use Rattle.choice_tree.specs.StatementViews.{weighted_prog}
 use Rattle.sym_nodes.specs.Environments.{HasPicks}
 use Rattle.sym_calls.specs.Remembered.{Fixed}
 use Rattle.sym_calls.specs.Reuse.{CanReuse}
-use Rattle.sym_stmt.specs.Levels.{AreCallsAt, AreDeeper, CanEnter, Fixes}
+use Rattle.sym_expr.specs.Signatures.{Signatures}
+use Rattle.sym_stmt.specs.Levels.{AreCallsAt, AreDeeper, CanEnter, Fixes, IsUpTo}
 use Rattle.sym_stmt.specs.Programs.{TypesFunctions, signatures_of}
 
 -- the calls of the chosen program that may go so many levels deeper
@@ -29,38 +31,60 @@ calls_at w l m p chosen (suc n) = record {
 }
 
 module _ {B : Type 0} {w : WProg} {T : List Fact} {picks : List (List B)} {k : Fixed B}
-    (fixes : Fixes w T picks k) (typed : TypesFunctions T w)
-    (many : HasPicks picks (weighted_prog w)) where
-  -- a level whose calls are those of the level below, which finds its picks
-  pub level_above : (n : ℕ) (AreBelow : Limits → (ℕ → ℕ) → Calls → Type 0)
-      (HaveBelow : List (List B) → Type 0)
-      → ((l : Limits) (m : ℕ → ℕ) (calls : Calls) → AreCallsAt w n l m calls → AreBelow l m calls)
-      → HaveBelow picks
+    {level most : ℕ} {below : Signatures} {AreBelow : Limits → (ℕ → ℕ) → Calls → Type 0}
+    {HaveBelow : List (List B) → Type 0}
+    (h : IsUpTo k w T level most below AreBelow HaveBelow picks) where
+  -- calls of the level itself, which are built once
+  pub level_itself : level ≤ most
       → CanReuse k (signatures_of w T) (λ l m calls. AreDeeper w (AreBelow l m) l m calls)
-      (λ ps. CanEnter w T (signatures_of w T) HaveBelow ps) (suc n) picks
-  level_above n AreBelow HaveBelow below have = record {
-    same = sym fixes.signatures;
-    fixed = sym fixes.picks;
-    many = record { typed = typed; many = many; same = refl; have_below = have };
+      (λ ps. CanEnter w T below HaveBelow ps) level picks
+  level_itself less = record {
+    same = sym h.fixes.signatures;
+    fixed = sym h.fixes.picks;
+    many = h.entered;
     level_calls = λ l m calls called.
-        let deeper = fixes.to_calls (suc n) l m calls called in
+        let at = subst (λ n. k.are_calls n l m calls) h.next called in
+        let deeper = h.fixes.to_calls (suc h.number) l m calls at in
+        let fewer : min h.number most ≡ h.number = min-eq_left (omega (arith, h.next, less)) in
         record {
           program = deeper.program;
           chosen = deeper.chosen;
           below = deeper.below;
-          are_below = below l m deeper.below deeper.are_below;
+          are_below = h.below l m deeper.below
+              (subst (λ n. AreCallsAt w n l m deeper.below) (sym fewer) deeper.are_below);
           entered = deeper.entered;
         };
   }
 
-  -- the first level, and one above another whose calls are built once
-  pub first_level : CanReuse k (signatures_of w T)
-      (λ l m calls. AreDeeper w (AreCallsAt w zero l m) l m calls)
-      (λ ps. CanEnter w T (signatures_of w T) (λ qs. Unit {0}) ps) 1 picks
-  first_level = level_above zero (AreCallsAt w zero) (λ qs. Unit {0}) (λ l m calls called. called) tt
+  -- and where there are fewer, calls of the functions below
+  pub level_below : most < level → (l : Limits) (m : ℕ → ℕ) (calls : Calls)
+      → k.are_calls (min level most) l m calls → AreBelow l m calls
+  level_below more l m calls called =
+      let here : min level most ≡ most = min-eq_right (omega arith) in
+      let there : min h.number most ≡ most = min-eq_right (omega (arith, h.next, more)) in
+      h.below l m calls (subst (λ n. AreCallsAt w n l m calls) (sym there)
+      (h.fixes.to_calls most l m calls (subst (λ n. k.are_calls n l m calls) here called)))
+
+module _ {B : Type 0} {w : WProg} {T : List Fact} {picks : List (List B)} {k : Fixed B}
+    (fixes : Fixes w T picks k) (typed : TypesFunctions T w)
+    (many : HasPicks picks (weighted_prog w)) (most : ℕ) where
+  -- the first level, and the one above another
+  pub first_level : IsUpTo k w T 1 most (signatures_of w T) (AreCallsAt w zero) (λ qs. Unit {0}) picks
+  first_level = record {
+    fixes = fixes;
+    entered = record { typed = typed; many = many; same = refl; have_below = tt };
+    number = zero;
+    next = refl;
+    below = λ l m calls called. subst (λ n. AreCallsAt w n l m calls) (zero-min most) called;
+  }
 
   pub next_level : (n : ℕ) (HaveBelow : List (List B) → Type 0) → HaveBelow picks
-      → CanReuse k (signatures_of w T)
-      (λ l m calls. AreDeeper w (k.are_calls n l m) l m calls)
-      (λ ps. CanEnter w T (signatures_of w T) HaveBelow ps) (suc n) picks
-  next_level n HaveBelow have = level_above n (k.are_calls n) HaveBelow (fixes.of_calls n) have
+      → IsUpTo k w T (suc n) most (signatures_of w T)
+      (λ l m calls. k.are_calls (min n most) l m calls) HaveBelow picks
+  next_level n HaveBelow have = record {
+    fixes = fixes;
+    entered = record { typed = typed; many = many; same = refl; have_below = have };
+    number = n;
+    next = refl;
+    below = fixes.of_calls (min n most);
+  }

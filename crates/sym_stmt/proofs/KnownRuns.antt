@@ -20,6 +20,7 @@ use Rattle.sym_values.specs.declared.value.SymOutcome.{SymOutcome}
 use Rattle.sym_values.specs.declared.value.SymValue.{SymValue}
 use Rattle.sym_values.specs.Reading.{OutcomeReads, Reading, read, sure}
 use Rattle.sym_nodes.specs.Environments.{HasPicks, PicksRead}
+use Rattle.sym_nodes.proofs.Knowing.{same_sure}
 use Rattle.sym_stmt.proofs.KnownPicks.{members_same, plain_same}
 
 -- what is made of one type is made of each type that is given
@@ -27,18 +28,6 @@ pub made_of : {X : Type 0} (o : Option X) (P : Ty → X → Type 0) (t : Ty) (Gi
     → ((u : Ty) → Given u → t ≡ u) → IfSome o (P t) → IfSome o (λ x. (u : Ty) → Given u → P u x)
 made_of None P t Given same h = tt
 made_of (Some x) P t Given same h = λ u given. subst (λ v. P v x) (same u given) h
-
--- a list of values is read in one way
-same_sure : (vs ws : List Value) → map sure vs ≡ map sure ws → vs ≡ ws
-same_sure [] [] e = refl
-same_sure [] (w ∷ ws) e = absurd cc
-same_sure (v ∷ vs) [] e = absurd cc
-same_sure (v ∷ vs) (w ∷ ws) e =
-    let first : sure v ≡ sure w = cc in
-    let rest : map sure vs ≡ map sure ws = cc in
-    let same : v ≡ w = ap (λ (r : Reading). r.value) first in
-    let others : vs ≡ ws = same_sure vs ws rest in
-    cc
 
 -- so what the chosen program gives on the values that are known each program gives that the picks
 -- choose, on all values that the arguments read as

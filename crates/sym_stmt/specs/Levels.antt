@@ -1,5 +1,5 @@
 -- Levels of calls: what their calls are, and when they can be entered.
-use Rattle.std.specs.Prelude.{◌≡◌, ℕ, zero, suc, List}
+use Rattle.std.specs.Prelude.{◌≡◌, ℕ, zero, suc, List, min}
 use Rattle.mpy_tree.specs.declared.limits.Limits.{Limits}
 use Rattle.mpy_tree.specs.declared.typing.Fact.{Fact}
 use Rattle.mpy_tree.specs.declared.value.Value.{Value}
@@ -49,3 +49,15 @@ pub record CanEnter {B : Type 0} (w : WProg) (T : List Fact) (below : Signatures
   pub many : HasPicks picks (weighted_prog w)
   pub same : below ≡ signatures_of w T
   pub have_below : HaveBelow picks
+
+-- Functions of a program whose calls are those of a level, or of the most levels where these are
+-- fewer: they can be entered, and what they call are calls of one level less, or of the most levels.
+pub record IsUpTo {B : Type 0} (k : Fixed B) (w : WProg) (T : List Fact) (level most : ℕ)
+    (signatures : Signatures) (AreBelow : Limits → (ℕ → ℕ) → Calls → Type 0)
+    (HaveBelow : List (List B) → Type 0) (picks : List (List B)) : Type 0 where
+  pub fixes : Fixes w T picks k
+  pub entered : CanEnter w T signatures HaveBelow picks
+  pub number : ℕ
+  pub next : level ≡ suc number
+  pub below : (l : Limits) (m : ℕ → ℕ) (calls : Calls) → AreCallsAt w (min number most) l m calls
+      → AreBelow l m calls

@@ -1,8 +1,9 @@
 //! Calls that go as deep as the limits allow, each of which is built once.
 
-ghost use Rattle.std.specs.Prelude.{◌≡◌, ℕ, Bool, List, map, Some, IfOk, IsSome};
+ghost use Rattle.std.specs.Prelude.{◌≡◌, ℕ, Bool, List, map, min, Some, IfOk, IsSome};
 ghost use Rattle.mpy_tree.specs.declared.typing.Ty.{Ty as AnyType};
 ghost use Rattle.mpy_tree.specs.declared.value.Value.{Value};
+ghost use Rattle.mpy_tree.specs.Expressions.{Calls};
 ghost use Rattle.mpy_tree.specs.Running.{evaluated};
 ghost use Rattle.mpy_tree.specs.Shapes.{program_shape};
 ghost use Rattle.mpy_tree.specs.Syntax.{Routine};
@@ -16,18 +17,94 @@ ghost use Rattle.sym_nodes.specs.Environments.{HasPicks, PicksRead};
 ghost use Rattle.sym_nodes.specs.Views.{env_of};
 ghost use Rattle.sym_expr.specs.Signatures.{AreArgumentsIn, given_type, value_types};
 ghost use Rattle.sym_calls.specs.Pairs.{paired};
-ghost use Rattle.sym_stmt.specs.Levels.{Fixes};
+ghost use Rattle.sym_stmt.specs.Levels.{Fixes, IsUpTo};
 ghost use Rattle.sym_stmt.specs.Programs.{TypesFunctions, signatures_of};
 
 use crate::levels::{Deepest, Level};
 use crate::program::Program;
 use bit_words::NoMemory;
 use bit_words::logic::Logic;
-use mpy_tree::Name;
+use mpy_tree::{Name, Ty};
 use std::alloc::Global;
 use sym_calls::{Once, Remembering, Setting};
 use sym_expr::{Functions, View};
 use sym_values::{SymOutcome, SymValues};
+
+/// Calls of a program's functions at a level, each of which is built once, or at the level that they
+/// may go up to where that is lower. Their own calls are those of `below`.
+#[derive(Clone, Copy, Drop)]
+pub struct UpTo<'a, C> {
+    pub program: Program<'a>,
+    pub level: u32,
+    pub most: u32,
+    pub below: C,
+}
+
+impl<'a, L, K, C> Functions<Remembering<'a, L, K>> for UpTo<'_, C>
+where
+    L: Logic,
+    K: Setting<L::Bit>,
+    C: Functions<Remembering<'a, L, K>> + Copy,
+{
+    ghost signatures = { λ d.
+        signatures_of d.program.tree.now d.program.types.now.facts };
+
+    ghost are_calls = { λ d l m calls. K.fixed.are_calls (min d.level d.most) l m calls };
+
+    ghost have_picks = { λ d picks. IsUpTo K.fixed d.program.tree.now d.program.types.now.facts
+        d.level d.most (C.signatures d.below) (C.are_calls d.below) (C.have_picks d.below) picks };
+
+    fn result_type(&self, f: &Name) -> Ty {
+        self.program.result_type(f)
+    }
+
+    fn call(
+        &self,
+        alloc: Global,
+        g: &mut Remembering<'a, L, K>,
+        view: &View<'_, L::Bit>,
+        f: &Name,
+        args: SymValues<L::Bit>,
+    ) -> Result<SymOutcome<L::Bit>, NoMemory>
+        requires picks { OwnsAll (λ s b. L.owns s.logic.now b) g.old
+            (joined (env_of view.now).picks) }
+        requires many { IsUpTo K.fixed self.now.program.tree.now
+            self.now.program.types.now.facts self.now.level self.now.most
+            (C.signatures self.now.below) (C.are_calls self.now.below)
+            (C.have_picks self.now.below) (env_of view.now).picks }
+        requires args { AreArgumentsIn (λ s b. L.owns s.logic.now b) g.old
+            (env_of view.now).limits args }
+        requires typed { IsSome (given_type (signatures_of self.now.program.tree.now
+            self.now.program.types.now.facts) f.now (value_types args)) }
+        ensures extends { Extends (λ s b. L.owns s.logic.now b)
+            (λ s vs b. L.reads s.logic.now vs b)
+            (λ s. paired (L.count s.logic.now) s.logic.ghost_name) g.old g.new }
+        ensures made { IfOk result (λ r. (t : AnyType)
+            → given_type (signatures_of self.now.program.tree.now
+            self.now.program.types.now.facts) f.now (value_types args) ≡ Some t
+            → IsOutcomeIn (λ s b. L.owns s.logic.now b) g.new
+            (form_for (env_of view.now).limits t) r) }
+        ensures value { IfOk result (λ r.
+            (vs : List Bool) (m : ℕ → ℕ) (calls : Calls) (values : List Value) (line : ℕ)
+            → K.fixed.are_calls (min self.now.level self.now.most) (env_of view.now).limits m
+            calls
+            → PicksRead (L.reads g.old.logic.now vs) (env_of view.now).picks m
+            → map (read (L.reads g.old.logic.now vs)) args ≡ map sure values
+            → OutcomeReads (L.reads g.new.logic.now vs) r (calls f.now values line)) }
+    {
+        if self.level > self.most {
+            let outcome = self.below.call(alloc, g, view, f, args)?;
+            return Ok(outcome);
+        }
+        let functions = Level {
+            program: self.program,
+            below: self.below,
+        };
+        let level = self.level;
+        let outcome = Once { level, functions }.call(alloc, g, view, f, args)?;
+        Ok(outcome)
+    }
+}
 
 // The outcome of a call of the entry, over a logic that remembers calls.
 fn at_depth<L: Logic, K: Setting<L::Bit>>(
@@ -62,97 +139,58 @@ fn at_depth<L: Logic, K: Setting<L::Bit>>(
         → OutcomeReads (L.reads g.new.logic.now vs) r
         (evaluated (env_of view.now).limits p entry.now values)) }
 {
+    let most = view.limits.depth;
     let none = Deepest { program: *program };
-    let one = Once {
+    let one = UpTo {
+        program: *program,
         level: 1,
-        functions: Level {
-            program: *program,
-            below: none,
-        },
+        most,
+        below: none,
     };
-    let two = Once {
+    let two = UpTo {
+        program: *program,
         level: 2,
-        functions: Level {
-            program: *program,
-            below: one,
-        },
+        most,
+        below: one,
     };
-    let three = Once {
+    let three = UpTo {
+        program: *program,
         level: 3,
-        functions: Level {
-            program: *program,
-            below: two,
-        },
+        most,
+        below: two,
     };
-    let four = Once {
+    let four = UpTo {
+        program: *program,
         level: 4,
-        functions: Level {
-            program: *program,
-            below: three,
-        },
+        most,
+        below: three,
     };
-    let five = Once {
+    let five = UpTo {
+        program: *program,
         level: 5,
-        functions: Level {
-            program: *program,
-            below: four,
-        },
+        most,
+        below: four,
     };
-    let six = Once {
+    let six = UpTo {
+        program: *program,
         level: 6,
-        functions: Level {
-            program: *program,
-            below: five,
-        },
+        most,
+        below: five,
     };
-    let seven = Once {
+    let seven = UpTo {
+        program: *program,
         level: 7,
-        functions: Level {
-            program: *program,
-            below: six,
-        },
+        most,
+        below: six,
     };
-    let eight = Once {
+    let eight = UpTo {
+        program: *program,
         level: 8,
-        functions: Level {
-            program: *program,
-            below: seven,
-        },
+        most,
+        below: seven,
     };
-    match view.limits.depth {
-        1 => {
-            let outcome = one.call(alloc, g, view, entry, args)?;
-            Ok(outcome)
-        }
-        2 => {
-            let outcome = two.call(alloc, g, view, entry, args)?;
-            Ok(outcome)
-        }
-        3 => {
-            let outcome = three.call(alloc, g, view, entry, args)?;
-            Ok(outcome)
-        }
-        4 => {
-            let outcome = four.call(alloc, g, view, entry, args)?;
-            Ok(outcome)
-        }
-        5 => {
-            let outcome = five.call(alloc, g, view, entry, args)?;
-            Ok(outcome)
-        }
-        6 => {
-            let outcome = six.call(alloc, g, view, entry, args)?;
-            Ok(outcome)
-        }
-        7 => {
-            let outcome = seven.call(alloc, g, view, entry, args)?;
-            Ok(outcome)
-        }
-        _ => {
-            let outcome = eight.call(alloc, g, view, entry, args)?;
-            Ok(outcome)
-        }
-    }
+    let outcome = eight.call(alloc, g, view, entry, args)?;
+    Ok(outcome)
 }
 
 // The logic as it is left.
