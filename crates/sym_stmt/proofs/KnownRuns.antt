@@ -1,5 +1,5 @@
 -- What a program gives that is run on values that are known.
-use Rattle.std.proofs.Common.{◌≡◌, ◌∙◌, ℕ, Bool, List, [], ◌∷◌, map, refl, sym, ap, subst}
+use Rattle.std.proofs.Common.{◌≡◌, ◌∙◌, ℕ, Bool, List, map, sym, subst}
 use Rattle.std.proofs.Common.{Option, Some, None}
 use Rattle.std.specs.Prelude.{IfSome}
 use Rattle.std.specs.declared.result.Result.{Result}
@@ -18,7 +18,7 @@ use Rattle.choice_tree.specs.StatementViews.{weighted_prog}
 use Rattle.choice_tree.specs.declared.tree.WProg.{WProg}
 use Rattle.sym_values.specs.declared.value.SymOutcome.{SymOutcome}
 use Rattle.sym_values.specs.declared.value.SymValue.{SymValue}
-use Rattle.sym_values.specs.Reading.{OutcomeReads, Reading, read, sure}
+use Rattle.sym_values.specs.Reading.{OutcomeReads, read, sure}
 use Rattle.sym_nodes.specs.Environments.{HasPicks, PicksRead}
 use Rattle.sym_nodes.proofs.Knowing.{same_sure}
 use Rattle.sym_stmt.proofs.KnownPicks.{members_same, plain_same}

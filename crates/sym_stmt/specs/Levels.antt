@@ -50,8 +50,8 @@ pub record CanEnter {B : Type 0} (w : WProg) (T : List Fact) (below : Signatures
   pub same : below ≡ signatures_of w T
   pub have_below : HaveBelow picks
 
--- Functions of a program whose calls are those of a level, or of the most levels where these are
--- fewer: they can be entered, and what they call are calls of one level less, or of the most levels.
+-- Functions of a program that are called at a level, or at the most levels where these are fewer:
+-- they can be entered, and those below are called at one level less, or again at the most levels.
 pub record IsUpTo {B : Type 0} (k : Fixed B) (w : WProg) (T : List Fact) (level most : ℕ)
     (signatures : Signatures) (AreBelow : Limits → (ℕ → ℕ) → Calls → Type 0)
     (HaveBelow : List (List B) → Type 0) (picks : List (List B)) : Type 0 where

@@ -30,8 +30,8 @@ use sym_calls::{Once, Remembering, Setting};
 use sym_expr::{Functions, View};
 use sym_values::{SymOutcome, SymValues};
 
-/// Calls of a program's functions at a level, each of which is built once, or at the level that they
-/// may go up to where that is lower. Their own calls are those of `below`.
+/// Calls of a program's functions at a level, each of which is built once, and whose own calls are
+/// those of `below`. Where the most levels are fewer, the call is handed down to `below`.
 #[derive(Clone, Copy, Drop)]
 pub struct UpTo<'a, C> {
     pub program: Program<'a>,
