@@ -9,10 +9,11 @@ task is made from the seed and its own number, so `--first NUMBER` with COUNT 1 
 
 The weighted program of a task is evaluated with constants for the arguments and for the picks' members, for several random inputs
 and selections; there must be no gates, and the outcome must be the one of the model's run of the chosen program: the value, or a
-fault. At small bounds it is also evaluated with variables for all bits of the arguments and members; the circuit's gates are then
-evaluated here under many truth values, and the outcome must be the model's for the input and the members that these spell. Where a
-length is above the cap, or a number isn't one of a member, nothing is claimed. Printed are the counts of what appeared and each
-difference; the exit status is 1 where there is one.
+fault. Such a program is run on values, so it is also evaluated with one bit that is a variable among the constants, which takes the
+walk over bits; and at small bounds with variables for all bits of the arguments and members. The circuit's gates are then evaluated
+here under many truth values, and the outcome must be the model's for the input and the members that these spell. Where a length is
+above the cap, or a number isn't one of a member, nothing is claimed. Printed are the counts of what appeared and each difference; the
+exit status is 1 where there is one.
 """
 import collections
 import itertools
@@ -32,8 +33,9 @@ from value_circuits import Circuit, bits_of, number_of, operand_bits, parts, spe
 
 # So many tasks stand in one input of the program.
 BATCH = 50
-# Settings of constants, and how many truth values are taken of a circuit.
+# Settings of constants, in how many of them one bit is made a variable, and how many truth values are taken of a circuit.
 KNOWN = 8
+MIXED = 3
 MANY = 200
 # There are circuits where the product of turns, cap and width is no more.
 SMALL = 60
@@ -89,7 +91,7 @@ class Case:
         self.rng = rng = random.Random('programs/%d/%d' % (seed, number))
         self.sources = some_sources(rng)
         self.task = model.task(self.sources)
-        self.known, self.free = [], None
+        self.known, self.free = [], []
         if self.task is None:
             return
         bounds = self.task.bounds
@@ -99,10 +101,16 @@ class Case:
         self.members = [found[pick] for pick in range(len(found))]
         self.known = [self.a_setting() for _ in range(KNOWN)]
         if self.limits.turns * self.limits.cap * self.limits.width <= SMALL and rng.random() < 0.5:
-            self.free = ','.join(word[0] + '*' * len(word[1:]) for word in self.known[0].split(',') if word)
+            self.free.append(','.join(word[0] + '*' * len(word[1:]) for word in self.known[0].split(',') if word))
+        self.free += [self.with_variable(setting) for setting in self.known[:MIXED] if '0' in setting or '1' in setting]
 
     def size(self, members):
         return members.bit_length()
+
+    def with_variable(self, setting):
+        """The setting with a variable in the place of one of its bits."""
+        place = self.rng.choice([place for place, mark in enumerate(setting) if mark in '01'])
+        return setting[:place] + '*' + setting[place + 1:]
 
     def argument(self, kind):
         """An argument as it is written: mostly a small one, and always one that fits."""
@@ -139,8 +147,7 @@ class Case:
     def lines(self):
         if self.task is None:
             return []
-        asked = [self.line('known', self.known)]
-        return asked if self.free is None else asked + [self.line('free', [self.free])]
+        return [self.line('known', self.known)] + [self.line('free', [setting]) for setting in self.free]
 
 
 class Comparison:
@@ -171,12 +178,12 @@ class Comparison:
             if values.text_of(want) != got:
                 self.differs(case, setting, want, got)
 
-    def compare_free(self, case, answer):
+    def compare_free(self, case, free, answer):
         if answer == 'many':
             self.counts['circuit too large'] += 1
             return
         circuit = Circuit(answer)
-        count = case.free.count('*')
+        count = free.count('*')
         self.counts['circuit with gates' if circuit.gates else 'circuit without gates'] += 1
         if count <= 8:
             taken = [''.join(bits) for bits in itertools.product('01', repeat=count)]
@@ -185,7 +192,7 @@ class Comparison:
             for _ in range(MANY // 2):
                 taken.append(''.join(bit for bit in case.a_setting() if bit in '01'))
         for bits, got in zip(taken, circuit.outcomes(taken)):
-            read = case.read(filled(case.free, bits))
+            read = case.read(filled(free, bits))
             if read is None:
                 self.counts['variables: nothing claimed'] += 1
                 continue
@@ -200,8 +207,8 @@ class Comparison:
             return
         self.counts['tree with picks' if case.members else 'tree without picks'] += 1
         self.compare_known(case, answers[0])
-        if case.free is not None:
-            self.compare_free(case, answers[1])
+        for free, answer in zip(case.free, answers[1:]):
+            self.compare_free(case, free, answer)
 
 
 def main():
