@@ -1,6 +1,8 @@
 -- Which bounds a text spells, and which texts are refused.
-use Rattle.std.specs.Prelude.{◌≡◌, ℕ, ◌+◌, ◌<◌, ℤ, pos, int_le, Bool, true, false, not, ◌&&◌, ◌||◌, List, [], ◌∷◌}
-use Rattle.std.specs.Prelude.{◌++◌, length, map, drop, nat_abs, nat_le, Option, Some, None, if◌then◌else◌}
+use Rattle.std.specs.Prelude.{◌≡◌, ℕ, ◌+◌, ◌<◌, ℤ, pos, int_le, Bool, true, false, not, ◌&&◌, ◌||◌}
+use Rattle.std.specs.Prelude.{List, [], ◌∷◌}
+use Rattle.std.specs.Prelude.{◌++◌, length, map, drop, nat_abs, nat_le, Option, Some, None}
+use Rattle.std.specs.Prelude.{if◌then◌else◌}
 use Rattle.std.specs.Prelude.{Result, Ok, Err}
 use Rattle.std.specs.List.{list_any}
 use Rattle.mpy_tree.specs.declared.refusal.Cause.{Cause}
@@ -18,7 +20,8 @@ use Rattle.bounds_reader.specs.declared.bounds_error.BoundsError.TheVariants as 
 use Rattle.bounds_reader.specs.Forms.{Form, form_of}
 use Rattle.bounds_reader.specs.Ranges.{is_in_range}
 use Rattle.bounds_reader.specs.Words.{carries_nothing}
-use Rattle.bounds_reader.specs.Items.{Item, width, turns, depth, cap, entry, param, next, SpellsItem}
+use Rattle.bounds_reader.specs.Items.{Item, width, turns, depth, cap, entry, param, next}
+use Rattle.bounds_reader.specs.Items.{SpellsItem}
 
 -- the physical lines, behind a byte order mark
 abbrev pub text_lines : List ℕ → List (List ℕ)
@@ -44,7 +47,8 @@ pub record On (A : Type 0) : Type 0 where
 abbrev pub on : {A : Type 0} → ℕ → A → On A
 on line value = record { line = line; value = value }
 
--- The lines from the n-th on spell these items, the first of which has place p. A line without words spells none.
+-- The lines from the n-th on spell these items, the first of which has place p. A line without
+-- words spells none.
 pub data SpellItems : Place → ℕ → List (List ℕ) → List (On Item) → Type 0 where
   no_lines : (p : Place) (n : ℕ) → SpellItems p n [] []
   no_words : (p : Place) (n : ℕ) (l : List ℕ) (ls : List (List ℕ)) (is : List (On Item))
@@ -86,7 +90,8 @@ SpellsFile bytes f = SpellItems place.Width 1 (text_lines bytes) (items_of f)
 abbrev pub param_limit_fault : ℕ → List (On ParamLine) → Option ℕ
 param_limit_fault before [] = None
 param_limit_fault before (p ∷ ps) =
-    if nat_le 4 before || is_long p.value.name then Some p.line else param_limit_fault (before + 1) ps
+    if nat_le 4 before || is_long p.value.name then Some p.line
+    else param_limit_fault (before + 1) ps
 
 -- the first line with a long name, or with a fifth parameter
 abbrev pub limit_fault : BoundsFile → Option ℕ
@@ -177,7 +182,8 @@ pub data IsRefused (bytes : List ℕ) : Cause → ℕ → Type 0 where
       → range_fault f ≡ Some line
       → IsRefused bytes cause.BoundRange line
 
--- a cause and line are answered where they are the first; want of memory may be answered for any text
+-- a cause and line are answered where they are the first; want of memory may be answered for any
+-- text
 abbrev pub IsAnswered : List ℕ → BoundsError → Type 0
 IsAnswered bytes (bounds_error.Fault c line) = IsRefused bytes c line
 IsAnswered bytes bounds_error.NoMemory = Unit {0}

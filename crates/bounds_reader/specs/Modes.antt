@@ -1,5 +1,6 @@
 -- The bytes of a line one after another, each with what it belongs to.
-use Rattle.std.specs.Prelude.{ℕ, Bool, true, false, not, ◌&&◌, ◌||◌, ◌==◌, List, [], ◌∷◌, if◌then◌else◌}
+use Rattle.std.specs.Prelude.{ℕ, Bool, true, false, not, ◌&&◌, ◌||◌, ◌==◌, List, [], ◌∷◌}
+use Rattle.std.specs.Prelude.{if◌then◌else◌}
 use Rattle.mpy_lexer.specs.Bytes.{is_quote}
 use Rattle.mpy_lexer.specs.PhysicalLines.{is_allowed}
 use Rattle.bounds_reader.specs.declared.foreign.Mode.{Mode}

@@ -1,5 +1,6 @@
 -- The ranges that numbers of the bounds have to keep.
-use Rattle.std.specs.Prelude.{ℕ, ◌==◌, ℤ, pos, int_le, Bool, true, false, not, ◌&&◌, ◌||◌, List, [], ◌∷◌}
+use Rattle.std.specs.Prelude.{ℕ, ◌==◌, ℤ, pos, int_le, Bool, true, false, not, ◌&&◌, ◌||◌, List, []}
+use Rattle.std.specs.Prelude.{◌∷◌}
 use Rattle.std.specs.List.{list_all, list_any}
 use Rattle.mpy_tree.specs.declared.limits.Limits.{Limits}
 use Rattle.mpy_tree.specs.Operations.{fits_width}
@@ -29,7 +30,8 @@ is_in_range width cap (int low high) = are_numbers width low high
 is_in_range width cap bool = true
 is_in_range width cap (list least most low high) =
     are_lengths cap least most && are_numbers width low high
-is_in_range width cap (text least most alphabet) = are_lengths cap least most && is_alphabet alphabet
+is_in_range width cap (text least most alphabet) =
+    are_lengths cap least most && is_alphabet alphabet
 
 abbrev pub are_in_range : Limits → List Param → Bool
 are_in_range l ps = list_all (λ p. is_in_range l.width l.cap (form_of p)) ps

@@ -8,7 +8,8 @@ use Rattle.bounds_reader.specs.declared.place.Place.{Place}
 use Rattle.bounds_reader.specs.declared.place.Place.TheVariants as place
 use Rattle.bounds_reader.specs.Forms.{Form, int, bool, list, text}
 use Rattle.bounds_reader.specs.Words.{is_plain, ends_word, carries_nothing}
-use Rattle.bounds_reader.specs.Items.{Item, width, turns, depth, cap, entry, param, is_short, is_plain_name}
+use Rattle.bounds_reader.specs.Items.{Item, width, turns, depth, cap, entry, param, is_short}
+use Rattle.bounds_reader.specs.Items.{is_plain_name}
 use Rattle.bounds_reader.specs.Scanning.{◌>>=◌, signed_at, literal_at}
 
 abbrev pub behind_space : List ℕ → List ℕ

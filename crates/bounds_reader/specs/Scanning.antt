@@ -1,6 +1,8 @@
 -- Numbers and text literals read from the left: what stands at the front of a text, and the rest.
-use Rattle.std.specs.Prelude.{ℕ, zero, suc, ◌+◌, false, not, ◌&&◌, ◌||◌, ◌==◌, Bool, nat_le, List, [], ◌∷◌}
-use Rattle.std.specs.Prelude.{length, take, drop, ℤ, pos, negsuc, Option, Some, None, option_map, option_and_then}
+use Rattle.std.specs.Prelude.{ℕ, zero, suc, ◌+◌, false, not, ◌&&◌, ◌||◌, ◌==◌, Bool, nat_le, List}
+use Rattle.std.specs.Prelude.{[], ◌∷◌}
+use Rattle.std.specs.Prelude.{length, take, drop, ℤ, pos, negsuc, Option, Some, None, option_map}
+use Rattle.std.specs.Prelude.{option_and_then}
 use Rattle.std.specs.Prelude.{if◌then◌else◌}
 use Rattle.std.specs.Char.{is_ascii_digit}
 use Rattle.std.specs.List.{prefix_len}
@@ -29,7 +31,8 @@ digits_len text = prefix_len is_ascii_digit text
 -- all digits at the front as a number, and the rest
 unfoldable pub numeral_at : ℕ → List ℕ → Option (ℕ × List ℕ)
 numeral_at limit text =
-    option_map (λ n. (n, drop (digits_len text) text)) (numeral_of limit (take (digits_len text) text))
+    option_map (λ n. (n, drop (digits_len text) text))
+    (numeral_of limit (take (digits_len text) text))
 
 -- the number behind a minus, which isn't 0
 abbrev pub negated : ℕ → Option ℤ

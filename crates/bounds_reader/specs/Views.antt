@@ -1,5 +1,6 @@
 -- What the code holds of a file, as its lines say it.
-use Rattle.std.specs.Prelude.{◌≡◌, ℕ, ◌≤◌, ℤ, pos, nat_abs, Bool, true, false, List, [], ◌∷◌, ◌++◌, map}
+use Rattle.std.specs.Prelude.{◌≡◌, ℕ, ◌≤◌, ℤ, pos, nat_abs, Bool, true, false, List, [], ◌∷◌, ◌++◌}
+use Rattle.std.specs.Prelude.{map}
 use Rattle.bounds_reader.specs.declared.place.Place.{Place}
 use Rattle.bounds_reader.specs.declared.place.Place.TheVariants as place
 use Rattle.bounds_reader.specs.declared.items.Form.{Form as ReadForm}
@@ -15,7 +16,8 @@ use Rattle.bounds_reader.specs.Items.{Item, width, turns, depth, cap, entry, par
 use Rattle.bounds_reader.specs.declared.bounds_error.BoundsError.{BoundsError}
 use Rattle.bounds_reader.specs.declared.bounds_error.BoundsError.TheVariants as bounds_error
 use Rattle.mpy_tree.specs.declared.refusal.Cause.TheVariants as cause
-use Rattle.bounds_reader.specs.Files.{On, on, ParamLine, BoundsFile, SpellItems, items_of, place_behind}
+use Rattle.bounds_reader.specs.Files.{On, on, ParamLine, BoundsFile, SpellItems, items_of}
+use Rattle.bounds_reader.specs.Files.{place_behind}
 use Rattle.bounds_reader.specs.Files.{IsUnexpected, HasSyntaxFault}
 
 abbrev pub form_view : ReadForm → Form
@@ -36,7 +38,8 @@ item_view (item.Entry x) = entry x
 item_view (item.Param p) = param p.name (form_view p.form)
 
 abbrev pub param_lines : List ReadParamLine → List (On ParamLine)
-param_lines ps = map (λ p. on p.line (record { name = p.param.name; form = form_view p.param.form })) ps
+param_lines ps =
+    map (λ p. on p.line (record { name = p.param.name; form = form_view p.param.form })) ps
 
 abbrev pub number_line : NumberLine → On ℤ
 number_line n = on n.line n.number

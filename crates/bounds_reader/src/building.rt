@@ -2,7 +2,8 @@
 ghost use Rattle.std.specs.Prelude.{◌≡◌, map, None, IfOk};
 ghost use Rattle.bounds_reader.specs.Forms.{form_of};
 ghost use Rattle.bounds_reader.specs.Files.{Says, SayLimits, limit_fault, range_fault};
-ghost use Rattle.bounds_reader.specs.Views.{form_view, param_lines, file_view, HasLengths, HaveLengths, AreWithin};
+ghost use Rattle.bounds_reader.specs.Views.{form_view, param_lines, file_view, HasLengths};
+ghost use Rattle.bounds_reader.specs.Views.{HaveLengths, AreWithin};
 
 use crate::NoMemory;
 use crate::bounds::Bounds;
@@ -45,7 +46,8 @@ fn param_from(form: Form) -> Param
 
 fn params_from(alloc: Global, lines: Vec<ParamLine>) -> Result<Vec<Param>, NoMemory>
     requires { HaveLengths (param_lines lines.items) }
-    ensures { IfOk result (λ v. map form_of v.items ≡ map (λ p. p.value.form) (param_lines lines.items)) }
+    ensures { IfOk result (λ v. map form_of v.items
+        ≡ map (λ p. p.value.form) (param_lines lines.items)) }
 {
     let mut params = Vec::new(alloc);
     for line in lines {

@@ -70,7 +70,8 @@ impl File {
         requires due { place_of (item_view item) ≡ self.old.due }
         requires order { HasOrder self.old }
         ensures due { OnOk result (self.new.due ≡ next self.old.due) }
-        ensures seen { OnOk result (seen self.new ≡ seen self.old ++ on line (item_view item) ∷ []) }
+        ensures seen { OnOk result
+            (seen self.new ≡ seen self.old ++ on line (item_view item) ∷ []) }
         ensures order { OnOk result (HasOrder self.new) }
     {
         match item {

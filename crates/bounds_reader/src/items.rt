@@ -1,7 +1,9 @@
 //! The items of a bounds file, one a line.
 ghost use Rattle.std.specs.Prelude.{◌≡◌, option_map, IfOk, codes};
-ghost use Rattle.bounds_reader.specs.Reading.{number_line, entry_line, int_form, list_form, text_form};
-ghost use Rattle.bounds_reader.specs.Reading.{at_end, form_behind, form_at, param_name, param_line, item_at};
+ghost use Rattle.bounds_reader.specs.Reading.{number_line, entry_line, int_form, list_form};
+ghost use Rattle.bounds_reader.specs.Reading.{text_form};
+ghost use Rattle.bounds_reader.specs.Reading.{at_end, form_behind, form_at, param_name, param_line};
+ghost use Rattle.bounds_reader.specs.Reading.{item_at};
 ghost use Rattle.bounds_reader.specs.Forms.{bool};
 ghost use Rattle.bounds_reader.specs.Items.{entry};
 ghost use Rattle.bounds_reader.specs.Views.{form_view, named_view, item_view};

@@ -1,5 +1,6 @@
 //! What a text spells, and whether it is refused, are one thing.
-ghost use Rattle.bounds_reader.specs.BoundsLaws.{NotReadAndRefused, OneBounds, OneRefusal, ReadOrRefused};
+ghost use Rattle.bounds_reader.specs.BoundsLaws.{NotReadAndRefused, OneBounds, OneRefusal};
+ghost use Rattle.bounds_reader.specs.BoundsLaws.{ReadOrRefused};
 
 /// A text spells one bounds at most.
 pub fn one_bounds()

@@ -2,8 +2,10 @@
 ghost use Rattle.std.specs.Prelude.{◌≡◌, ◌≤◌, ◌==◌, pos, false, map, nat_abs};
 ghost use Rattle.std.specs.List.{list_any};
 ghost use Rattle.mpy_tree.specs.Operations.{fits_width};
-ghost use Rattle.bounds_reader.specs.Ranges.{are_numbers, are_lengths, has_twice, is_alphabet, is_in_range};
-ghost use Rattle.bounds_reader.specs.Files.{is_outside, limit_fault, range_fault, param_limit_fault};
+ghost use Rattle.bounds_reader.specs.Ranges.{are_numbers, are_lengths, has_twice, is_alphabet};
+ghost use Rattle.bounds_reader.specs.Ranges.{is_in_range};
+ghost use Rattle.bounds_reader.specs.Files.{is_outside, limit_fault, range_fault};
+ghost use Rattle.bounds_reader.specs.Files.{param_limit_fault};
 ghost use Rattle.bounds_reader.specs.Files.{param_range_fault};
 ghost use Rattle.bounds_reader.specs.Views.{form_view, param_lines, file_view};
 

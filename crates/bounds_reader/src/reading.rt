@@ -3,7 +3,8 @@ ghost use Rattle.std.specs.Prelude.{◌≡◌, ◌≤◌, ◌<◌, ◌^◌, ℕ,
 ghost use Rattle.mpy_tree.specs.declared.refusal.Cause.{Cause as AnyCause};
 ghost use Rattle.bounds_reader.specs.declared.bounds.Bounds.{Bounds as AnyBounds};
 ghost use Rattle.bounds_reader.specs.declared.place.Place.TheVariants as place;
-ghost use Rattle.bounds_reader.specs.Files.{byte_fault, SpellItems, SpellsFile, items_of, IsBounds, IsRefused, IsAnswered};
+ghost use Rattle.bounds_reader.specs.Files.{byte_fault, SpellItems, SpellsFile, items_of, IsBounds};
+ghost use Rattle.bounds_reader.specs.Files.{IsRefused, IsAnswered};
 ghost use Rattle.bounds_reader.specs.Files.{IsGiven, IsRefusal};
 ghost use Rattle.bounds_reader.specs.Views.{file_view, is_whole, IsMisspelled};
 
@@ -28,7 +29,8 @@ fn is_whole(due: Place) -> bool
 // What the lines say, if each is the one that is expected and none is missing.
 fn file_of(alloc: Global, lines: &[&[u8]]) -> Result<File, BoundsError>
     requires { length lines.now < 2 ^ 31 }
-    ensures whole { IfOk result (λ f. SpellItems place.Width 1 (map (λ l. l.now) lines.now) (items_of (file_view f))) }
+    ensures whole { IfOk result (λ f. SpellItems place.Width 1 (map (λ l. l.now) lines.now)
+        (items_of (file_view f))) }
     ensures misspelled { IfErr result (IsMisspelled (map (λ l. l.now) lines.now)) }
 {
     let mut file = File::new(alloc);
@@ -88,16 +90,17 @@ fn parse(alloc: Global, bytes: &[u8]) -> Result<Bounds, BoundsError>
 
 /// Reads bounds from their text, of at most 1,073,741,824 bytes.
 ///
-/// The text is refused by the first cause that stands in it, each looked for in the whole text before
-/// the next: `Byte`; `Syntax` on the first line that isn't the expected one, or behind the last line
-/// where lines are missing; `Limit` for a name of more than 40 bytes or a fifth parameter; `BoundRange`
-/// for a number out of its range. Takes time linear in the text.
+/// The text is refused by the first cause that stands in it, each looked for in the whole text
+/// before the next: `Byte`; `Syntax` on the first line that isn't the expected one, or behind the
+/// last line where lines are missing; `Limit` for a name of more than 40 bytes or a fifth
+/// parameter; `BoundRange` for a number out of its range. Takes time linear in the text.
 pub fn read_bounds(alloc: Global, bytes: &[u8]) -> Result<Bounds, BoundsError>
     requires { length bytes.now ≤ 1073741824 }
     ensures read { IfOk result (IsBounds bytes.now) }
     ensures refused { IfErr result (IsAnswered bytes.now) }
     ensures bounds { (b : AnyBounds) → IsBounds bytes.now b → IsGiven b result }
-    ensures refusal { (c : AnyCause) (line : ℕ) → IsRefused bytes.now c line → IsRefusal c line result }
+    ensures refusal { (c : AnyCause) (line : ℕ)
+        → IsRefused bytes.now c line → IsRefusal c line result }
 {
     parse(alloc, bytes)
 }

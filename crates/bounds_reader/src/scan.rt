@@ -1,5 +1,6 @@
 //! Numbers and text literals at the front of a text.
-ghost use Rattle.std.specs.Prelude.{◌≡◌, ◌≤◌, ◌==◌, ◌&&◌, not, false, true, length, option_map, IfOk, IfSome};
+ghost use Rattle.std.specs.Prelude.{◌≡◌, ◌≤◌, ◌==◌, ◌&&◌, not, false, true, length, option_map};
+ghost use Rattle.std.specs.Prelude.{IfOk, IfSome};
 ghost use Rattle.std.specs.Char.{is_ascii_digit};
 ghost use Rattle.std.specs.List.{list_all};
 ghost use Rattle.mpy_lexer.specs.Bytes.{is_quote};
@@ -83,8 +84,8 @@ fn negated(size: u32) -> Option<i32>
     }
 }
 
-/// The number from -2147483648 to 2147483647 at the front of a text, and the rest: all digits there,
-/// with a minus before them if the number is below 0, and without leading zeros.
+/// The number from -2147483648 to 2147483647 at the front of a text, and the rest: all digits
+/// there, with a minus before them if the number is below 0, and without leading zeros.
 #[tactic(auto, unfolding(crate::specs::Scanning::signed_at))]
 pub fn signed_at(text: &[u8]) -> Option<(i32, &[u8])>
     ensures { option_map (λ x. (x.0, x.1.now)) result ≡ signed_at text.now }

@@ -6,7 +6,8 @@ ghost use Rattle.mpy_lexer.specs.Bytes.{is_white};
 ghost use Rattle.bounds_reader.specs.Items.{is_short, is_plain_name};
 ghost use Rattle.bounds_reader.specs.Words.{is_plain, ends_word, carries_nothing};
 ghost use Rattle.bounds_reader.specs.Reading.{behind_space, plain_at, literal_word_at, behind_word};
-ghost use Rattle.bounds_reader.specs.Reading.{number_of, number_at, behind_dots, span_of, span_at, name_at};
+ghost use Rattle.bounds_reader.specs.Reading.{number_of, number_at, behind_dots, span_of, span_at};
+ghost use Rattle.bounds_reader.specs.Reading.{name_at};
 
 use crate::NoMemory;
 use crate::scan::{literal_at, signed_at};

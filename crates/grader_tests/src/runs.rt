@@ -172,8 +172,8 @@ fn runs_end(rt: HostRuntime) -> Result<(), Fail> {
     Ok(())
 }
 
-/// Runs that are refused, each with what is written: bounds before the program, the number of values
-/// before the values, and these in order.
+/// Runs that are refused, each with what is written: bounds before the program, the number of
+/// values before the values, and these in order.
 const REFUSED: [(&str, &str, &[&str], &str); 15] = [
     (
         "width 6\n",

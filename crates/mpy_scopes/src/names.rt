@@ -52,7 +52,8 @@ fn all_assigned<'a>(alloc: Global, seen: &[Site<'a>]) -> Result<Index<'a>, NoMem
 
 // The names of statements in the order in which they are written.
 fn all_names<'a>(alloc: Global, seen: &[Site<'a>]) -> Result<Vec<&'a Name>, NoMemory>
-    ensures { IfOk result (λ xs. map name_of xs.items ≡ flat_map site_names (map site_of seen.now)) }
+    ensures { IfOk result (λ xs. map name_of xs.items
+        ≡ flat_map site_names (map site_of seen.now)) }
 {
     let mut names = Vec::new(alloc);
     for s in seen {

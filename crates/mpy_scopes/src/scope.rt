@@ -13,8 +13,8 @@ use crate::nodes::push_sites;
 use mpy_tree::{Func, NoMemory};
 use std::alloc::{AllocError, Global};
 
-/// A function with its locals and the numbers of its slots: those of the locals, that of the result,
-/// and then `next`.
+/// A function with its locals and the numbers of its slots: those of the locals, that of the
+/// result, and then `next`.
 #[derive(Drop)]
 pub struct Scope<'a> {
     pub func: &'a Func,

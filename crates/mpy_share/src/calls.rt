@@ -36,7 +36,8 @@ fn calls(e: &Expr, f: &Name) -> bool
 // Whether a call in an end of a slice names a function.
 #[cycle(calls)]
 fn end_calls(e: &Option<Box<Expr>>, f: &Name) -> bool
-    ensures { result ≡ list_any (is_call_of f.now) (end_nodes (end_by (λ b. term_of b.value) e.now)) }
+    ensures { result ≡ list_any (is_call_of f.now)
+        (end_nodes (end_by (λ b. term_of b.value) e.now)) }
 {
     match e {
         None => false,
@@ -101,7 +102,8 @@ fn two_call(a: &Expr, b: &Expr, f: &Name) -> bool
 
 // Whether a call in the expressions of a statement itself names a function.
 fn own_calls(act: &Act, f: &Name) -> bool
-    ensures { result ≡ list_any (is_call_of f.now) (flat_map nodes (own_terms (action_of act.now))) }
+    ensures { result ≡ list_any (is_call_of f.now)
+        (flat_map nodes (own_terms (action_of act.now))) }
 {
     match act {
         Act::Assign(_, e)

@@ -1,4 +1,5 @@
--- A program has one typing or one first fault, and never both; its typing is the least set of facts.
+-- A program has one typing or one first fault, and never both; its typing is the least set of
+-- facts.
 use Rattle.std.specs.Prelude.{◌≡◌, ℕ, List, None}
 use Rattle.mpy_tree.specs.declared.typing.Ty.{Ty}
 use Rattle.mpy_tree.specs.declared.typing.Fact.{Fact}

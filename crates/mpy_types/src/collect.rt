@@ -8,7 +8,8 @@ ghost use Rattle.mpy_tree.specs.SetTypes.{called};
 ghost use Rattle.mpy_tree.specs.TypeSets.{just};
 ghost use Rattle.mpy_tree.specs.Flows.{flows, flows_from, given_flows, all_site_flows, act_flows};
 ghost use Rattle.mpy_tree.specs.Flows.{node_flows, argument_flows, entry_flows};
-ghost use Rattle.mpy_types.specs.Inflows.{inflows_of, from_slot, from_call, into, flow_inflows, fixed};
+ghost use Rattle.mpy_types.specs.Inflows.{inflows_of, from_slot, from_call, into, flow_inflows};
+ghost use Rattle.mpy_types.specs.Inflows.{fixed};
 ghost use Rattle.mpy_scopes.specs.Seen.{slot_of};
 ghost use Rattle.mpy_scopes.specs.Seen.{site_of};
 
@@ -233,7 +234,8 @@ impl Reader<'_, '_> {
         out: &mut Vec<Inflow>,
     ) -> Result<(), NoMemory>
         ensures { OnOk result (out.new.items ≡ out.old.items ++ inflows_of
-            (map routine_of self.entry.scopes.now.funcs.now) self.entry.func to via (term_of e.now)) }
+            (map routine_of self.entry.scopes.now.funcs.now) self.entry.func to via
+            (term_of e.now)) }
     {
         let ty = match e {
             Expr::Name(x) => {

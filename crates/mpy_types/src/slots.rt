@@ -129,7 +129,8 @@ pub fn facts_at(
     table: &Table<'_, '_>,
     places: &[Place<'_>],
 ) -> Result<Vec<Fact>, NoMemory>
-    ensures { IfOk result (λ fs. fs.items ≡ facts_at (facts_of table.now) (map place_of places.now)) }
+    ensures { IfOk result (λ fs. fs.items
+        ≡ facts_at (facts_of table.now) (map place_of places.now)) }
 {
     let mut facts = Vec::new(alloc);
     for s in places {

@@ -1,5 +1,6 @@
 -- What the fetches of files answer, and what they leave.
-use Rattle.std.specs.Prelude.{◌≡◌, ◌⊎◌, ℕ, ◌<◌, List, [], ◌∷◌, take, length, Option, Some, Result, Ok, Err}
+use Rattle.std.specs.Prelude.{◌≡◌, ◌⊎◌, ℕ, ◌<◌, List, [], ◌∷◌, take, length, Option, Some, Result}
+use Rattle.std.specs.Prelude.{Ok, Err}
 use Rattle.grade_io.specs.Devices.{ShelfState, ShelfCall, Rose, added}
 use Rattle.grade_io.specs.declared.devices.FetchError.{FetchError}
 use Rattle.grade_io.specs.declared.devices.FetchError.TheVariants as error
@@ -61,7 +62,8 @@ pub record IsLongFile (f : SourceFile) (before after : ShelfState) (r : Refusal)
 
 -- There are texts, those of the files where these are told, the first of which that is too long is
 -- so.
-pub record IsLongSource (fs : List SourceFile) (before after : ShelfState) (r : Refusal) : Type 0 where
+pub record IsLongSource (fs : List SourceFile) (before after : ShelfState) (r : Refusal)
+    : Type 0 where
   pub texts : List (List ℕ)
   pub held : AreHeld before fs texts
   pub long : IsTooLong fs texts r

@@ -56,7 +56,8 @@ fn push(texts: &mut Vec<Vec<u8>>, text: Vec<u8>) -> Result<(), NoMemory>
 ///
 /// # Errors
 ///
-/// The refusal of a file that is longer than a source may be; that a fetch failed; or want of memory.
+/// The refusal of a file that is longer than a source may be; that a fetch failed; or want of
+/// memory.
 pub fn fetch_all<S: Shelf>(
     alloc: Global,
     files: &[File<'_>],
