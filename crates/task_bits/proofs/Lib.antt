@@ -1,0 +1,5 @@
+pub mod Written
+pub mod Typed
+pub mod HavePicks
+pub mod FirstValues
+pub mod FirstMembers
