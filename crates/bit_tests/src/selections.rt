@@ -3,6 +3,7 @@
 use crate::outcomes::{Truths, shown_bits};
 use crate::tasks::{TASKS, task_of};
 use crate::variables::variable_arguments;
+use bit_graph::gate::GraphBit;
 use bit_graph::graph::Graph;
 use bit_words::NoMemory;
 use bounds_reader::{Bounds, Param};
@@ -13,6 +14,7 @@ use mpy_tree::{Outcome, Prog};
 use selection_numbers::MemberCounts;
 use std::alloc::Global;
 use std::test::Fail;
+use sym_values::SymOutcome;
 use task_bits::{candidates, constant_case, constant_picks, reference};
 
 /// The inputs within bounds, if they are few.
@@ -104,48 +106,116 @@ fn truths_of(alloc: Global, bounds: &Bounds, case: &Case) -> Result<Vec<bool>, N
     Ok(values)
 }
 
-/// A circuit over variables for the arguments: its gates, on how many inputs it reads as the run,
-/// and on how many as the run of the reference.
-#[derive(Clone, Copy, Drop)]
+/// A selection over variables for the arguments, and its program.
+#[derive(Drop)]
 struct Circuit {
-    gates: usize,
-    right: usize,
-    wanted: usize,
+    graph: Graph,
+    outcome: SymOutcome<GraphBit>,
+    program: Prog,
 }
 
-/// The circuit of a selection.
-fn circuit_of(
+impl Circuit {
+    /// That of a selection.
+    fn of(alloc: Global, task: &Task, selection: &Selection) -> Result<Circuit, NoMemory> {
+        let mut graph = Graph::new(alloc)?;
+        let args = variable_arguments(alloc, &mut graph, task.bounds())?;
+        let picks = constant_picks(alloc, &graph, task, selection)?;
+        let outcome = candidates(alloc, &mut graph, task, &picks, &args)?;
+        let program = plain(alloc, task.tree(), selection)?;
+        Ok(Circuit {
+            graph,
+            outcome,
+            program,
+        })
+    }
+
+    /// Whether it reads as the run of a program under the truth values of an input.
+    fn reads(
+        &self,
+        alloc: Global,
+        task: &Task,
+        program: &Prog,
+        case: &Case,
+    ) -> Result<bool, NoMemory> {
+        let values = truths_of(alloc, task.bounds(), case)?;
+        let truths = Truths::under(alloc, &self.graph, values)?;
+        let end = end_of(alloc, task, program, case)?;
+        truths.read(
+            alloc,
+            &self.graph,
+            &task.bounds().limits,
+            &self.outcome,
+            &end,
+        )
+    }
+
+    /// Whether it does so on each of these inputs.
+    fn reads_on_all(
+        &self,
+        alloc: Global,
+        task: &Task,
+        program: &Prog,
+        cases: &[Case],
+    ) -> Result<bool, NoMemory> {
+        for case in cases {
+            if !self.reads(alloc, task, program, case)? {
+                return Ok(false);
+            }
+        }
+        Ok(true)
+    }
+
+    /// Whether it has gates and reads as the run of its own program on each of these inputs.
+    fn is_right(&self, alloc: Global, task: &Task, cases: &[Case]) -> Result<bool, NoMemory> {
+        if self.graph.gate_count() == 0 {
+            return Ok(false);
+        }
+        self.reads_on_all(alloc, task, &self.program, cases)
+    }
+}
+
+/// Of how many selections the circuits are right, and how many read as the reference's run on each
+/// input.
+#[derive(Clone, Copy, Drop)]
+struct Circuits {
+    right: usize,
+    agreeing: usize,
+}
+
+/// Those of these selections.
+fn circuits_of(
     alloc: Global,
     task: &Task,
-    selection: &Selection,
+    selections: &[Selection],
     cases: &[Case],
-) -> Result<Circuit, NoMemory> {
-    let bounds = task.bounds();
-    let mut g = Graph::new(alloc)?;
-    let args = variable_arguments(alloc, &mut g, bounds)?;
-    let picks = constant_picks(alloc, &g, task, selection)?;
-    let outcome = candidates(alloc, &mut g, task, &picks, &args)?;
-    let program = plain(alloc, task.tree(), selection)?;
+) -> Result<Circuits, NoMemory> {
     let mut right = 0usize;
-    let mut wanted = 0usize;
-    for case in cases {
-        let values = truths_of(alloc, bounds, case)?;
-        let truths = Truths::under(alloc, &g, values)?;
-        let end = end_of(alloc, task, &program, case)?;
-        if truths.read(alloc, &g, &bounds.limits, &outcome, &end)? {
+    let mut agreeing = 0usize;
+    for selection in selections {
+        let circuit = Circuit::of(alloc, task, selection)?;
+        if circuit.is_right(alloc, task, cases)? {
             right = right.wrapping_add(1);
         }
-        let end = end_of(alloc, task, task.reference(), case)?;
-        if truths.read(alloc, &g, &bounds.limits, &outcome, &end)? {
-            wanted = wanted.wrapping_add(1);
+        if circuit.reads_on_all(alloc, task, task.reference(), cases)? {
+            agreeing = agreeing.wrapping_add(1);
         }
     }
-    let gates = g.gate_count();
-    Ok(Circuit {
-        gates,
-        right,
-        wanted,
-    })
+    Ok(Circuits { right, agreeing })
+}
+
+/// Whether on an input each of these selections, and the reference, reads as its run.
+fn all_agree(
+    alloc: Global,
+    task: &Task,
+    selections: &[Selection],
+    case: &Case,
+) -> Result<bool, NoMemory> {
+    for selection in selections {
+        if !selection_agrees(alloc, task, selection, case)? {
+            return Ok(false);
+        }
+    }
+    reference_agrees(alloc, task, case)
 }
 
 /// Over constants each selection, and the reference, reads as its run on each input.
@@ -156,21 +226,11 @@ fn constants_read_as_runs(rt: HostRuntime) -> Result<(), Fail> {
         let task = task_of(alloc, texts)?;
         let cases = inputs_of(alloc, task.bounds())?;
         let selections = selections_of(alloc, &task)?;
-        assert!(rt;
-            cases.len() > 1 && selections.len() > 1,
-            "{}",
-            texts.submission
-        );
+        let are_some = cases.len() > 1 && selections.len() > 1;
+        assert!(rt; are_some, "{}", texts.submission);
         for case in &cases {
-            assert!(rt;
-                reference_agrees(alloc, &task, case)?,
-                "{}",
-                texts.reference
-            );
-            for selection in &selections {
-                let agrees = selection_agrees(alloc, &task, selection, case)?;
-                assert!(rt; agrees, "{}", texts.submission);
-            }
+            let agree = all_agree(alloc, &task, &selections, case)?;
+            assert!(rt; agree, "{}", texts.submission);
         }
     }
     Ok(())
@@ -186,27 +246,20 @@ fn are_words(bounds: &Bounds) -> bool {
 }
 
 /// Over variables for numbers each selection reads as its run under the truth values of each input.
-/// Not all of them read as the reference's run.
+/// Some of them, and not all, read as the reference's run.
 #[test]
 fn variables_read_as_runs(rt: HostRuntime) -> Result<(), Fail> {
     let alloc = rt.alloc();
     for texts in &TASKS {
         let task = task_of(alloc, texts)?;
-        let cases = inputs_of(alloc, task.bounds())?;
-        if !are_words(task.bounds()) {
-            continue;
+        if are_words(task.bounds()) {
+            let cases = inputs_of(alloc, task.bounds())?;
+            let selections = selections_of(alloc, &task)?;
+            let circuits = circuits_of(alloc, &task, &selections, &cases)?;
+            assert_eq!(rt; circuits.right, selections.len(), "{}", texts.submission);
+            let some = 0 < circuits.agreeing && circuits.agreeing < circuits.right;
+            assert!(rt; some, "{}", texts.submission);
         }
-        let mut best = 0usize;
-        let mut worst = cases.len();
-        for selection in &selections_of(alloc, &task)? {
-            let circuit = circuit_of(alloc, &task, selection, &cases)?;
-            assert_eq!(rt; circuit.right, cases.len(), "{}", texts.submission);
-            assert!(rt; circuit.gates > 0, "{}", texts.submission);
-            best = best.max(circuit.wanted);
-            worst = worst.min(circuit.wanted);
-        }
-        assert_eq!(rt; best, cases.len(), "{}", texts.submission);
-        assert!(rt; worst < cases.len(), "{}", texts.submission);
     }
     Ok(())
 }
