@@ -1,7 +1,7 @@
 //! An input, and a selection of a task's weighted tree, as constant bits.
 
-ghost use Rattle.std.specs.Prelude.{◌≡◌, Bool, List, map, IfOk};
-ghost use Rattle.bit_words.specs.Results.{IsWordIn};
+ghost use Rattle.std.specs.Prelude.{◌≡◌, ◌<◌, ◌^◌, Bool, List, map, IfOk};
+ghost use Rattle.bit_words.specs.Logic.{OwnsAll};
 ghost use Rattle.bit_words.specs.Words.{nat_read};
 ghost use Rattle.choice_tree.specs.Choices.{member_of};
 ghost use Rattle.input_space.specs.Agreement.{IsInput};
@@ -66,14 +66,22 @@ pub fn constant_picks<L: Logic>(
     Ok(picks)
 }
 
-// The number of a member, as 32 constant bits.
+// How many bits the number of a member is given: 16 where they do, since a longer number is never
+// looked up as a known one.
+fn width_of(member: u32) -> usize
+    ensures { member < 2 ^ result }
+{
+    if member < 65536 { 16 } else { 32 }
+}
+
+// The number of a member, as constant bits.
 fn member_bits<L: Logic>(alloc: Global, g: &L, member: u32) -> Result<Bits<L::Bit>, NoMemory>
-    ensures made { IfOk result (λ r. IsWordIn L.owns g.now 32 r) }
+    ensures made { IfOk result (λ r. OwnsAll L.owns g.now r) }
     ensures value { IfOk result (λ r. (vs : List Bool) → nat_read L.reads g.now vs r ≡ member) }
 {
     let mut bits = Bits::new(alloc);
     let mut rest = member;
-    for _ in 0..32usize {
+    for _ in 0..width_of(member) {
         let digit = g.constant(rest % 2 == 1);
         bits.push(digit)?;
         rest /= 2;

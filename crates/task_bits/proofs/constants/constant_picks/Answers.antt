@@ -21,7 +21,7 @@ pub loop-i-preserved : goal.loop-i-preserved
 loop-i-preserved g c =
     let read = rw c.member-member.ensures at c.in_ok-bits.ensures.value in
     one_pick_more (member_of c.args.selection.now) c.loop-i.i c.loop-i.picks c.push.new.self
-    c.in_ok-bits.bits c.loop-i.invariant c.in_ok-bits.ensures.made.owned read
+    c.in_ok-bits.bits c.loop-i.invariant c.in_ok-bits.ensures.made read
     c.in_ok-push.ensures.ok
 
 pub returns-clause-made : goal.returns-clause-made

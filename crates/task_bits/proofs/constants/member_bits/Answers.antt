@@ -29,12 +29,13 @@ nothing_left p low zero number h e = omega arith
 nothing_left p low (suc n) number h e = absurd (omega arith)
 
 pub returns-clause-made : goal.returns-clause-made
-returns-clause-made g c =
-    let end : c.loop.counter ≡ 32 = omega arith in
-    record { owned = c.loop.invariant.owned; width = c.loop.invariant.width ∙ end }
+returns-clause-made g c = c.loop.invariant.owned
 
 pub returns-clause-value : goal.returns-clause-value
 returns-clause-value g c vs =
-    let end : c.loop.counter ≡ 32 = omega arith in
-    nothing_left (2 ^ 32) _ c.loop.rest c.args.member (omega arith)
+    let past = c.loop-test.false in
+    let most = c.loop.auto.counter-end in
+    let fits = c.width_of-end.ensures in
+    let end : c.loop.counter ≡ c.width_of-end.result = omega arith in
+    nothing_left (2 ^ c.width_of-end.result) _ c.loop.rest c.args.member fits
     (rw end at (c.loop.invariant.value vs))
