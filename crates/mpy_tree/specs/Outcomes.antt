@@ -1,5 +1,5 @@
 -- How a run ends, as the public outcome and as text.
-use Rattle.std.specs.Prelude.{ℕ, List, codes}
+use Rattle.std.specs.Prelude.{Bool, true, false, ℕ, List, codes}
 use Rattle.std.specs.declared.result.Result.{Result}
 use Rattle.std.specs.declared.result.Result.TheVariants.{Ok, Err}
 use Rattle.mpy_tree.specs.declared.limits.Limits.{Limits}
@@ -28,6 +28,11 @@ outcome_of (Err h) = outcome.Fault (told h.halt) h.line
 -- how a run of the program ends on these arguments
 abbrev pub run_outcome : Limits → List Routine → List ℕ → List Value → Outcome
 run_outcome l p entry vs = outcome_of (evaluated l p entry vs)
+
+-- the run ends with a value
+abbrev pub is_done : Outcome → Bool
+is_done (outcome.Value v) = true
+is_done (outcome.Fault kind line) = false
 
 abbrev pub fault_text : FaultKind → List ℕ
 fault_text Overflow = codes "Overflow"

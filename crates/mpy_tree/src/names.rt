@@ -52,11 +52,12 @@ impl Name {
     }
 
     /// Whether two names have the same bytes.
+    #[inline]
     pub fn is(&self, other: &Name) -> bool
         ensures value { result ≡ pointwise nat_eq self.now other.now }
         ensures same { IsTrue result ↔ (self.now ≡ other.now) }
     {
-        self.bytes.as_slice() == other.bytes.as_slice()
+        is_same(self.bytes(), other.bytes())
     }
 
     /// An equal name.
@@ -66,6 +67,24 @@ impl Name {
         let bytes = self.bytes.clone()?;
         Ok(Name { bytes })
     }
+}
+
+// Whether these are the same bytes. Names are short, so one byte is compared after another here.
+#[inline]
+fn is_same(xs: &[u8], ys: &[u8]) -> bool
+    ensures { result ≡ pointwise nat_eq xs.now ys.now }
+{
+    for (i, x) in xs.iter().enumerate() {
+        match ys.get(i) {
+            None => return false,
+            Some(y) => {
+                if *x != *y {
+                    return false;
+                }
+            }
+        }
+    }
+    xs.len() == ys.len()
 }
 
 /// A list of names.

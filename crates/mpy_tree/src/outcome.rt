@@ -1,7 +1,8 @@
 //! How a run ends.
-ghost use Rattle.std.specs.Prelude.{◌≡◌};
-ghost use Rattle.mpy_tree.specs.Outcomes.{fault_text, told};
+ghost use Rattle.std.specs.Prelude.{◌≡◌, ◌↔◌, IsTrue, IfOk};
+ghost use Rattle.mpy_tree.specs.Outcomes.{fault_text, is_done, told};
 
+use crate::NoMemory;
 use crate::value::Value;
 
 /// What goes wrong in a run.
@@ -84,4 +85,42 @@ pub struct Halted {
 pub enum Outcome {
     Value(Value),
     Fault { kind: FaultKind, line: u32 },
+}
+
+impl Outcome {
+    /// Whether the run ends with a value.
+    pub fn is_done(&self) -> bool
+        ensures { result ≡ is_done self.now }
+    {
+        match self {
+            Outcome::Value(_) => true,
+            Outcome::Fault { .. } => false,
+        }
+    }
+
+    /// Whether two runs end alike: with the same value, or with the same fault on the same line.
+    pub fn is(&self, other: &Outcome) -> bool
+        ensures { IsTrue result ↔ (self.now ≡ other.now) }
+    {
+        match (self, other) {
+            (Outcome::Value(v), Outcome::Value(w)) => v.is(w),
+            (Outcome::Fault { kind, line }, Outcome::Fault { kind: k, line: l }) => {
+                *kind == *k && *line == *l
+            }
+            _ => false,
+        }
+    }
+
+    /// An equal end.
+    pub fn copy(&self) -> Result<Outcome, NoMemory>
+        ensures { IfOk result (λ o. o ≡ self.now) }
+    {
+        match self {
+            Outcome::Value(v) => Ok(Outcome::Value(v.copy()?)),
+            Outcome::Fault { kind, line } => Ok(Outcome::Fault {
+                kind: *kind,
+                line: *line,
+            }),
+        }
+    }
 }
