@@ -4,3 +4,4 @@ pub mod Follows
 pub mod Logs
 pub mod LogLaws
 pub mod Solving
+pub mod Readings

@@ -1,27 +1,32 @@
 //! Formulas: lists of clauses.
 
-ghost use Rattle.std.specs.Prelude.{◌≡◌, ◌↔◌, true, ◌<◌, [], ◌∷◌, ◌++◌, OnOk, OnErr, IfOk, IfSome};
-ghost use Rattle.std.specs.Prelude.{IsSome, IsTrue, length, slice_get, Some};
+ghost use Rattle.std.specs.Prelude.{◌≡◌, ◌↔◌, true, ◌<◌, ◌≤◌, [], ◌∷◌, ◌++◌, OnOk, OnErr, IfOk};
+ghost use Rattle.std.specs.Prelude.{IfSome, IsSome, IsTrue, length, slice_get, Some};
 ghost use Rattle.clause_base.specs.Formulas.{clauses_in_range};
 
 use crate::NoMemory;
 use crate::clause::Clause;
-use std::alloc::Global;
+use std::alloc::{AllocError, Global};
 use std::marker::Model;
 
-/// A list of clauses, whose numbers begin with 1.
+/// How many clauses a list has at most.
+const MOST_CLAUSES: usize = 2147483647;
+
+/// A list of clauses, whose numbers begin with 1, at most 2147483647.
 #[derive(Drop)]
 pub struct Clauses {
     items: Vec<Clause>,
 }
 
 impl Model for Clauses {
-    ghost use Rattle.std.specs.Prelude.{List};
+    ghost use Rattle.std.specs.Prelude.{◌≤◌, List, length};
     ghost use Rattle.clause_base.specs.declared.clause.Clause.{Clause};
 
     ghost Value = { List Clause };
 
     ghost view = { λ s. s.items.items };
+
+    ghost invariant = { λ s. length s.items.items ≤ 2147483647 };
 }
 
 impl Clauses {
@@ -44,6 +49,7 @@ impl Clauses {
 
     /// The list of these clauses.
     pub fn from_vec(items: Vec<Clause>) -> Self
+        requires { length items.items ≤ 2147483647 }
         ensures { result ≡ items.items }
     {
         Clauses { items }
@@ -63,6 +69,14 @@ impl Clauses {
         self.items.len()
     }
 
+    /// The number of clauses, at most 2147483647.
+    pub fn count(&self) -> u32
+        ensures value { result ≡ length self.now }
+        ensures few { length self.now ≤ 2147483647 }
+    {
+        self.items.len() as u32
+    }
+
     /// The clause at a place, counted from 0.
     pub fn at(&self, i: usize) -> &Clause
         requires { i < length self.now }
@@ -71,11 +85,16 @@ impl Clauses {
         &self.items[i]
     }
 
-    /// Adds a clause at the end. Where memory is wanting the list stays as it was.
+    /// Adds a clause at the end. Where memory is wanting, or the list has 2147483647 clauses, it
+    /// stays as it was.
     pub fn push(&mut self, clause: Clause) -> Result<(), NoMemory>
         ensures ok { OnOk result (self.new ≡ self.old ++ clause ∷ []) }
         ensures err { OnErr result (self.new ≡ self.old) }
+        ensures few { length self.new ≤ 2147483647 }
     {
+        if self.items.len() >= MOST_CLAUSES {
+            return Err(AllocError);
+        }
         self.items.push(clause)?;
         Ok(())
     }

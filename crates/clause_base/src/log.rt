@@ -1,13 +1,13 @@
 //! Logs: clauses, each with the hints by which it follows from those before it.
 
-ghost use Rattle.std.specs.Prelude.{◌≡◌, ◌<◌, [], ◌∷◌, ◌++◌, OnOk, OnErr, IfOk, length, slice_get};
-ghost use Rattle.std.specs.Prelude.{Some, IsTrue, ◌↔◌};
+ghost use Rattle.std.specs.Prelude.{◌≡◌, ◌↔◌, ◌<◌, ◌≤◌, [], ◌∷◌, ◌++◌, OnOk, OnErr, IfOk};
+ghost use Rattle.std.specs.Prelude.{length, slice_get, Some, IsTrue};
 ghost use Rattle.clause_base.specs.Logs.{Refutes};
 
 use crate::NoMemory;
 use crate::clause::Clause;
 use crate::hints::Hints;
-use std::alloc::Global;
+use std::alloc::{AllocError, Global};
 use std::marker::Model;
 
 /// A clause, and the numbers of the clauses from which it follows.
@@ -28,19 +28,24 @@ impl Step {
     }
 }
 
-/// A list of steps.
+/// How many steps a list has at most.
+const MOST_STEPS: usize = 2147483647;
+
+/// A list of steps, at most 2147483647.
 #[derive(Drop)]
 pub struct Steps {
     items: Vec<Step>,
 }
 
 impl Model for Steps {
-    ghost use Rattle.std.specs.Prelude.{List};
+    ghost use Rattle.std.specs.Prelude.{◌≤◌, List, length};
     ghost use Rattle.clause_base.specs.declared.log.Step.{Step};
 
     ghost Value = { List Step };
 
     ghost view = { λ s. s.items.items };
+
+    ghost invariant = { λ s. length s.items.items ≤ 2147483647 };
 }
 
 impl Steps {
@@ -55,6 +60,7 @@ impl Steps {
 
     /// The list of these steps.
     pub fn from_vec(items: Vec<Step>) -> Self
+        requires { length items.items ≤ 2147483647 }
         ensures { result ≡ items.items }
     {
         Steps { items }
@@ -74,6 +80,14 @@ impl Steps {
         self.items.len()
     }
 
+    /// The number of steps, at most 2147483647.
+    pub fn count(&self) -> u32
+        ensures value { result ≡ length self.now }
+        ensures few { length self.now ≤ 2147483647 }
+    {
+        self.items.len() as u32
+    }
+
     /// The step at a place, counted from 0.
     pub fn at(&self, i: usize) -> &Step
         requires { i < length self.now }
@@ -82,11 +96,16 @@ impl Steps {
         &self.items[i]
     }
 
-    /// Adds a step at the end. Where memory is wanting the list stays as it was.
+    /// Adds a step at the end. Where memory is wanting, or the list has 2147483647 steps, it stays
+    /// as it was.
     pub fn push(&mut self, step: Step) -> Result<(), NoMemory>
         ensures ok { OnOk result (self.new ≡ self.old ++ step ∷ []) }
         ensures err { OnErr result (self.new ≡ self.old) }
+        ensures few { length self.new ≤ 2147483647 }
     {
+        if self.items.len() >= MOST_STEPS {
+            return Err(AllocError);
+        }
         self.items.push(step)?;
         Ok(())
     }

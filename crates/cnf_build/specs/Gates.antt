@@ -1,6 +1,5 @@
 -- The formula of a graph and a goal.
 use Rattle.std.specs.Prelude.{◌≡◌, ◌↔◌, ℕ, ◌+◌, Bool, true, false, List, [], ◌∷◌, ◌++◌, length, map}
-use Rattle.std.specs.Prelude.{take, drop}
 use Rattle.bit_graph.specs.declared.gate.Source.{Source}
 use Rattle.bit_graph.specs.declared.gate.Source.TheVariants.{Constant, Variable, Made}
 use Rattle.bit_graph.specs.declared.gate.GraphBit.{GraphBit}
@@ -8,7 +7,7 @@ use Rattle.bit_graph.specs.declared.gate.Gate.{Gate}
 use Rattle.bit_graph.specs.Gates.{Gates, is_positive_bit, reading, source_of, values_after}
 use Rattle.clause_base.specs.declared.lit.Lit.{Lit}
 use Rattle.clause_base.specs.declared.clause.Clause.{Clause}
-use Rattle.clause_base.specs.Formulas.{satisfies}
+use Rattle.clause_base.specs.Formulas.{Extend, satisfies}
 use Rattle.clause_base.specs.Literals.{opposite}
 
 -- variable 1 is true, then come the variables of the graph, and then its gates in order
@@ -58,13 +57,6 @@ literals clauses = map (λ c. c.lits) clauses
 abbrev pub IsEncoding : Gates → GraphBit → ℕ → List Clause → Type 0
 IsEncoding g goal vars clauses = (values : List Bool) → length values ≡ vars
     → (satisfies values clauses ≡ true) ↔ AreValues g goal values
-
--- values of the variables from 2 on extend to values that satisfy the clauses
-pub record Extend (inputs : List Bool) (vars : ℕ) (clauses : List Clause) : Type 0 where
-  pub values : List Bool
-  pub many : length values ≡ vars
-  pub begins : take (length inputs) (drop 1 values) ≡ inputs
-  pub satisfied : satisfies values clauses ≡ true
 
 -- values of the graph's variables extend to ones that satisfy the formula exactly where the goal
 -- reads true
