@@ -9,9 +9,9 @@ use Rattle.mpy_tree.specs.declared.value.Value.TheVariants as value
 use Rattle.mpy_lexer.specs.Bytes.{is_quote}
 use Rattle.mpy_lexer.specs.TextLiterals.{characters, is_escapable, is_printable, literal_characters, with_character}
 use Rattle.input_space.specs.Cases.{SpellsCase, SpellsEach, SpellsNumber, SpellsValue}
-use Rattle.cert_text.specs.Lines.{lacks}
-use Rattle.cert_text.proofs.Apart.{all_append, both, two}
-use Rattle.cert_text.proofs.Decimals.{digits_lack_byte, line_end_is_other}
+use Rattle.step_lines.proofs.Apart.{all_append, both, two}
+use Rattle.step_lines.proofs.Decimals.{digits_lack_byte, line_end_is_other}
+use Rattle.step_lines.specs.Lines.{lacks}
 
 abbrev no_end : ℕ → Bool
 no_end c = not (c == 10)

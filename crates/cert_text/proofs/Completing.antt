@@ -17,12 +17,14 @@ use Rattle.cert_text.specs.declared.draft.Draft.{Draft}
 use Rattle.cert_text.specs.declared.draft.Draft.TheVariants as draft
 use Rattle.cert_text.specs.Certificates.{SpellsCert, front_lines, session_lines, sessions_lines}
 use Rattle.cert_text.specs.Drafts.{GoesOn, IsSession, Next, bare, next_number, with_case, with_session}
-use Rattle.cert_text.specs.Limits.{KeepsClaim, KeepsSession, KeepsSessions, KeepsStep, KeepsSteps, greatest_number, is_literal, is_number}
-use Rattle.cert_text.specs.LineForms.{SpellsCaseLine, clause_line, last_line, query_line, step_line}
-use Rattle.cert_text.proofs.Apart.{all_left, all_right, both, two}
+use Rattle.step_lines.proofs.Apart.{all_left, all_right, both, two}
+use Rattle.step_lines.proofs.WordKinds.{number_is}
+use Rattle.step_lines.specs.Limits.{KeepsStep, KeepsSteps, greatest_number, is_literal, is_number}
+use Rattle.step_lines.specs.LineForms.{step_line}
+use Rattle.cert_text.specs.Limits.{KeepsClaim, KeepsSession, KeepsSessions}
+use Rattle.cert_text.specs.LineForms.{SpellsCaseLine, clause_line, last_line, query_line}
 use Rattle.cert_text.proofs.Steps.{Path, joined}
 use Rattle.cert_text.proofs.Values.{one_session, session_is, session_of}
-use Rattle.cert_text.proofs.WordKinds.{number_is}
 
 front_path : (k : Claim) (s : List Choice) → KeepsClaim k s → Path draft.Start (front_lines k s) (draft.Cases (bare k s))
 front_path (claim.Cost n) s h = (

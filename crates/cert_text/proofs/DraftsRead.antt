@@ -2,7 +2,8 @@
 use Rattle.std.proofs.Common.{◌≡◌, ◌≢◌, inl, inr, ℕ, ◌<◌, List, [], ◌∷◌, ◌++◌, Option, None, Some, IfOk, Result, Ok, Err, length, refl, subst, arith}
 use Rattle.clause_base.specs.declared.clause.Clause.{Clause}
 use Rattle.clause_base.specs.declared.log.Step.{Step}
-use Rattle.input_space.specs.Readings.{IsReading}
+use Rattle.clause_base.specs.Readings.{IsReading}
+use Rattle.step_lines.specs.Steps.{SpellsStep}
 use Rattle.input_space.specs.declared.case.Case.{Case}
 use Rattle.input_space.specs.declared.session.Query.{Query}
 use Rattle.input_space.specs.declared.session.Session.{Session}
@@ -11,7 +12,7 @@ use Rattle.cert_text.specs.declared.cert.Claim.{Claim}
 use Rattle.cert_text.specs.declared.cert.Claim.TheVariants as claim
 use Rattle.cert_text.specs.declared.draft.Draft.{Draft}
 use Rattle.cert_text.specs.declared.draft.Draft.TheVariants as draft
-use Rattle.cert_text.specs.Drafts.{AddsVars, GoesOn, IsSession, Next, SpellsClause, SpellsQuery, SpellsStep, SpellsVars, after_claim, bare, next_number, with_session}
+use Rattle.cert_text.specs.Drafts.{AddsVars, GoesOn, IsSession, Next, SpellsClause, SpellsQuery, SpellsVars, after_claim, bare, next_number, with_session}
 use Rattle.cert_text.specs.LineForms.{SpellsCaseLine, last_line}
 
 pub after_other : (k : Claim) → ((n : ℕ) → k ≡ claim.Cost n → ⊥) → draft.Cases (bare k []) ≡ after_claim k

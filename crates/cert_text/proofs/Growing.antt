@@ -1,15 +1,12 @@
 -- What loops and pushes add.
-use Rattle.std.proofs.Common.{◌≡◌, ℕ, zero, suc, ◌+◌, Bool, true, false, not, ◌==◌, List, [], ◌∷◌, ◌++◌, map, take, drop, length, slice_get, Some, Result, Ok, Err, refl, sym, ap, ◌∙◌, subst, arith, append_assoc, eq-eqb}
+use Rattle.std.proofs.Common.{◌≡◌, ℕ, zero, suc, ◌+◌, true, List, [], ◌∷◌, ◌++◌, map, take, slice_get, Some, Result, Ok, Err, refl, sym, ap, ◌∙◌, subst, arith, append_assoc}
 use Rattle.std.specs.Prelude.{OnOk, OnErr}
-use Rattle.std.specs.Cmp.Lexicographic.{pointwise}
-use Rattle.std.specs.List.{list_all, prefix_len}
+use Rattle.std.specs.List.{list_all}
 use Rattle.std.proofs.lemmas.List.{append-nil}
-use Rattle.std.proofs.Math.Seq.{take-append_seam}
 use Rattle.clause_base.specs.Formulas.{clauses_in_range, in_range}
 use Rattle.clause_base.specs.declared.clause.Clause.{Clause}
-use Rattle.cert_text.specs.Lines.{ended, lacks}
-use Rattle.cert_text.specs.Words.{is_at}
-use Rattle.cert_text.proofs.Apart.{all_append, two}
+use Rattle.step_lines.proofs.Apart.{all_append, two}
+use Rattle.step_lines.specs.Lines.{ended}
 
 ended_more : {A : Type 0} (f : A → List ℕ) (xs : List A) (i : ℕ) (x : A) → slice_get xs i ≡ Some x → ended (map f (take (i + 1) xs)) ≡ ended (map f (take i xs)) ++ (f x ++ 10 ∷ [])
 ended_more f [] i x h = absurd (cc)
@@ -26,33 +23,6 @@ pub written_more : {A : Type 0} (f : A → List ℕ) (xs : List A) (i : ℕ) (x 
 written_more f xs i x old out new h before e =
     e ∙ ap (λ t. t ++ (f x ++ 10 ∷ [])) before ∙ append_assoc old (ended (map f (take i xs))) (f x ++ 10 ∷ [])
     ∙ ap (λ t. old ++ t) (sym (ended_more f xs i x h))
-
-front_by : (b c : ℕ) (cs : List ℕ) (t : Bool) → not (c == b) ≡ t → lacks b (take (prefix_len (λ d. not (d == b)) cs) cs) ≡ true → lacks b (take (prefix_len (λ d. not (d == b)) (c ∷ cs)) (c ∷ cs)) ≡ true
-front_by b c cs true e h =
-    let s : 1 + prefix_len (λ d. not (d == b)) cs ≡ suc (prefix_len (λ d. not (d == b)) cs) = omega arith in
-    rw (e, s) (two (not (c == b)) (lacks b (take (prefix_len (λ d. not (d == b)) cs) cs)) e h)
-front_by b c cs false e h = rw e refl
-
-pub front_lacks : (b : ℕ) (text : List ℕ) → lacks b (take (prefix_len (λ c. not (c == b)) text) text) ≡ true
-front_lacks b [] = refl
-front_lacks b (c ∷ cs) = front_by b c cs (not (c == b)) refl (front_lacks b cs)
-
-back_by : (b c : ℕ) (cs : List ℕ) (t : Bool) → (c == b) ≡ t → is_at b (drop (prefix_len (λ d. not (d == b)) cs) cs) ≡ true → is_at b (drop (prefix_len (λ d. not (d == b)) (c ∷ cs)) (c ∷ cs)) ≡ true
-back_by b c cs true e h = rw e e
-back_by b c cs false e h =
-    let s : 1 + prefix_len (λ d. not (d == b)) cs ≡ suc (prefix_len (λ d. not (d == b)) cs) = omega arith in
-    rw (e, s) h
-
-pub back_at : (b : ℕ) (text : List ℕ) → is_at b (drop (prefix_len (λ c. not (c == b)) text) text) ≡ true
-back_at b [] = refl
-back_at b (c ∷ cs) = back_by b c cs (c == b) refl (back_at b cs)
-
-pub same_bytes : (xs : List ℕ) → pointwise ◌==◌ xs xs ≡ true
-same_bytes [] = refl
-same_bytes (x ∷ xs) = two (x == x) (pointwise ◌==◌ xs xs) (eq-eqb x x refl) (same_bytes xs)
-
-pub front_is : (front rest text : List ℕ) → text ≡ front ++ rest → take (length front) text ≡ front
-front_is front rest text e = ap (take (length front)) e ∙ take-append_seam front rest
 
 pub clauses_pushed : {E : Type 0} (vars : ℕ) (r : Result (Unit {0}) E) (old new : List Clause) (k : Clause) → OnOk r (new ≡ old ++ k ∷ []) → OnErr r (new ≡ old) → clauses_in_range vars old ≡ true → list_all (in_range vars) k.lits ≡ true → clauses_in_range vars new ≡ true
 clauses_pushed vars (Ok u) old new k ok err h g =

@@ -1,15 +1,12 @@
-pub mod Apart
-pub mod Decimals
-pub mod Rows
 pub mod Rising
 pub mod ListsRead
 pub mod LinesRead
 pub mod ClausesRead
 pub mod DraftsRead
 pub mod CaseBytes
+pub mod CaseLines
 pub mod Unbroken
 pub mod Written
-pub mod VariablesApart
 pub mod Values
 pub mod WordKinds
 pub mod LinesOf

@@ -13,15 +13,19 @@ use Rattle.input_space.specs.declared.session.Query.{Query}
 use Rattle.input_space.specs.declared.session.Query.TheVariants as query
 use Rattle.cert_text.specs.declared.cert.Claim.{Claim}
 use Rattle.cert_text.specs.declared.cert.Claim.TheVariants as claim
-use Rattle.cert_text.specs.Drafts.{IsClaim, SpellsClaim, SpellsClause, SpellsQuery, SpellsSelection, SpellsStep, SpellsVars}
-use Rattle.cert_text.specs.Limits.{KeepsChoices, KeepsQuery, greatest_cost, greatest_number, is_choice, is_hint, is_literal}
-use Rattle.cert_text.specs.LineForms.{SpellsCaseLine, choice_text, choices_text, claim_line, list_end, literal_text, literals_text, most_text, query_line, set_apart}
-use Rattle.cert_text.specs.Lines.{lacks, spaced}
-use Rattle.cert_text.proofs.Apart.{cons_tail, cut, unlike}
-use Rattle.cert_text.proofs.Decimals.{decimal_lacks, decimal_one, space_is_other}
-use Rattle.cert_text.proofs.Rows.{nothing_stops, same_list, starts_at}
-use Rattle.cert_text.proofs.Values.{same_clause, same_step}
-use Rattle.cert_text.proofs.WordKinds.{choice_words, hint_words, hints_end, literal_words, literals_end}
+use Rattle.step_lines.proofs.Apart.{cons_tail, cut, unlike}
+use Rattle.step_lines.proofs.Decimals.{decimal_lacks, decimal_one, space_is_other}
+use Rattle.step_lines.proofs.Rows.{nothing_stops, same_list, starts_at}
+use Rattle.step_lines.proofs.Values.{same_clause, same_step}
+use Rattle.step_lines.proofs.WordKinds.{hint_words, hints_end, literal_words, literals_end}
+use Rattle.step_lines.specs.Limits.{greatest_number, is_hint, is_literal}
+use Rattle.step_lines.specs.LineForms.{list_end, literal_text, literals_text}
+use Rattle.step_lines.specs.Lines.{lacks, spaced}
+use Rattle.step_lines.specs.Steps.{SpellsStep}
+use Rattle.cert_text.specs.Drafts.{IsClaim, SpellsClaim, SpellsClause, SpellsQuery, SpellsSelection, SpellsVars}
+use Rattle.cert_text.specs.Limits.{KeepsChoices, KeepsQuery, greatest_cost, is_choice}
+use Rattle.cert_text.specs.LineForms.{SpellsCaseLine, choice_text, choices_text, claim_line, most_text, query_line, set_apart}
+use Rattle.cert_text.proofs.WordKinds.{choice_words}
 
 -- claims
 

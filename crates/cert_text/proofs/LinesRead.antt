@@ -8,19 +8,21 @@ use Rattle.clause_base.specs.Formulas.{in_range}
 use Rattle.clause_base.specs.declared.lit.Lit.{Lit}
 use Rattle.mpy_tree.specs.declared.value.Value.{Value}
 use Rattle.input_space.specs.Cases.{SpellsCase}
-use Rattle.input_space.specs.Readings.{IsReading}
+use Rattle.clause_base.specs.Readings.{IsReading}
+use Rattle.step_lines.proofs.Apart.{Same, both, cons_tail, cut, two, unlike}
+use Rattle.step_lines.proofs.Decimals.{decimal_lacks, number_one, space_is_other}
+use Rattle.step_lines.specs.Limits.{is_literal, is_number}
+use Rattle.step_lines.specs.Lines.{lacks, spaced}
+use Rattle.step_lines.specs.Words.{SpellsNumber, SpellsWithin, is_at}
 use Rattle.input_space.specs.declared.case.Case.{Case}
 use Rattle.input_space.specs.declared.session.Query.{Query}
 use Rattle.input_space.specs.declared.session.Query.TheVariants as query
 use Rattle.cert_text.specs.declared.cert.Claim.{Claim}
 use Rattle.cert_text.specs.declared.cert.Claim.TheVariants as claim
 use Rattle.cert_text.specs.Drafts.{IsClaim, SpellsClaim, SpellsQuery, SpellsSelection}
-use Rattle.cert_text.specs.Limits.{KeepsChoices, KeepsQuery, greatest_budget, greatest_cost, is_literal, is_number}
+use Rattle.cert_text.specs.Limits.{KeepsChoices, KeepsQuery, greatest_budget, greatest_cost}
 use Rattle.cert_text.specs.LineForms.{SpellsCaseLine, choices_text, claim_line, most_text, query_line, set_apart}
-use Rattle.cert_text.specs.Lines.{lacks, spaced}
-use Rattle.cert_text.specs.Words.{AsksFail, AsksLow, SpellsChoices, SpellsLow, SpellsMost, SpellsNumber, SpellsWithin, is_at}
-use Rattle.cert_text.proofs.Apart.{Same, both, cons_tail, cut, two, unlike}
-use Rattle.cert_text.proofs.Decimals.{decimal_lacks, number_one, space_is_other}
+use Rattle.cert_text.specs.Words.{AsksFail, AsksLow, SpellsChoices, SpellsLow, SpellsMost}
 use Rattle.cert_text.proofs.LinesOf.{low_flat, most_lacks, one_set_apart}
 
 -- claims

@@ -14,8 +14,10 @@ use Rattle.cert_text.specs.declared.draft.Draft.{Draft}
 use Rattle.cert_text.specs.declared.draft.Draft.TheVariants as draft
 use Rattle.cert_text.specs.Certificates.{SpellsCert, front_lines, session_lines, sessions_lines}
 use Rattle.cert_text.specs.Drafts.{AddsClause, AddsStep, GoesOn, IsSession, Next, SpellsClaim, after_claim, bare, with_case, with_session}
-use Rattle.cert_text.specs.Limits.{KeepsClaim, KeepsForm, KeepsQuery, KeepsSession, KeepsSessions, KeepsStep, KeepsSteps, greatest_cost, greatest_number}
-use Rattle.cert_text.specs.LineForms.{SpellsCaseLine, claim_line, clause_line, first_line, last_line, query_line, step_line, vars_line}
+use Rattle.step_lines.specs.Limits.{KeepsStep, KeepsSteps, greatest_number}
+use Rattle.step_lines.specs.LineForms.{step_line}
+use Rattle.cert_text.specs.Limits.{KeepsClaim, KeepsForm, KeepsQuery, KeepsSession, KeepsSessions, greatest_cost}
+use Rattle.cert_text.specs.LineForms.{SpellsCaseLine, claim_line, clause_line, first_line, last_line, query_line, vars_line}
 
 -- whole sessions, or cases
 pub record SpellsFront (ls : List (List ℕ)) (c : Cert) : Type 0 where

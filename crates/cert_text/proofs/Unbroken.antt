@@ -14,16 +14,19 @@ use Rattle.input_space.specs.declared.session.Session.{Session}
 use Rattle.cert_text.specs.declared.cert.Claim.{Claim}
 use Rattle.cert_text.specs.declared.cert.Claim.TheVariants as claim
 use Rattle.cert_text.specs.Certificates.{front_lines, session_lines, sessions_lines}
-use Rattle.cert_text.specs.Limits.{KeepsChoices, KeepsClaim, KeepsQuery, KeepsSession, KeepsSessions, KeepsStep, KeepsSteps, greatest_cost, greatest_number, is_choice, is_hint, is_literal}
-use Rattle.cert_text.specs.LineForms.{SpellsCaseLine, choice_text, choices_text, claim_line, clause_line, list_end, literal_text, literals_text, most_text, query_line, selection_line, set_apart, step_line, vars_line}
-use Rattle.cert_text.specs.Lines.{lacks, spaced}
-use Rattle.cert_text.proofs.Apart.{all_append, both, two}
+use Rattle.step_lines.proofs.Apart.{all_append, both, two}
+use Rattle.step_lines.proofs.Decimals.{decimal_lacks, line_end_is_other}
+use Rattle.step_lines.proofs.Rows.{texts}
+use Rattle.step_lines.proofs.WordKinds.{hint_limits, literal_lacks}
+use Rattle.step_lines.specs.Limits.{KeepsStep, KeepsSteps, greatest_number, is_hint, is_literal}
+use Rattle.step_lines.specs.LineForms.{list_end, literal_text, literals_text, step_line}
+use Rattle.step_lines.specs.Lines.{lacks, spaced}
+use Rattle.cert_text.specs.Limits.{KeepsChoices, KeepsClaim, KeepsQuery, KeepsSession, KeepsSessions, greatest_cost, is_choice}
+use Rattle.cert_text.specs.LineForms.{SpellsCaseLine, choice_text, choices_text, claim_line, clause_line, most_text, query_line, selection_line, set_apart, vars_line}
 use Rattle.cert_text.proofs.CaseBytes.{case_apart}
 use Rattle.cert_text.proofs.Completing.{literals_are}
-use Rattle.cert_text.proofs.Decimals.{decimal_lacks, line_end_is_other}
 use Rattle.cert_text.proofs.LinesOf.{low_flat}
-use Rattle.cert_text.proofs.Rows.{texts}
-use Rattle.cert_text.proofs.WordKinds.{choice_lacks, hint_limits, literal_lacks}
+use Rattle.cert_text.proofs.WordKinds.{choice_lacks}
 
 abbrev no_end : ℕ → Bool
 no_end c = not (c == 10)

@@ -11,8 +11,8 @@ use Rattle.cert_text.specs.declared.draft.Draft.TheVariants as draft
 use Rattle.cert_text.specs.CertLaws.{OneCert}
 use Rattle.cert_text.specs.Certificates.{CanGoOn, IsCertOf, SpellsCert, StopsAt}
 use Rattle.cert_text.specs.Drafts.{Next}
-use Rattle.cert_text.specs.Lines.{ended, lacks}
-use Rattle.cert_text.proofs.Apart.{all_append, all_right, both, cons_tail, cut, two}
+use Rattle.step_lines.proofs.Apart.{all_append, all_right, both, cons_tail, cut, two}
+use Rattle.step_lines.specs.Lines.{ended, lacks}
 use Rattle.cert_text.proofs.Closing.{can_go_on}
 use Rattle.cert_text.proofs.Completing.{complete}
 use Rattle.cert_text.proofs.Spelled.{Spelled, spelled_more}

@@ -7,8 +7,8 @@ use Rattle.cert_text.specs.declared.cert.Cert.{Cert}
 use Rattle.cert_text.specs.Certificates.{IsCertOf, WritesCase, WritesCases, front_lines, sessions_lines}
 use Rattle.cert_text.specs.Limits.{KeepsForm}
 use Rattle.cert_text.specs.LineForms.{SpellsCaseLine, last_line, set_apart}
-use Rattle.cert_text.specs.Lines.{ended, lacks}
-use Rattle.cert_text.proofs.Apart.{all_append}
+use Rattle.step_lines.proofs.Apart.{all_append}
+use Rattle.step_lines.specs.Lines.{ended, lacks}
 use Rattle.cert_text.proofs.Spelled.{zip_push}
 use Rattle.cert_text.proofs.Unbroken.{cases_unbroken, front_unbroken, sessions_unbroken}
 

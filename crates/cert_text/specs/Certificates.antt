@@ -1,17 +1,17 @@
 -- The texts of certificates.
-use Rattle.std.specs.Prelude.{◌≡◌, ℕ, suc, List, [], ◌∷◌, ◌++◌, length, map, true}
+use Rattle.std.specs.Prelude.{◌≡◌, ℕ, suc, List, [], ◌∷◌, ◌++◌, length, ◌+◌, map, true}
 use Rattle.std.specs.List.{AllZip, flat_map, list_all}
 use Rattle.choice_tree.specs.declared.selection.Choice.{Choice}
+use Rattle.step_lines.specs.LineForms.{step_line}
+use Rattle.step_lines.specs.Lines.{HasLines, ended, lacks}
 use Rattle.input_space.specs.declared.case.Case.{Case}
 use Rattle.input_space.specs.declared.session.Session.{Session}
 use Rattle.cert_text.specs.declared.cert.Cert.{Cert}
 use Rattle.cert_text.specs.declared.cert.Claim.{Claim}
 use Rattle.cert_text.specs.declared.cert.Claim.TheVariants as claim
 use Rattle.cert_text.specs.Limits.{KeepsForm}
-use Rattle.cert_text.specs.Lines.{HasLines, ended, lacks}
 use Rattle.cert_text.specs.LineForms.{SpellsCaseLine, claim_line, clause_line, first_line}
-use Rattle.cert_text.specs.LineForms.{last_line}
-use Rattle.cert_text.specs.LineForms.{query_line, selection_line, step_line, vars_line}
+use Rattle.cert_text.specs.LineForms.{last_line, query_line, selection_line, vars_line}
 
 -- the line of the selection stands with a cost alone
 abbrev pub selection_lines : Claim → List Choice → List (List ℕ)
@@ -23,6 +23,10 @@ selection_lines (claim.Spent n) choices = []
 abbrev pub front_lines : Claim → List Choice → List (List ℕ)
 front_lines claimed choices =
     first_line ∷ claim_line claimed ∷ selection_lines claimed choices
+
+-- on which line the case at a place stands, both counted from 1
+abbrev pub case_line : Cert → ℕ → ℕ
+case_line c place = length (front_lines c.claim c.selection) + place
 
 -- the question, the number of variables, the clauses of the formula and those of the log
 abbrev pub session_lines : Session → List (List ℕ)

@@ -4,6 +4,8 @@ use Rattle.std.specs.List.{list_all}
 use Rattle.choice_tree.specs.declared.selection.Choice.{Choice}
 use Rattle.clause_base.specs.declared.clause.Clause.{Clause}
 use Rattle.clause_base.specs.declared.log.Step.{Step}
+use Rattle.step_lines.specs.Limits.{greatest_number, is_literal}
+use Rattle.step_lines.specs.Steps.{SpellsStep}
 use Rattle.input_space.specs.declared.case.Case.{Case}
 use Rattle.input_space.specs.declared.session.Query.{Query}
 use Rattle.input_space.specs.declared.session.Session.{Session}
@@ -12,11 +14,9 @@ use Rattle.cert_text.specs.declared.cert.Claim.{Claim}
 use Rattle.cert_text.specs.declared.cert.Claim.TheVariants as claim
 use Rattle.cert_text.specs.declared.draft.Draft.{Draft}
 use Rattle.cert_text.specs.declared.draft.Draft.TheVariants as draft
-use Rattle.cert_text.specs.Limits.{KeepsChoices, KeepsQuery, KeepsStep, greatest_budget}
-use Rattle.cert_text.specs.Limits.{greatest_cost, greatest_number, is_literal}
+use Rattle.cert_text.specs.Limits.{KeepsChoices, KeepsQuery, greatest_budget, greatest_cost}
 use Rattle.cert_text.specs.LineForms.{SpellsCaseLine, claim_line, clause_line, first_line}
-use Rattle.cert_text.specs.LineForms.{last_line}
-use Rattle.cert_text.specs.LineForms.{query_line, selection_line, step_line, vars_line}
+use Rattle.cert_text.specs.LineForms.{last_line, query_line, selection_line, vars_line}
 
 -- a claim within its limit
 abbrev pub IsClaim : Claim → Type 0
@@ -43,10 +43,6 @@ pub record SpellsVars (line : List ℕ) (vars : ℕ) : Type 0 where
 pub record SpellsClause (vars : ℕ) (line : List ℕ) (c : Clause) : Type 0 where
   pub written : line ≡ clause_line c
   pub kept : list_all (is_literal vars) c.lits ≡ true
-
-pub record SpellsStep (vars number : ℕ) (line : List ℕ) (s : Step) : Type 0 where
-  pub written : line ≡ step_line s
-  pub kept : KeepsStep vars number s
 
 -- a certificate without cases and sessions
 abbrev pub bare : Claim → List Choice → Cert

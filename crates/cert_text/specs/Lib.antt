@@ -1,4 +1,3 @@
-pub mod Lines
 pub mod LineForms
 pub mod Limits
 pub mod Certificates

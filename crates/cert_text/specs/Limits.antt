@@ -1,12 +1,10 @@
 -- The limits and the order that a certificate keeps.
-use Rattle.std.specs.Prelude.{◌≡◌, ◌≢◌, ℕ, suc, ◌≤◌, Bool, true, ◌&&◌, nat_le, nat_lt, List}
+use Rattle.std.specs.Prelude.{◌≡◌, ◌≢◌, ℕ, suc, ◌≤◌, Bool, true, ◌&&◌, nat_lt, List}
 use Rattle.std.specs.Prelude.{[], ◌∷◌, length, IfSome}
 use Rattle.std.specs.List.{list_all}
 use Rattle.choice_tree.specs.Choices.{Rises}
 use Rattle.choice_tree.specs.declared.selection.Choice.{Choice}
-use Rattle.clause_base.specs.Formulas.{in_range}
-use Rattle.clause_base.specs.declared.lit.Lit.{Lit}
-use Rattle.clause_base.specs.declared.log.Step.{Step}
+use Rattle.step_lines.specs.Limits.{KeepsSteps, greatest_number, is_number}
 use Rattle.input_space.specs.declared.session.Query.{Query}
 use Rattle.input_space.specs.declared.session.Query.TheVariants as query
 use Rattle.input_space.specs.declared.session.Session.{Session}
@@ -14,17 +12,11 @@ use Rattle.cert_text.specs.declared.cert.Cert.{Cert}
 use Rattle.cert_text.specs.declared.cert.Claim.{Claim}
 use Rattle.cert_text.specs.declared.cert.Claim.TheVariants as claim
 
-abbrev pub greatest_number : ℕ
-greatest_number = 2147483647
-
 abbrev pub greatest_cost : ℕ
 greatest_cost = 4096
 
 abbrev pub greatest_budget : ℕ
 greatest_budget = 200000
-
-abbrev pub is_number : ℕ → Bool
-is_number n = nat_le n greatest_number
 
 -- a member other than the base, counted from 1
 abbrev pub is_choice : Choice → Bool
@@ -47,24 +39,6 @@ KeepsQuery count query.First = Unit {0}
 KeepsQuery count (query.Low most cases) =
     IfSome most (λ k. k ≤ greatest_cost) × (cases ≤ count) × (cases ≤ greatest_number)
 KeepsQuery count (query.Fail choices) = KeepsChoices choices
-
--- a literal whose variable is one of the first `vars`
-abbrev pub is_literal : ℕ → Lit → Bool
-is_literal vars l = in_range vars l && is_number l.var
-
--- the number of an earlier clause
-abbrev pub is_hint : ℕ → ℕ → Bool
-is_hint number h = nat_lt 0 h && (nat_lt h number && is_number h)
-
--- a step whose clause has this number
-pub record KeepsStep (vars number : ℕ) (s : Step) : Type 0 where
-  pub literals : list_all (is_literal vars) s.clause.lits ≡ true
-  pub hints : list_all (is_hint number) s.hints ≡ true
-
--- steps, the first of which has this number
-abbrev pub KeepsSteps : ℕ → ℕ → List Step → Type 0
-KeepsSteps vars number [] = Unit {0}
-KeepsSteps vars number (s ∷ steps) = KeepsStep vars number s × KeepsSteps vars (suc number) steps
 
 -- that no clause has a variable twice and that each variable of the formula is one of `vars`, the
 -- types say

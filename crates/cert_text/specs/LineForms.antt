@@ -1,19 +1,17 @@
 -- The lines of a certificate, each from what it tells. The words of a line have one space between
 -- each two; numbers are decimal without a leading zero.
 use Rattle.std.specs.Prelude.{◌≡◌, ℕ, List, [], ◌∷◌, ◌++◌, Option, Some, None, map, codes}
-use Rattle.std.specs.Prelude.{if◌then◌else◌}
 use Rattle.std.specs.Fmt.{decimal}
 use Rattle.choice_tree.specs.declared.selection.Choice.{Choice}
-use Rattle.clause_base.specs.declared.lit.Lit.{Lit}
 use Rattle.clause_base.specs.declared.clause.Clause.{Clause}
-use Rattle.clause_base.specs.declared.log.Step.{Step}
 use Rattle.input_space.specs.Cases.{SpellsCase}
 use Rattle.input_space.specs.declared.case.Case.{Case}
 use Rattle.input_space.specs.declared.session.Query.{Query}
 use Rattle.input_space.specs.declared.session.Query.TheVariants as query
 use Rattle.cert_text.specs.declared.cert.Claim.{Claim}
 use Rattle.cert_text.specs.declared.cert.Claim.TheVariants as claim
-use Rattle.cert_text.specs.Lines.{spaced}
+use Rattle.step_lines.specs.LineForms.{list_end, literals_text}
+use Rattle.step_lines.specs.Lines.{spaced}
 
 abbrev pub first_line : List ℕ
 first_line = codes "mpycert 1"
@@ -61,20 +59,5 @@ query_line (query.Fail choices) = codes "session fail" ++ choices_text choices
 abbrev pub vars_line : ℕ → List ℕ
 vars_line vars = codes "vars " ++ decimal vars
 
-abbrev pub literal_text : Lit → List ℕ
-literal_text l = if l.positive then decimal l.var else 45 ∷ decimal l.var
-
--- 0 ends a list of numbers
-abbrev pub list_end : List ℕ
-list_end = codes " 0"
-
-abbrev pub literals_text : List Lit → List ℕ
-literals_text lits = spaced (map literal_text lits)
-
 abbrev pub clause_line : Clause → List ℕ
 clause_line c = codes "f" ++ (literals_text c.lits ++ list_end)
-
-abbrev pub step_line : Step → List ℕ
-step_line s =
-    codes "l" ++ (literals_text s.clause.lits ++ (list_end ++ (spaced (map decimal s.hints)
-    ++ list_end)))

@@ -3,7 +3,7 @@ ghost use Rattle.std.specs.Prelude.{◌≡◌, ◌≤◌, ◌∷◌, ◌++◌, [
 ghost use Rattle.std.specs.Prelude.{MatchOption, OnOk, codes, length};
 ghost use Rattle.cert_text.specs.Certificates.{WritesCase};
 ghost use Rattle.cert_text.specs.LineForms.{SpellsCaseLine, set_apart};
-ghost use Rattle.input_space.specs.Readings.{IsReading};
+ghost use Rattle.clause_base.specs.Readings.{IsReading};
 
 use crate::NoMemory;
 use input_space::{Case, CaseError, print_case, read_case};

@@ -1,5 +1,6 @@
 //! Certificates.
-ghost use Rattle.std.specs.Prelude.{◌≡◌};
+ghost use Rattle.std.specs.Prelude.{◌≡◌, ◌<◌, ◌≤◌, length};
+ghost use Rattle.cert_text.specs.Certificates.{case_line};
 ghost use Rattle.cert_text.specs.declared.cert.CertError.TheVariants as cert_error;
 
 use crate::NoMemory;
@@ -26,6 +27,20 @@ pub struct Cert {
     pub selection: Selection,
     pub cases: Cases,
     pub sessions: Sessions,
+}
+
+/// On which line of a certificate's text the case at a place stands, both counted from 1.
+pub fn case_line(c: &Cert, place: u32) -> u32
+    requires some { 0 < place }
+    requires within { place ≤ length c.now.cases }
+    ensures { result ≡ case_line c.now place }
+{
+    let few = place <= c.cases.count();
+    prove!(few);
+    match c.claim {
+        Claim::Cost(_) => place + 3,
+        Claim::Nothing | Claim::Spent(_) => place + 2,
+    }
 }
 
 /// Why a text isn't read as a certificate.

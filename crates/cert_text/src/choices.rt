@@ -2,13 +2,13 @@
 ghost use Rattle.std.specs.Prelude.{◌≡◌, ◌++◌, IfOk, OnOk};
 ghost use Rattle.cert_text.specs.LineForms.{choice_text, choices_text};
 ghost use Rattle.cert_text.specs.Words.{SpellsChoice, SpellsChoices};
-ghost use Rattle.input_space.specs.Readings.{IsReading};
+ghost use Rattle.clause_base.specs.Readings.{IsReading};
 
 use crate::NoMemory;
-use crate::numbers::{number, write_number};
-use crate::words::{behind, cut_at, next_word};
 use choice_tree::{Choice, Selection};
 use std::alloc::Global;
+use step_lines::numbers::{number, write_number};
+use step_lines::words::{behind, cut_at, next_word};
 
 // The pick and the member that the word spells.
 fn choice(word: &[u8]) -> Option<Choice>

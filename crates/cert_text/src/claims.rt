@@ -2,15 +2,15 @@
 ghost use Rattle.std.specs.Prelude.{◌≡◌, ◌∷◌, ◌++◌, [], IfOk, OnOk};
 ghost use Rattle.cert_text.specs.Drafts.{SpellsClaim, SpellsSelection};
 ghost use Rattle.cert_text.specs.LineForms.{claim_line, selection_line};
-ghost use Rattle.input_space.specs.Readings.{IsReading};
+ghost use Rattle.clause_base.specs.Readings.{IsReading};
 
 use crate::NoMemory;
 use crate::cert::Claim;
 use crate::choices::{choices, write_choices};
-use crate::numbers::{number_within, write_number};
-use crate::words::behind;
 use choice_tree::{Choice, Selection};
 use std::alloc::Global;
+use step_lines::numbers::{number_within, write_number};
+use step_lines::words::behind;
 
 /// The greatest cost that is claimed or asked for.
 pub(crate) const GREATEST_COST: u32 = 4096;

@@ -1,39 +1,22 @@
-//! The lines of a formula and of a log.
-ghost use Rattle.std.specs.Prelude.{◌≡◌, ◌∷◌, ◌++◌, [], IfOk, OnOk, MatchOption, false};
-ghost use Rattle.clause_base.specs.Literals.{has_no_variable_twice};
-ghost use Rattle.cert_text.specs.Drafts.{SpellsClause, SpellsStep, SpellsVars};
-ghost use Rattle.cert_text.specs.LineForms.{clause_line, step_line, vars_line};
-ghost use Rattle.input_space.specs.Readings.{IsReading};
+//! The lines of a formula.
+ghost use Rattle.std.specs.Prelude.{◌≡◌, ◌∷◌, ◌++◌, [], IfOk, OnOk};
+ghost use Rattle.clause_base.specs.Readings.{IsReading};
+ghost use Rattle.cert_text.specs.Drafts.{SpellsClause, SpellsVars};
+ghost use Rattle.cert_text.specs.LineForms.{clause_line, vars_line};
 
 use crate::NoMemory;
-use crate::distinct::are_distinct;
-use crate::hints::{hints, write_hints};
-use crate::literals::{read_literals, write_literals};
-use crate::numbers::{number, write_number};
-use crate::words::behind;
 use clause_base::clause::Clause;
-use clause_base::lits::Lits;
-use clause_base::log::Step;
 use std::alloc::Global;
+use step_lines::literals::{read_literals, write_literals};
+use step_lines::numbers::{number, write_number};
+use step_lines::steps::clause_of;
+use step_lines::words::behind;
 
 /// The number of variables that the line spells.
 pub(crate) fn read_vars(line: &[u8]) -> Option<u32>
     ensures { IsReading (SpellsVars line.now) result }
 {
     number(behind(line, b"vars ")?)
-}
-
-// The clause of these literals, if no variable stands twice.
-fn clause_of(alloc: Global, lits: Lits) -> Result<Option<Clause>, NoMemory>
-    ensures { IfOk result (λ o. MatchOption o
-        (has_no_variable_twice lits ≡ false)
-        (λ c. c.lits ≡ lits)) }
-{
-    if are_distinct(alloc, lits.as_slice())? {
-        Ok(Some(Clause::new(lits)))
-    } else {
-        Ok(None)
-    }
 }
 
 /// The clause over the first `vars` variables that the line spells.
@@ -52,30 +35,6 @@ pub(crate) fn read_clause(alloc: Global, vars: u32, line: &[u8]) -> Result<Optio
     clause_of(alloc, found.lits)
 }
 
-/// The step over the first `vars` variables, whose clause has this number, that the line spells.
-pub(crate) fn read_step(
-    alloc: Global,
-    vars: u32,
-    own_number: usize,
-    line: &[u8],
-) -> Result<Option<Step>, NoMemory>
-    ensures { IfOk result (λ o. IsReading (SpellsStep vars own_number line.now) o) }
-{
-    let Some(text) = behind(line, b"l") else {
-        return Ok(None);
-    };
-    let Some(found) = read_literals(alloc, vars, text)? else {
-        return Ok(None);
-    };
-    let Some(hints) = hints(alloc, own_number, found.behind)? else {
-        return Ok(None);
-    };
-    let Some(clause) = clause_of(alloc, found.lits)? else {
-        return Ok(None);
-    };
-    Ok(Some(Step { clause, hints }))
-}
-
 /// Adds the line of the number of variables.
 pub(crate) fn write_vars(out: &mut Vec<u8>, vars: u32) -> Result<(), NoMemory>
     ensures { OnOk result (out.new.items ≡ out.old.items ++ (vars_line vars ++ 10 ∷ [])) }
@@ -92,17 +51,6 @@ pub(crate) fn write_clause(out: &mut Vec<u8>, c: &Clause) -> Result<(), NoMemory
 {
     out.push(b'f')?;
     write_literals(out, c.lits.as_slice())?;
-    out.push(b'\n')?;
-    Ok(())
-}
-
-/// Adds the line of a step of a log.
-pub(crate) fn write_step(out: &mut Vec<u8>, s: &Step) -> Result<(), NoMemory>
-    ensures { OnOk result (out.new.items ≡ out.old.items ++ (step_line s.now ++ 10 ∷ [])) }
-{
-    out.push(b'l')?;
-    write_literals(out, s.clause.lits.as_slice())?;
-    write_hints(out, s.hints.as_slice())?;
     out.push(b'\n')?;
     Ok(())
 }

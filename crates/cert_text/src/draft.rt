@@ -4,23 +4,25 @@ ghost use Rattle.cert_text.specs.Drafts.{AddsClaim, AddsSelection, AddsVars, Goe
 ghost use Rattle.std.specs.Prelude.{true};
 ghost use Rattle.std.specs.List.{list_all};
 ghost use Rattle.clause_base.specs.Formulas.{in_range};
-ghost use Rattle.cert_text.specs.Drafts.{IsSession, SpellsClause, SpellsStep, bare, next_number};
+ghost use Rattle.clause_base.specs.Readings.{IsReading};
+ghost use Rattle.step_lines.specs.Steps.{SpellsStep};
+ghost use Rattle.cert_text.specs.Drafts.{IsSession, SpellsClause, bare, next_number};
 ghost use Rattle.cert_text.specs.Drafts.{with_session};
 ghost use Rattle.cert_text.specs.declared.draft.Draft.TheVariants as draft;
-ghost use Rattle.input_space.specs.Readings.{IsReading};
 
 use crate::NoMemory;
 use crate::cases::read_case_line;
 use crate::cert::{Cert, Claim};
 use crate::claims::{read_claim, read_selection};
-use crate::clauses::{read_clause, read_step, read_vars};
+use crate::clauses::{read_clause, read_vars};
 use crate::queries::read_query;
 use choice_tree::Selection;
 use clause_base::clause::Clause;
 use clause_base::formula::{Clauses, Formula};
 use clause_base::log::{Log, Step, Steps};
 use input_space::{Cases, Query, Session, Sessions};
-use std::alloc::{AllocError, Global};
+use std::alloc::Global;
+use step_lines::steps::read_step;
 
 /// A certificate of which the first lines were read.
 #[derive(Drop)]
@@ -154,25 +156,18 @@ fn more_clauses(alloc: Global, session: &Session, line: &[u8]) -> Result<Option<
     read_clause(alloc, session.formula.vars, line)
 }
 
-// The number of the next clause. Where it is too great for the machine, memory is wanting.
-fn number_of_next(session: &Session) -> Result<usize, NoMemory>
-    ensures { IfOk result (λ n. n ≡ next_number session.now) }
+// The number of the next clause.
+fn number_of_next(session: &Session) -> usize
+    ensures { result ≡ next_number session.now }
 {
-    let steps = session.log.steps.len();
-    let Some(before) = session.formula.clauses.len().checked_add(steps) else {
-        return Err(AllocError);
-    };
-    match before.checked_add(1) {
-        Some(next) => Ok(next),
-        None => Err(AllocError),
-    }
+    session.formula.clauses.count() as usize + session.log.steps.count() as usize + 1
 }
 
 fn more_steps(alloc: Global, session: &Session, line: &[u8]) -> Result<Option<Step>, NoMemory>
     ensures { IfOk result (λ o. IsReading (SpellsStep session.now.formula.vars
         (next_number session.now) line.now) o) }
 {
-    let own_number = number_of_next(session)?;
+    let own_number = number_of_next(session);
     read_step(alloc, session.formula.vars, own_number, line)
 }
 

@@ -1,5 +1,5 @@
-//! A law of certificates, the contract of a function that does nothing.
-ghost use Rattle.cert_text.specs.CertLaws.{OneCert};
+//! Laws of certificates, the contracts of functions that do nothing.
+ghost use Rattle.cert_text.specs.CertLaws.{CaseByLine, OneCert};
 
 use input_space::one_case;
 
@@ -9,3 +9,8 @@ pub fn one_cert()
 {
     one_case();
 }
+
+/// In lines that spell a certificate the line of a case spells that case.
+pub fn case_by_line()
+    ensures { CaseByLine }
+{}

@@ -2,18 +2,18 @@
 ghost use Rattle.std.specs.Prelude.{◌≡◌, ◌≤◌, ◌∷◌, ◌++◌, [], IfOk, IfSome, OnOk};
 ghost use Rattle.std.specs.Fmt.{decimal};
 ghost use Rattle.cert_text.specs.Drafts.{SpellsQuery};
-ghost use Rattle.cert_text.specs.Lines.{spaced};
+ghost use Rattle.clause_base.specs.Readings.{IsReading};
+ghost use Rattle.step_lines.specs.Lines.{spaced};
 ghost use Rattle.cert_text.specs.LineForms.{most_text, query_line};
 ghost use Rattle.cert_text.specs.Words.{AsksFail, AsksLow, SpellsLow, SpellsMost};
-ghost use Rattle.input_space.specs.Readings.{IsReading};
 
 use crate::NoMemory;
 use crate::choices::{choices, write_choices};
 use crate::claims::GREATEST_COST;
-use crate::numbers::{number, number_within, write_number};
-use crate::words::{behind, next_word};
 use input_space::Query;
 use std::alloc::Global;
+use step_lines::numbers::{number, number_within, write_number};
+use step_lines::words::{behind, next_word};
 
 // The greatest cost that is asked for, if there is one.
 fn most(word: &[u8]) -> Option<Option<u32>>

@@ -3,14 +3,14 @@ ghost use Rattle.std.specs.Prelude.{◌≡◌, ◌≤◌, ℕ, [], length, Err, 
 ghost use Rattle.cert_text.specs.Certificates.{IsCertOf, StopsAt};
 ghost use Rattle.cert_text.specs.declared.cert.Cert.{Cert as AnyCert};
 ghost use Rattle.cert_text.specs.declared.draft.Draft.TheVariants as draft;
-ghost use Rattle.input_space.specs.Readings.{IsReading};
+ghost use Rattle.clause_base.specs.Readings.{IsReading};
 ghost use Rattle.cert_text.specs.declared.cert.CertError.TheVariants as cert_error;
 
 use crate::cert::{Cert, CertError};
 use crate::draft::Draft;
-use crate::words::next_line;
 use input_space::one_case;
 use std::alloc::Global;
+use step_lines::words::next_line;
 
 // The certificate of a draft, if its end was read and nothing stands behind it.
 fn whole(last: Draft, rest: &[u8]) -> Option<Cert>

@@ -3,19 +3,21 @@ ghost use Rattle.std.specs.Prelude.{◌≡◌, ◌++◌, IfOk, OnOk, map};
 ghost use Rattle.cert_text.specs.Certificates.{IsCertOf, WritesCases, front_lines, session_lines};
 ghost use Rattle.cert_text.specs.Certificates.{sessions_lines};
 ghost use Rattle.cert_text.specs.Limits.{KeepsForm};
-ghost use Rattle.cert_text.specs.LineForms.{clause_line, step_line};
-ghost use Rattle.cert_text.specs.Lines.{ended};
+ghost use Rattle.step_lines.specs.LineForms.{step_line};
+ghost use Rattle.step_lines.specs.Lines.{ended};
+ghost use Rattle.cert_text.specs.LineForms.{clause_line};
 
 use crate::NoMemory;
 use crate::cases::write_case;
 use crate::cert::{Cert, Claim};
 use crate::claims::{write_claim, write_selection};
-use crate::clauses::{write_clause, write_step, write_vars};
+use crate::clauses::{write_clause, write_vars};
 use crate::queries::write_query;
 use clause_base::formula::Clauses;
 use clause_base::log::Steps;
 use input_space::{Case, Session};
 use std::alloc::Global;
+use step_lines::steps::write_step;
 
 fn write_clauses(out: &mut Vec<u8>, clauses: &Clauses) -> Result<(), NoMemory>
     ensures { OnOk result

@@ -2,10 +2,10 @@ use Rattle.std.proofs.Common.{◌≡◌, ◌<◌, ◌≤◌, ◌++◌, ◌∷◌
 use Rattle.choice_tree.specs.Choices.{Rises}
 use Rattle.cert_text.specs.Limits.{is_choice}
 use Rattle.cert_text.specs.LineForms.{choice_text}
-use Rattle.cert_text.proofs.Apart.{is_not_nil}
+use Rattle.step_lines.proofs.Apart.{is_not_nil}
+use Rattle.step_lines.proofs.Rows.{Words, one_word_more}
 use Rattle.cert_text.proofs.ListsRead.{no_choice, no_choice_word, no_rise}
 use Rattle.cert_text.proofs.Rising.{behind_picks, picks_more, rises_more}
-use Rattle.cert_text.proofs.Rows.{Words, one_word_more}
 use Rattle.cert_text.proofs.choices.choices.Goals as goal
 
 pub returns-in_default : goal.returns-in_default

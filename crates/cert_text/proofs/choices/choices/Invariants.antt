@@ -2,7 +2,7 @@ use Rattle.std.specs.Prelude.{◌≡◌, length}
 use Rattle.choice_tree.specs.Choices.{Rises}
 use Rattle.cert_text.specs.Limits.{is_choice}
 use Rattle.cert_text.specs.LineForms.{choice_text}
-use Rattle.cert_text.proofs.Rows.{Words}
+use Rattle.step_lines.proofs.Rows.{Words}
 use Rattle.cert_text.proofs.Rising.{behind_picks}
 use Rattle.cert_text.proofs.choices.choices.Given as goal
 

@@ -1,6 +1,6 @@
 use Rattle.std.proofs.Common.{codes}
 use Rattle.cert_text.proofs.LinesRead.{no_claim}
-use Rattle.cert_text.proofs.ListsRead.{unequal}
+use Rattle.step_lines.proofs.ListsRead.{unequal}
 use Rattle.cert_text.proofs.claims.read_claim.Goals as goal
 
 pub returns-in_err-text : goal.returns-in_err-text

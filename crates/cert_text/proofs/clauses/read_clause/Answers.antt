@@ -1,4 +1,4 @@
-use Rattle.cert_text.proofs.Apart.{is_nil, is_not_nil}
+use Rattle.step_lines.proofs.Apart.{is_nil, is_not_nil}
 use Rattle.cert_text.proofs.ClausesRead.{clause_behind, clause_read}
 use Rattle.cert_text.proofs.clauses.read_clause.Goals as goal
 

@@ -1,4 +1,4 @@
-use Rattle.cert_text.proofs.Apart.{is_not_nil}
+use Rattle.step_lines.proofs.Apart.{is_not_nil}
 use Rattle.cert_text.proofs.LinesRead.{few_cases, no_bound, no_cases, no_third}
 use Rattle.cert_text.proofs.queries.read_low.Goals as goal
 

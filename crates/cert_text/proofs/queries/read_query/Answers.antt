@@ -1,6 +1,6 @@
 use Rattle.std.proofs.Common.{codes}
 use Rattle.cert_text.proofs.LinesRead.{fail_read, low_read, no_query}
-use Rattle.cert_text.proofs.ListsRead.{unequal}
+use Rattle.step_lines.proofs.ListsRead.{unequal}
 use Rattle.cert_text.proofs.queries.read_query.Goals as goal
 
 pub returns-in-Some : goal.returns-in-Some

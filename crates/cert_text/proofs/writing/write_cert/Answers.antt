@@ -1,6 +1,6 @@
 use Rattle.std.proofs.Common.{◌++◌, ap, ◌∙◌, subst}
 use Rattle.cert_text.specs.Certificates.{WritesCases, sessions_lines}
-use Rattle.cert_text.specs.Lines.{ended}
+use Rattle.step_lines.specs.Lines.{ended}
 use Rattle.cert_text.proofs.Written.{cert_written}
 use Rattle.cert_text.proofs.writing.write_cert.Goals as goal
 

@@ -1,6 +1,6 @@
 use Rattle.std.proofs.Common.{◌≡◌, ◌++◌, take}
 use Rattle.cert_text.specs.Certificates.{sessions_lines}
-use Rattle.cert_text.specs.Lines.{ended}
+use Rattle.step_lines.specs.Lines.{ended}
 use Rattle.cert_text.proofs.writing.write_sessions.Given as goal
 
 abbrev pub invariant-loop-s : goal.invariant-loop-s

@@ -1,4 +1,4 @@
-use Rattle.cert_text.specs.LineForms.{step_line}
+use Rattle.step_lines.specs.LineForms.{step_line}
 use Rattle.cert_text.proofs.Growing.{written_more}
 use Rattle.cert_text.proofs.writing.write_steps.Goals as goal
 

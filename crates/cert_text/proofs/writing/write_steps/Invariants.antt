@@ -1,6 +1,6 @@
 use Rattle.std.proofs.Common.{◌≡◌, ◌++◌, take, map}
-use Rattle.cert_text.specs.LineForms.{step_line}
-use Rattle.cert_text.specs.Lines.{ended}
+use Rattle.step_lines.specs.LineForms.{step_line}
+use Rattle.step_lines.specs.Lines.{ended}
 use Rattle.cert_text.proofs.writing.write_steps.Given as goal
 
 abbrev pub invariant-loop-i : goal.invariant-loop-i

@@ -1,0 +1,5 @@
+pub mod Lines
+pub mod LineForms
+pub mod Limits
+pub mod Words
+pub mod Steps
