@@ -1,0 +1,14 @@
+pub mod Literals
+pub mod Ordered
+pub mod Covered
+pub mod Watching
+pub mod Room
+pub mod Members
+pub mod Deciding
+pub mod Quiet
+pub mod Chains
+pub mod Growing
+pub mod Backing
+pub mod Values
+pub mod Visiting
+pub mod Bounded
