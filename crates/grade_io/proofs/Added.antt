@@ -16,3 +16,6 @@ rest d text = let whole : length (drop d text) ≤ length text - d = omega (arit
 pub put_more : (old mid new : Option (List ℕ)) (text : List ℕ) (d n : ℕ) → mid ≡ added old (take d text) → new ≡ added mid (take n (take (length text - d) (drop d text))) → new ≡ added old (take (d + n) text)
 put_more old mid new text d n before now =
     now ∙ ap (λ xs. added mid (take n xs)) (rest d text) ∙ ap (λ o. added o (take n (drop d text))) before ∙ added-added old (take d text) (take n (drop d text)) ∙ ap (λ front. added old front) (sym (take-add d n text))
+
+pub rest_length : (d : ℕ) (text : List ℕ) → length (take (length text - d) (drop d text)) ≡ length text - d
+rest_length d text = ap length (rest d text) ∙ length-drop d text

@@ -2,7 +2,7 @@
 use Rattle.std.specs.Prelude.{◌≡◌, ℕ, Result, Ok, Err}
 use Rattle.grade_io.specs.Plans.{one_more}
 use Rattle.grade_io.specs.declared.counted.Counted.{Counted}
-use Rattle.grade_io.specs.declared.counted.Stall as stall
+use Rattle.grade_io.specs.declared.system.Stall as stall
 use Rattle.grade_io.specs.declared.devices.FetchError as fetch_error
 
 -- the reader or writer, and how many faults were counted

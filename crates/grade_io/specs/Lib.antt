@@ -7,7 +7,10 @@ pub mod Kept
 pub mod Moves
 pub mod Plans
 pub mod PlansInCode
+pub mod PutLaws
+pub mod Puts
 pub mod Says
 pub mod Status
+pub mod Turns
 pub mod Words
 pub mod Written

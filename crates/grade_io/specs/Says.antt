@@ -1,7 +1,9 @@
 -- How the writing of a text ends.
-use Rattle.std.specs.Prelude.{◌≡◌, ℕ, List}
+use Rattle.std.specs.Prelude.{◌≡◌, ℕ, List, Ok, Err}
 use Rattle.grade_io.specs.Devices.{SinkState, Rose}
+use Rattle.grade_io.specs.Puts.{WriteEnd}
 use Rattle.grade_io.specs.Written.{Wrote, WrotePart}
+use Rattle.grade_io.specs.declared.devices.PutError.TheVariants as put_error
 use Rattle.grade_io.specs.declared.status.Status.{Status}
 use Rattle.grade_io.specs.declared.status.Status.TheVariants as status
 
@@ -22,3 +24,17 @@ Says text s before after status.WriteFailed =
     Rose before.faults after.faults × WrotePart before after text
 Says text s before after status.NoMemory = StoodStill before after × WrotePart before after text
 Says text s before after r = (r ≡ s) × StoodStill before after × Wrote before after text
+
+-- how the writing ended, by the status that is answered
+abbrev pub end_of : Status → WriteEnd
+end_of status.WriteFailed = Err put_error.Failed
+end_of status.NoMemory = Err put_error.NoMemory
+end_of status.Correct = Ok tt
+end_of status.Corrected = Ok tt
+end_of status.NoCorrection = Ok tt
+end_of status.Spent = Ok tt
+end_of status.Refused = Ok tt
+end_of status.ReadFailed = Ok tt
+end_of status.Usage = Ok tt
+end_of status.StoreFailed = Ok tt
+end_of status.Rejected = Ok tt

@@ -1,15 +1,15 @@
 //! Readers and writers of the system, with a count of the calls that failed. Only here a fault is
 //! counted for one of them, so nothing else can be told as one.
-ghost use Rattle.std.specs.Prelude.{◌≡◌, ◌<◌, ◌≤◌, ◌↔◌, Ok, Err, IfErr, IfOk, IsErr, IsErrAnd};
-ghost use Rattle.std.specs.Prelude.{OnErr, length, take};
+ghost use Rattle.std.specs.Prelude.{◌≡◌, ◌<◌, ◌≤◌, [], ◌∷◌, Ok, IfOk, IsErr, OnErr, length, take};
 ghost use Rattle.std.specs.Io.KnownBytes.{Appends, Consumes, IsAtEnd, Keeps};
-ghost use Rattle.std.specs.IoError.{error_kind};
 ghost use Rattle.grade_io.specs.Counting.{CallFaults, StallFaults, counted, faults_of, inner_of};
+ghost use Rattle.grade_io.specs.Devices.{added};
 ghost use Rattle.grade_io.specs.Plans.{one_more};
+ghost use Rattle.grade_io.specs.Turns.{Tried};
 
 use crate::plan::count_fault;
+use crate::system::{Input, Output, Stall};
 use std::io;
-use std::io::{ErrorKind, Read, Write};
 
 /// How often a read or a write is tried that a signal interrupts each time.
 const TRIES: u32 = 1000;
@@ -18,45 +18,11 @@ const TRIES: u32 = 1000;
 #[derive(Clone, Copy, Debug, PartialEq, Eq)]
 pub struct Fault;
 
-/// Why one call moved no byte.
-#[derive(Clone, Copy, Debug, PartialEq, Eq)]
-enum Stall {
-    /// A signal interrupted the call. This is no fault.
-    Interrupted,
-    /// The call failed, and was counted.
-    Failed,
-}
-
 /// A reader or a writer of the system, with a count of faults.
 #[derive(Drop)]
 pub struct Counted<T> {
     inner: T,
     faults: u64,
-}
-
-/// Why a call with this error moved no byte.
-fn stall_of(error: io::Error) -> Stall
-    ensures { (result ≡ Stall.Interrupted) ↔ (error_kind error ≡ ErrorKind.Interrupted) }
-{
-    if error.kind() == ErrorKind::Interrupted {
-        Stall::Interrupted
-    } else {
-        Stall::Failed
-    }
-}
-
-/// What a write of a piece that isn't empty comes to: one that took no byte failed.
-fn taken_by(call: io::Result<usize>) -> Result<usize, Stall>
-    ensures ok { IfOk call (λ n. 0 < n → result ≡ Ok n) }
-    ensures none { IfOk call (λ n. n ≡ 0 → result ≡ Err Stall.Failed) }
-    ensures err { IfErr call (λ e. IsErrAnd result (λ s. (s ≡ Stall.Interrupted)
-        ↔ (error_kind e ≡ ErrorKind.Interrupted))) }
-{
-    match call {
-        Ok(0) => Err(Stall::Failed),
-        Ok(count) => Ok(count),
-        Err(error) => Err(stall_of(error)),
-    }
 }
 
 impl<T> Counted<T> {
@@ -119,8 +85,8 @@ impl<T> Counted<T> {
     }
 }
 
-impl<F: Read> Counted<F> {
-    /// One read.
+impl<F: Input> Counted<F> {
+    /// One read, which is counted where it failed.
     fn read_once(&mut self, buf: &mut [u8]) -> Result<usize, Stall>
         ensures most { IfOk result (λ n. n ≤ length buf.new) }
         ensures ok { IfOk result (λ n. Consumes (F.remaining (inner_of self.old))
@@ -129,9 +95,11 @@ impl<F: Read> Counted<F> {
             → IsAtEnd (F.remaining (inner_of self.new))) }
         ensures err { OnErr result (Keeps (F.remaining (inner_of self.old))
             (F.remaining (inner_of self.new))) }
+        ensures turn { F.turns (inner_of self.new) ≡ added (F.turns (inner_of self.old))
+            (result ∷ []) }
         ensures faults { StallFaults result (faults_of self.old) (faults_of self.new) }
     {
-        let read = self.inner.read(buf).map_err(stall_of);
+        let read = self.inner.read_once(buf);
         self.count(&read);
         read
     }
@@ -145,9 +113,10 @@ impl<F: Read> Counted<F> {
             → IsAtEnd (F.remaining (inner_of self.new))) }
         ensures err { OnErr result (Keeps (F.remaining (inner_of self.old))
             (F.remaining (inner_of self.new))) }
+        ensures calls { Tried result (F.turns (inner_of self.old)) (F.turns (inner_of self.new)) }
         ensures faults { CallFaults result (faults_of self.old) (faults_of self.new) }
     {
-        for _ in 0..TRIES {
+        for _tries in 0..TRIES {
             match self.read_once(buf) {
                 Ok(count) => return Ok(count),
                 Err(Stall::Failed) => return Err(Fault),
@@ -158,8 +127,8 @@ impl<F: Read> Counted<F> {
     }
 }
 
-impl<W: Write> Counted<W> {
-    /// One write. One that takes no byte is a fault.
+impl<W: Output> Counted<W> {
+    /// One write, which is counted where it failed. One that takes no byte failed.
     fn write_once(&mut self, piece: &[u8]) -> Result<usize, Stall>
         ensures most { IfOk result (λ n. n ≤ length piece.now) }
         ensures some { IfOk result (λ n. 0 < n) }
@@ -167,10 +136,12 @@ impl<W: Write> Counted<W> {
             (W.contents (inner_of self.new)) (take n piece.now)) }
         ensures err { OnErr result (Keeps (W.contents (inner_of self.old))
             (W.contents (inner_of self.new))) }
+        ensures turn { W.turns (inner_of self.new) ≡ added (W.turns (inner_of self.old))
+            (result ∷ []) }
         ensures faults { StallFaults result (faults_of self.old) (faults_of self.new) }
         ensures later { faults_of self.old ≤ faults_of self.new }
     {
-        let written = taken_by(self.inner.write(piece));
+        let written = self.inner.write_once(piece);
         self.count(&written);
         written
     }
@@ -184,10 +155,11 @@ impl<W: Write> Counted<W> {
             (W.contents (inner_of self.new)) (take n piece.now)) }
         ensures err { OnErr result (Keeps (W.contents (inner_of self.old))
             (W.contents (inner_of self.new))) }
+        ensures calls { Tried result (W.turns (inner_of self.old)) (W.turns (inner_of self.new)) }
         ensures faults { CallFaults result (faults_of self.old) (faults_of self.new) }
         ensures later { faults_of self.old ≤ faults_of self.new }
     {
-        for _ in 0..TRIES {
+        for _tries in 0..TRIES {
             match self.write_once(piece) {
                 Ok(count) => return Ok(count),
                 Err(Stall::Failed) => return Err(Fault),

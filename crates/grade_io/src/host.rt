@@ -1,7 +1,8 @@
 //! The real files and the standard output. What they hold isn't told.
 //!
 //! What is said of a read or a write stands in `counted` and `whole`, over any reader and writer.
-//! Here files are opened by the names that were given, and nothing is decided.
+//! Here files are opened by the names that were given, their calls' answers are handed on, and
+//! nothing is decided.
 ghost use Rattle.std.specs.Prelude.{◌≡◌, None, false};
 ghost use Rattle.grade_io.specs.Counting.{faults_of};
 
@@ -56,7 +57,7 @@ impl<R: Files> Shelf for HostShelf<'_, R> {
         let mut file = Counted::opened(fs::create(self.rt, name), &mut self.faults)?;
         let stored = write_whole(&mut file, bytes);
         self.faults = file.faults();
-        Ok(stored?)
+        stored
     }
 }
 
@@ -86,6 +87,6 @@ impl<R: Print> Sink for HostSink<'_, R> {
     } };
 
     fn put(&mut self, piece: &[u8]) -> Result<usize, PutError> {
-        Ok(put_piece(&mut self.out, piece)?)
+        put_piece(&mut self.out, piece)
     }
 }

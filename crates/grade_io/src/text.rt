@@ -1,7 +1,8 @@
 //! Writing a text whole, by as many puts as it takes, and the status that this ends with.
 ghost use Rattle.std.specs.Prelude.{◌≡◌, ◌≤◌, IfOk, OnOk};
 ghost use Rattle.grade_io.specs.Faults.{PutFaults};
-ghost use Rattle.grade_io.specs.Says.{IsOfText, Says};
+ghost use Rattle.grade_io.specs.Puts.{PutsSo};
+ghost use Rattle.grade_io.specs.Says.{IsOfText, Says, end_of};
 ghost use Rattle.grade_io.specs.Words.{refusal_line};
 ghost use Rattle.grade_io.specs.Written.{Wrote, WrotePart};
 
@@ -18,6 +19,9 @@ pub fn write_text<K: Sink>(out: &mut K, text: &[u8]) -> Result<(), PutError>
     // The count never falls. It rose where the answer is `Failed`, and else it is as it was.
     ensures later { (K.seen out.old).faults ≤ (K.seen out.new).faults }
     ensures faults { PutFaults result (K.seen out.old).faults (K.seen out.new).faults }
+    // Where the plan of failures and the share of a put are told, the puts are those by which each
+    // is handed all that is left.
+    ensures puts { PutsSo text.now (K.seen out.old) (K.seen out.new) result }
 {
     let mut done = 0;
     'put: while done < text.len() {
@@ -29,7 +33,8 @@ pub fn write_text<K: Sink>(out: &mut K, text: &[u8]) -> Result<(), PutError>
 /// Writes a text, and ends with its status where all of it was written.
 pub fn say<K: Sink>(out: &mut K, text: &[u8], status: Status) -> Status
     requires { IsOfText status }
-    ensures { Says text.now status (K.seen out.old) (K.seen out.new) result }
+    ensures says { Says text.now status (K.seen out.old) (K.seen out.new) result }
+    ensures puts { PutsSo text.now (K.seen out.old) (K.seen out.new) (end_of result) }
 {
     match write_text(out, text) {
         Ok(()) => status,

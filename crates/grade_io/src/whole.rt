@@ -1,17 +1,18 @@
 //! Reading a file to its end, writing one whole and putting a piece, over any reader and writer.
 ghost use Rattle.std.specs.Prelude.{◌≡◌, ◌≢◌, ◌+◌, ◌<◌, ◌≤◌, ℕ, List, IsErrOf, IsOkAnd, Err};
-ghost use Rattle.std.specs.Prelude.{IfOk, IfSome, OnErr, OnOk, length, take, vec_len};
+ghost use Rattle.std.specs.Prelude.{IfErr, IfOk, IfSome, OnErr, OnOk, length, take, vec_len};
 ghost use Rattle.std.specs.Io.KnownBytes.{Appends, Consumes, IsAtEnd, Keeps};
 ghost use Rattle.grade_io.specs.Counting.{CallFaults, ReadFaults, faults_of, inner_of};
 ghost use Rattle.grade_io.specs.Moves.{AppendsFront, TakesSo};
+ghost use Rattle.grade_io.specs.Turns.{ReadsBy, Tried, WritesBy};
 
-use crate::counted::{Counted, Fault};
-use crate::devices::FetchError;
+use crate::counted::Counted;
+use crate::devices::{FetchError, PutError, StoreError};
+use crate::system::{Input, Output};
 use std::alloc::Global;
-use std::io::{Read, Write};
 
 /// Reads to the end of the file, or one byte past `most`.
-fn read_within<F: Read>(
+fn read_within<F: Input>(
     file: &mut Counted<F>,
     alloc: Global,
     most: u64,
@@ -26,6 +27,7 @@ fn read_within<F: Read>(
     ensures whole { IfOk result (λ v. vec_len v ≤ most
         → IsAtEnd (F.remaining (inner_of file.new))) }
     ensures faults { ReadFaults result (faults_of file.old) (faults_of file.new) }
+    ensures calls { ReadsBy result (F.turns (inner_of file.old)) (F.turns (inner_of file.new)) }
 {
     let mut bytes = Vec::new(alloc);
     let mut buf = [0u8; 4096];
@@ -46,7 +48,7 @@ fn read_within<F: Read>(
 /// # Errors
 ///
 /// `Failed` where a read failed, `Long` where the file goes on behind `most` bytes.
-pub fn read_whole<F: Read>(
+pub fn read_whole<F: Input>(
     file: &mut Counted<F>,
     alloc: Global,
     most: u64,
@@ -62,8 +64,9 @@ pub fn read_whole<F: Read>(
         → IfSome (F.remaining (inner_of file.old)) (λ all. most < length all) }
     ensures taken { IsErrOf result FetchError.Long
         → TakesSo (F.remaining (inner_of file.old)) (F.remaining (inner_of file.new)) (most + 1) }
-    // A read that failed is one fault, and nothing else is any.
+    // A read that failed is one fault, and nothing else is any. It is the last.
     ensures faults { ReadFaults result (faults_of file.old) (faults_of file.new) }
+    ensures calls { ReadsBy result (F.turns (inner_of file.old)) (F.turns (inner_of file.new)) }
 {
     let bytes = read_within(file, alloc, most)?;
     if bytes.len() as u64 > most {
@@ -86,7 +89,11 @@ pub(crate) fn taken_of(read: &Result<Vec<u8>, FetchError>, most: u64) -> u64
 }
 
 /// Writes bytes from the front of the piece, and answers how many. A write of no byte is a fault.
-pub fn put_piece<W: Write>(out: &mut Counted<W>, piece: &[u8]) -> Result<usize, Fault>
+///
+/// # Errors
+///
+/// `Failed` where the write failed.
+pub fn put_piece<W: Output>(out: &mut Counted<W>, piece: &[u8]) -> Result<usize, PutError>
     ensures most { IfOk result (λ n. n ≤ length piece.now) }
     ensures some { IfOk result (λ n. 0 < length piece.now → 0 < n) }
     ensures bytes { IfOk result (λ n. Appends (W.contents (inner_of out.old))
@@ -94,29 +101,40 @@ pub fn put_piece<W: Write>(out: &mut Counted<W>, piece: &[u8]) -> Result<usize, 
     ensures kept { OnErr result (Keeps (W.contents (inner_of out.old))
         (W.contents (inner_of out.new))) }
     ensures empty { length piece.now ≡ 0 → IsOkAnd result (λ n. n ≡ 0) }
-    // A write that failed is one fault, and isn't tried again.
+    ensures failed { IfErr result (λ e. e ≡ PutError.Failed) }
+    // A write that failed is one fault, and isn't made again; an empty piece makes none.
     ensures faults { CallFaults result (faults_of out.old) (faults_of out.new) }
     ensures later { faults_of out.old ≤ faults_of out.new }
+    ensures calls { 0 < length piece.now
+        → Tried result (W.turns (inner_of out.old)) (W.turns (inner_of out.new)) }
+    ensures no_call { length piece.now ≡ 0
+        → W.turns (inner_of out.new) ≡ W.turns (inner_of out.old) }
 {
     if piece.is_empty() {
         return Ok(0);
     }
-    out.write_some(piece)
+    Ok(out.write_some(piece)?)
 }
 
 /// Writes all of the bytes. A write of no byte is a fault.
-pub fn write_whole<W: Write>(file: &mut Counted<W>, bytes: &[u8]) -> Result<(), Fault>
+///
+/// # Errors
+///
+/// `Failed` where a write failed.
+pub fn write_whole<W: Output>(file: &mut Counted<W>, bytes: &[u8]) -> Result<(), StoreError>
     // All were appended where the answer is Ok, and else a front of them.
     ensures bytes { OnOk result (Appends (W.contents (inner_of file.old))
         (W.contents (inner_of file.new)) bytes.now) }
     ensures front { AppendsFront (W.contents (inner_of file.old))
         (W.contents (inner_of file.new)) bytes.now }
-    // A write that failed is one fault, and isn't tried again.
+    ensures failed { IfErr result (λ e. e ≡ StoreError.Failed) }
+    // A write that failed is one fault, and is the last.
     ensures faults { CallFaults result (faults_of file.old) (faults_of file.new) }
+    ensures calls { WritesBy result (W.turns (inner_of file.old)) (W.turns (inner_of file.new)) }
 {
     let mut done = 0;
     'write: while done < bytes.len() {
-        done += put_piece(file, &bytes[done..])?;
+        done += file.write_some(&bytes[done..])?;
     }
     Ok(())
 }
