@@ -5,11 +5,11 @@ use Rattle.grade_io.specs.Written.{Wrote}
 use Rattle.grade_io.specs.declared.status.Status.{Status}
 use Rattle.grade_io.specs.declared.status.Status.TheVariants as status
 use Rattle.mpy_tree.specs.declared.refusal.Refusal.{Refusal}
-use Rattle.source_files.specs.Files.{SourceFile}
+use Rattle.source_files.specs.Files.{SourceFile, sources_of}
 use Rattle.source_files.specs.Texts.{AllFit, AreHeld, Tells}
 use Rattle.file_commands.specs.Claims.{AreTold, IsSaid, NoFault}
 use Rattle.file_commands.specs.Commands.{FileCommand, Outcome, Answered, Refused, status_of, text_of}
-use Rattle.file_commands.specs.Ends.{ComesOf, ComesOfFiles, Ends, IsFirstRefusal}
+use Rattle.file_commands.specs.Ends.{ComesOf, ComesOfFiles, Ends, EndsBySaying, IsFirstRefusal}
 use Rattle.file_commands.proofs.FirstRefusals.{not_first, one_refusal}
 
 -- a call that ends by saying, with no fault: what it said
@@ -30,13 +30,23 @@ told_texts shelf (f ∷ fs) (t ∷ ts) (u ∷ us) tells held =
     ap (λ x. x ∷ us) (held.0 t tells.0) ∙ ap (λ xs. t ∷ xs) (told_texts shelf fs ts us tells.1 held.1)
 
 module _ {A : Type 0} (c : FileCommand A) where
+  is_saying : (before after : Devices) (s : Status) → (ends : EndsBySaying c before after s) → s ≡ status_of c ends.outcome
+      → Wrote before.sink after.sink (text_of c ends.outcome) → IsSaying c before after s
+  is_saying before after s ends is wrote = record { outcome = ends.outcome; comes = ends.comes; status_is = is; wrote = wrote }
+
   -- without a fault a call says something, or memory lacked
   pub says_or_lacks : (before after : Devices) (s : Status) → Ends c before after s → NoFault before after → (s ≡ status.NoMemory) ⊎ IsSaying c before after s
   says_or_lacks before after status.ReadFailed ends sure = absurd (sure.shelf ends.rose)
-  says_or_lacks before after status.WriteFailed ends sure = absurd (sure.sink ends.1.says.0)
+  says_or_lacks before after status.WriteFailed ends sure = absurd (sure.sink ends.says.0)
   says_or_lacks before after status.NoMemory ends sure = inl refl
-  says_or_lacks before after status.StoreFailed ends sure = absurd ends
-  says_or_lacks before after s ends sure = inr (record { outcome = ends.1.outcome; comes = ends.1.comes; status_is = ends.1.says.0; wrote = ends.1.says.2 })
+  says_or_lacks before after status.StoreFailed ends sure = absurd (sure.shelf (subst (λ n. Rose n after.shelf.faults) ends.well ends.rose))
+  says_or_lacks before after status.Correct ends sure = inr (is_saying before after status.Correct ends ends.says.0 ends.says.2)
+  says_or_lacks before after status.Corrected ends sure = inr (is_saying before after status.Corrected ends ends.says.0 ends.says.2)
+  says_or_lacks before after status.NoCorrection ends sure = inr (is_saying before after status.NoCorrection ends ends.says.0 ends.says.2)
+  says_or_lacks before after status.Spent ends sure = inr (is_saying before after status.Spent ends ends.says.0 ends.says.2)
+  says_or_lacks before after status.Refused ends sure = inr (is_saying before after status.Refused ends ends.says.0 ends.says.2)
+  says_or_lacks before after status.Usage ends sure = inr (is_saying before after status.Usage ends ends.says.0 ends.says.2)
+  says_or_lacks before after status.Rejected ends sure = inr (is_saying before after status.Rejected ends ends.says.0 ends.says.2)
 
   -- what comes of told texts
   pub told_comes : (before after : ShelfState) (ts : List (List ℕ)) (o : Outcome A) → Tells before c.files ts → ComesOfFiles c before after o → ComesOf c ts after o
@@ -54,14 +64,14 @@ module _ {A : Type 0} (c : FileCommand A) where
 
   -- the usage isn't answered where no answer has its status
   pub never_usage : (before after : Devices) → ((a : A) → status.Usage ≡ c.status a → ⊥) → Ends c before after status.Usage → ⊥
-  never_usage before after never ends = no_usage never ends.1.outcome ends.1.says.0
+  never_usage before after never ends = no_usage never ends.outcome ends.says.0
 
   pub read_failed : (before after : Devices) (s : Status) → Ends c before after s → s ≡ status.ReadFailed → Rose before.shelf.faults after.shelf.faults
   read_failed before after s ends is = (subst (Ends c before after) is ends).rose
 
 module _ {A : Type 0} (c : FileCommand A) (ts : List (List ℕ)) (before after : Devices) (s : Status) where
   -- what the texts decide is answered
-  outcome_answered : (P : Status → Type 0) → AllFit ts → ((a : A) → c.decides ts a → Wrote before.sink after.sink (c.text a) → P (c.status a)) → ((r : Refusal) → c.refuses ts r → ⊥)
+  outcome_answered : (P : Status → Type 0) → AllFit (sources_of c.files) ts → ((a : A) → c.decides ts a → Wrote before.sink after.sink (c.text a) → P (c.status a)) → ((r : Refusal) → c.refuses ts r → ⊥)
       → (o : Outcome A) → ComesOf c ts after.shelf o → Wrote before.sink after.sink (text_of c o) → P (status_of c o)
   outcome_answered P fit given none (Answered a) comes wrote = given a comes.1 wrote
   outcome_answered P fit given none (Refused r) comes wrote = absurd (not_first c ts r (none r) fit (first_refusal c ts after.shelf r comes))

@@ -1,3 +1,4 @@
+pub mod Calling
 pub mod Claims
 pub mod Endings
 pub mod FirstRefusals

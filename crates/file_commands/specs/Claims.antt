@@ -4,7 +4,7 @@ use Rattle.grade_io.specs.Devices.{Devices, SinkState, Rose}
 use Rattle.grade_io.specs.Written.{Wrote}
 use Rattle.grade_io.specs.declared.status.Status.{Status}
 use Rattle.grade_io.specs.declared.status.Status.TheVariants as status
-use Rattle.source_files.specs.Files.{SourceFile}
+use Rattle.source_files.specs.Files.{SourceFile, sources_of}
 use Rattle.source_files.specs.Texts.{AllFit, Tells}
 
 -- no count of faults rose
@@ -15,7 +15,7 @@ pub record NoFault (before after : Devices) : Type 0 where
 -- the texts of the files are told and fit
 pub record AreTold (before : Devices) (fs : List SourceFile) (ts : List (List ℕ)) : Type 0 where
   pub tells : Tells before.shelf fs ts
-  pub fit : AllFit ts
+  pub fit : AllFit (sources_of fs) ts
 
 -- this text is written whole, with its status, and nothing else; want of memory stays possible
 abbrev pub IsSaid : List ℕ → Status → SinkState → SinkState → Status → Type 0

@@ -1,4 +1,6 @@
+pub mod Calls
 pub mod Claims
 pub mod Commands
 pub mod Ends
+pub mod Keeping
 pub mod Reports

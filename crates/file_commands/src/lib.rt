@@ -5,6 +5,6 @@ mod ending;
 mod lines;
 mod report;
 
-pub use ending::end;
+pub use ending::{end, end_at_once};
 pub use lines::Lines;
 pub use report::Report;

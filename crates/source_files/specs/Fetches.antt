@@ -9,9 +9,9 @@ use Rattle.mpy_tree.specs.declared.refusal.Source.{Source}
 use Rattle.mpy_tree.specs.declared.refusal.Refusal.{Refusal}
 use Rattle.source_files.specs.declared.stop.Stop.{Stop}
 use Rattle.source_files.specs.declared.stop.Stop.TheVariants as stop
-use Rattle.source_files.specs.Files.{SourceFile, fetches}
+use Rattle.source_files.specs.Files.{SourceFile, fetches, limit_of, sources_of}
 use Rattle.source_files.specs.Refusing.{refusal}
-use Rattle.source_files.specs.Texts.{AreHeld, IsTooLong, TookTooMuch, source_limit}
+use Rattle.source_files.specs.Texts.{AreHeld, IsTooLong, TookTooMuch}
 
 -- what stops at a source whose fetch gave this error
 abbrev pub stop_of : Source → FetchError → Stop
@@ -38,10 +38,6 @@ ReadFaults (Ok x) before after = after.faults ≡ before.faults
 ReadFaults (Err (stop.Refused r)) before after = after.faults ≡ before.faults
 ReadFaults (Err stop.NoMemory) before after = after.faults ≡ before.faults
 
--- the files hold what they held
-abbrev pub FilesKept : ShelfState → ShelfState → Type 0
-FilesKept before after = after.holds ≡ before.holds
-
 -- the call was added to the list, but that one that found no memory may be left out
 abbrev pub MadeOneFetch : {T : Type 0} → Result T Stop → ShelfCall → Option (List ShelfCall)
     → Option (List ShelfCall) → Type 0
@@ -51,14 +47,19 @@ MadeOneFetch (Err stop.Failed) call old new = new ≡ added old (call ∷ [])
 MadeOneFetch (Err (stop.Refused r)) call old new = new ≡ added old (call ∷ [])
 
 -- the calls that were made are the first of the fetches of the files, in order
-abbrev pub CallsInOrder : List SourceFile → ShelfState → ShelfState → Type 0
-CallsInOrder fs before after = (n : ℕ) × (after.calls ≡ added before.calls (take n (fetches fs)))
+abbrev pub FetchesInOrder : List SourceFile → ShelfState → ShelfState → Type 0
+FetchesInOrder fs before after =
+    (n : ℕ) × (after.calls ≡ added before.calls (take n (fetches fs)))
+
+-- the calls that were made are the fetches of all files, in order
+abbrev pub FetchedAll : List SourceFile → ShelfState → ShelfState → Type 0
+FetchedAll fs before after = after.calls ≡ added before.calls (fetches fs)
 
 -- the file is too long, where it is told, and is refused for that
 pub record IsLongFile (f : SourceFile) (before after : ShelfState) (r : Refusal) : Type 0 where
   pub refusal_is : r ≡ refusal f.source cause.Long 0
-  pub told : (text : List ℕ) → before.holds f.word ≡ Some text → source_limit < length text
-  pub taken : TookTooMuch after
+  pub told : (text : List ℕ) → before.holds f.word ≡ Some text → limit_of f.source < length text
+  pub taken : TookTooMuch f.source after
 
 -- There are texts, those of the files where these are told, the first of which that is too long is
 -- so.
@@ -66,5 +67,5 @@ pub record IsLongSource (fs : List SourceFile) (before after : ShelfState) (r : 
     : Type 0 where
   pub texts : List (List ℕ)
   pub held : AreHeld before fs texts
-  pub long : IsTooLong fs texts r
-  pub taken : TookTooMuch after
+  pub long : IsTooLong (sources_of fs) texts r
+  pub taken : TookTooMuch r.source after

@@ -5,32 +5,32 @@ use Rattle.grade_io.specs.Kept.{Holds}
 use Rattle.mpy_tree.specs.declared.refusal.Cause.TheVariants as cause
 use Rattle.mpy_tree.specs.declared.refusal.Source.{Source}
 use Rattle.mpy_tree.specs.declared.refusal.Refusal.{Refusal}
-use Rattle.source_files.specs.Files.{SourceFile}
+use Rattle.source_files.specs.Files.{SourceFile, limit_of}
 
--- a source may have this many bytes
-abbrev pub source_limit : ℕ
-source_limit = 65536
+-- the text has no more bytes than its source may have
+abbrev pub Fits : Source → List ℕ → Type 0
+Fits s text = length text ≤ limit_of s
 
-abbrev pub Fits : List ℕ → Type 0
-Fits text = length text ≤ source_limit
+abbrev pub IsLong : Source → List ℕ → Type 0
+IsLong s text = limit_of s < length text
 
-abbrev pub IsLong : List ℕ → Type 0
-IsLong text = source_limit < length text
+-- there is a text of each source, and it fits
+abbrev pub AllFit : List Source → List (List ℕ) → Type 0
+AllFit [] [] = Unit {0}
+AllFit [] (t ∷ ts) = ⊥
+AllFit (s ∷ ss) [] = ⊥
+AllFit (s ∷ ss) (t ∷ ts) = Fits s t × AllFit ss ts
 
-abbrev pub AllFit : List (List ℕ) → Type 0
-AllFit [] = Unit {0}
-AllFit (t ∷ ts) = Fits t × AllFit ts
-
--- the first of the files whose text is too long is this source
-abbrev pub IsFirstLong : List SourceFile → List (List ℕ) → Source → Type 0
+-- the first of the sources whose text is too long is this one
+abbrev pub IsFirstLong : List Source → List (List ℕ) → Source → Type 0
 IsFirstLong [] ts s = ⊥
-IsFirstLong (f ∷ fs) [] s = ⊥
-IsFirstLong (f ∷ fs) (t ∷ ts) s =
-    (IsLong t × (f.source ≡ s)) ⊎ (Fits t × IsFirstLong fs ts s)
+IsFirstLong (q ∷ qs) [] s = ⊥
+IsFirstLong (q ∷ qs) (t ∷ ts) s =
+    (IsLong q t × (q ≡ s)) ⊎ (Fits q t × IsFirstLong qs ts s)
 
 -- the refusal of the first source that is too long
-pub record IsTooLong (fs : List SourceFile) (ts : List (List ℕ)) (r : Refusal) : Type 0 where
-  pub long : IsFirstLong fs ts r.source
+pub record IsTooLong (ss : List Source) (ts : List (List ℕ)) (r : Refusal) : Type 0 where
+  pub long : IsFirstLong ss ts r.source
   pub cause_is : r.cause ≡ cause.Long
   pub line_is : r.line ≡ 0
 
@@ -48,6 +48,6 @@ AreHeld shelf [] (t ∷ ts) = ⊥
 AreHeld shelf (f ∷ fs) [] = ⊥
 AreHeld shelf (f ∷ fs) (t ∷ ts) = Holds shelf f.word t × AreHeld shelf fs ts
 
--- the last fetch took one byte more than a source may have
-abbrev pub TookTooMuch : ShelfState → Type 0
-TookTooMuch after = after.taken ≡ source_limit + 1
+-- the last fetch took one byte more than the source may have
+abbrev pub TookTooMuch : Source → ShelfState → Type 0
+TookTooMuch s after = after.taken ≡ limit_of s + 1

@@ -1,10 +1,31 @@
-//! A file of a command.
+//! A file of a command, and how long it may be.
+ghost use Rattle.std.specs.Prelude.{◌≡◌, ◌≤◌};
+ghost use Rattle.source_files.specs.Files.{limit_of};
 
 use mpy_tree::Source;
+
+/// How many bytes a source may have.
+const SOURCE_LIMIT: u64 = 65_536;
+
+/// How many bytes a certificate may have.
+const CERT_LIMIT: u64 = 1_073_741_824;
 
 /// A file that a command reads: what it is to the command, and the word that names it.
 #[derive(Clone, Copy)]
 pub struct File<'a> {
     pub source: Source,
     pub word: &'a str,
+}
+
+/// How many bytes a file may have that is this to its command: a certificate 1,073,741,824, and
+/// any other source 65,536.
+pub fn limit_of(source: Source) -> u64
+    ensures value { result ≡ limit_of source }
+    ensures fetched { result ≤ 1073741824 }
+{
+    match source {
+        Source::Bounds | Source::Reference | Source::Submission | Source::Rules | Source::Word(_) =>
+            SOURCE_LIMIT,
+        Source::Cert => CERT_LIMIT,
+    }
 }

@@ -5,6 +5,6 @@ mod fetch;
 mod file;
 mod stop;
 
-pub use fetch::{SOURCE_LIMIT, fetch_all};
-pub use file::File;
+pub use fetch::fetch_all;
+pub use file::{File, limit_of};
 pub use stop::{Stop, refused};

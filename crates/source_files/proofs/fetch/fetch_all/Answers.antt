@@ -1,5 +1,5 @@
 -- one file more is fetched, or stops the run
-use Rattle.std.proofs.Common.{List, [], ◌∷◌, map, ap, sym, subst, ◌∙◌, ◌+◌, take}
+use Rattle.std.proofs.Common.{[], ◌∷◌, map, ap, sym, subst, ◌∙◌, ◌+◌, take}
 use Rattle.std.proofs.lemmas.List.{map-append}
 use Rattle.source_files.specs.Views.{file_of, texts_of}
 use Rattle.source_files.proofs.Fetching.{AreFetched, calls_at_stop, one_fetched, one_long, stopped}
