@@ -1,5 +1,6 @@
 pub mod Beginning
 pub mod Levelled
+mod Ordered
 pub mod Making
 pub mod Tables
 pub mod Walked

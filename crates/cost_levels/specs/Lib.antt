@@ -1,3 +1,4 @@
 pub mod Levels
+pub mod Order
 pub mod Plans
 pub mod Rows

@@ -1,8 +1,9 @@
 //! The levels of a tree.
-ghost use Rattle.std.specs.Prelude.{◌≡◌, IfOk};
-ghost use Rattle.std.specs.List.Sorted.{IsPermutation};
+ghost use Rattle.std.specs.Prelude.{◌≡◌, IfOk, OnOk};
+ghost use Rattle.std.specs.List.Sorted.{IsPermutation, IsSorted};
 ghost use Rattle.choice_tree.specs.StatementViews.{weighted_prog};
 ghost use Rattle.cost_levels.specs.Levels.{level};
+ghost use Rattle.cost_levels.specs.Order.{choice_cmp, selection_cmp};
 
 use crate::NoMemory;
 use crate::listing::push_listed;
@@ -47,10 +48,12 @@ impl<'a> Levels<'a> {
         Ok(Levels { tree, rows, first })
     }
 
-    /// The selections of a cost that name no pick in a member that isn't chosen, by their numbers:
-    /// those that choose members at earlier picks alone come first.
+    /// The selections of a cost that name no pick in a member that isn't chosen. The last choice in
+    /// which two of them differ decides their order, by its pick and then by its member.
     pub fn level(&self, alloc: Global, cost: u32) -> Result<Vec<Selection>, NoMemory>
-        ensures { IfOk result (λ v. IsPermutation (level (weighted_prog self.now) cost) v.items) }
+        ensures listed { IfOk result
+            (λ v. IsPermutation (level (weighted_prog self.now) cost) v.items) }
+        ensures ordered { IfOk result (λ v. IsSorted selection_cmp v.items) }
     {
         let mut chosen = Vec::new(alloc);
         let mut listed = Vec::new(alloc);
@@ -61,13 +64,23 @@ impl<'a> Levels<'a> {
             &mut chosen,
             &mut listed,
         )?;
-        listed.sort_by(|a: &Selection, b: &Selection| by_number(a.items(), b.items()))?;
+        sort(&mut listed)?;
         Ok(listed)
     }
 }
 
-// The order of the numbers of two selections: the last choice that differs decides.
-fn by_number(a: &[Choice], b: &[Choice]) -> Ordering {
+// Sorts selections, so that those come first that choose members at earlier picks alone.
+fn sort(listed: &mut Vec<Selection>) -> Result<(), NoMemory>
+    ensures same { IsPermutation listed.old.items listed.new.items }
+    ensures ordered { OnOk result (IsSorted selection_cmp listed.new.items) }
+{
+    listed.sort_by(|a: &Selection, b: &Selection| order(a.items(), b.items()))
+}
+
+// The last choice that differs decides.
+fn order(a: &[Choice], b: &[Choice]) -> Ordering
+    ensures { result ≡ selection_cmp a.now b.now }
+{
     let mut i = a.len();
     let mut j = b.len();
     'last: loop {
@@ -84,10 +97,8 @@ fn by_number(a: &[Choice], b: &[Choice]) -> Ordering {
 }
 
 // By the picks, and at the same pick by the members.
-fn choice_order(a: Choice, b: Choice) -> Ordering {
-    if a.pick == b.pick {
-        a.member.cmp(&b.member)
-    } else {
-        a.pick.cmp(&b.pick)
-    }
+fn choice_order(a: Choice, b: Choice) -> Ordering
+    ensures { result ≡ choice_cmp a b }
+{
+    a.pick.cmp(&b.pick).then(a.member.cmp(&b.member))
 }

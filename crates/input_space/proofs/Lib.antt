@@ -14,3 +14,5 @@ pub mod Closing
 pub mod ReadValues
 pub mod OneCase
 pub mod SomeInput
+pub mod Elements
+pub mod TaskSpaceLaws

@@ -6,7 +6,7 @@ use Rattle.mpy_tree.specs.declared.value.Value.TheVariants as value
 use Rattle.mpy_tree.specs.Printing.{truth_text}
 use Rattle.mpy_lexer.specs.TextLiterals.{literal_characters}
 use Rattle.input_space.specs.Cases.{SpellsEach, SpellsNumber, SpellsNumbers, SpellsValue}
-use Rattle.input_space.specs.Readings.{IsReading}
+use Rattle.clause_base.specs.Readings.{IsReading}
 
 -- a text that spells no text, no list, no truth value and no number spells no value
 pub no_value : (text : List ℕ) → literal_characters text ≡ None → ((zs : List ℤ) → SpellsNumbers text zs → ⊥) → ((b : Bool) → text ≡ truth_text b → ⊥) → ((z : ℤ) → SpellsNumber text z → ⊥) → (v : Value) → SpellsValue text v → ⊥

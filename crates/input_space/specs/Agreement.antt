@@ -1,10 +1,10 @@
 -- Agreement with the reference on all inputs, and the best rewriting.
-use Rattle.std.specs.Prelude.{◌≡◌, ◌≢◌, ℕ, ◌≤◌, List}
+use Rattle.std.specs.Prelude.{◌≡◌, ◌≢◌, true, ℕ, ◌≤◌, List}
 use Rattle.std.specs.List.{Contains}
 use Rattle.mpy_tree.specs.declared.value.Value.{Value}
 use Rattle.mpy_tree.specs.declared.outcome.Outcome.{Outcome}
 use Rattle.mpy_tree.specs.declared.outcome.Outcome.TheVariants as outcome
-use Rattle.mpy_tree.specs.Outcomes.{run_outcome}
+use Rattle.mpy_tree.specs.Outcomes.{is_done, run_outcome}
 use Rattle.mpy_tree.specs.Syntax.{Routine}
 use Rattle.bounds_reader.specs.declared.bounds.Bounds.{Bounds}
 use Rattle.input_space.specs.Inputs.{inputs}
@@ -17,18 +17,20 @@ IsInput b vs = Contains (inputs b.params) vs
 abbrev pub ends_on : Bounds → List Routine → List Value → Outcome
 ends_on b p vs = run_outcome b.limits p b.entry vs
 
--- the candidate gives the value of the reference on every input on which the reference gives one
+-- a program ends as the reference does, where that ends with a value
+abbrev pub EndsAlike : Bounds → List Routine → List Routine → List Value → Type 0
+EndsAlike b reference p vs =
+    is_done (ends_on b reference vs) ≡ true → ends_on b p vs ≡ ends_on b reference vs
+
+-- the candidate does on every input: it gives the value of the reference wherever that gives one
 abbrev pub Agrees : Bounds → List Routine → List Routine → Type 0
-Agrees b reference candidate =
-    (vs : List Value) (v : Value) → IsInput b vs →
-    ends_on b reference vs ≡ outcome.Value v → ends_on b candidate vs ≡ outcome.Value v
+Agrees b reference candidate = (vs : List Value) → IsInput b vs → EndsAlike b reference candidate vs
 
 -- r gives a value on some input
 pub record EndsSomewhere (b : Bounds) (r : List Routine) : Type 0 where
   pub input : List Value
-  pub wanted : Value
   pub is_input : IsInput b input
-  pub ends : ends_on b r input ≡ outcome.Value wanted
+  pub done : is_done (ends_on b r input) ≡ true
 
 -- an input on which a program doesn't give the value that is wanted
 pub record Failure : Type 0 where

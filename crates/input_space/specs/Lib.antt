@@ -5,6 +5,6 @@ pub mod Cases
 pub mod CaseLaws
 pub mod Counts
 pub mod Pieces
-pub mod Readings
 pub mod Tasks
 pub mod TaskParts
+pub mod TaskSpace

@@ -64,11 +64,17 @@ IsFailureOf k f = IsFailure k.bounds k.reference k.submission f
 abbrev pub HasWanted : Task → Type 0
 HasWanted k = EndsSomewhere k.bounds k.reference
 
--- the tree is too large, or it has more choices and inputs together than are tried
+-- the weighted tree has too many nodes
+pub record HasManyNodes (k : Task) : Type 0 where
+  pub many : 1000000 < size (tree_of k)
+
+-- there are more choices and inputs together than are tried
+pub record HasManyTrials (k : Task) : Type 0 where
+  pub many : 1000000 < choices (tree_of k) * length (inputs k.bounds.params)
+
+-- there is too much to search
 abbrev pub IsTooLarge : Task → Type 0
-IsTooLarge k =
-    (1000000 < size (tree_of k))
-    ⊎ (1000000 < choices (tree_of k) * length (inputs k.bounds.params))
+IsTooLarge k = HasManyNodes k ⊎ HasManyTrials k
 
 -- the type of what the entry of a program gives
 abbrev pub result_type : Bounds → List Routine → List Fact → Option Ty

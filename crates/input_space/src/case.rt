@@ -1,11 +1,15 @@
 //! Cases: the values of one input.
-ghost use Rattle.std.specs.Prelude.{◌≡◌, ◌++◌, ◌∷◌, [], IfOk, OnErr, OnOk, List};
+ghost use Rattle.std.specs.Prelude.{◌≡◌, ◌≤◌, ◌++◌, ◌∷◌, [], IfOk, OnErr, OnOk, List, length};
 ghost use Rattle.input_space.specs.declared.case.Case.{Case};
 ghost use Rattle.input_space.specs.declared.case.CaseError.TheVariants as case_error;
 
 use crate::NoMemory;
 use mpy_tree::Values;
+use std::alloc::AllocError;
 use std::marker::Model;
+
+/// How many cases a list has at most.
+const MOST_CASES: usize = 2147483647;
 
 /// A list of values for the parameters of the graded function.
 #[derive(Drop)]
@@ -24,7 +28,7 @@ impl Case {
     }
 }
 
-/// A list of cases.
+/// A list of cases, at most 2147483647.
 #[derive(Drop)]
 pub struct Cases {
     items: Vec<Case>,
@@ -34,14 +38,25 @@ impl Model for Cases {
     ghost Value = { List Case };
 
     ghost view = { λ a. a.items.items };
+
+    ghost invariant = { λ a. length a.items.items ≤ 2147483647 };
 }
 
 impl Cases {
     /// The list that has these cases.
     pub fn from_vec(items: Vec<Case>) -> Cases
+        requires { length items.items ≤ 2147483647 }
         ensures { result ≡ items.items }
     {
         Cases { items }
+    }
+
+    /// The number of cases, at most 2147483647.
+    pub fn count(&self) -> u32
+        ensures value { result ≡ length self.now }
+        ensures few { length self.now ≤ 2147483647 }
+    {
+        self.items.len() as u32
     }
 
     /// The cases.
@@ -51,11 +66,16 @@ impl Cases {
         self.items.as_slice()
     }
 
-    /// Adds a case at the end.
+    /// Adds a case at the end. Where memory is wanting, or the list has 2147483647 cases, it stays
+    /// as it was.
     pub fn push(&mut self, case: Case) -> Result<(), NoMemory>
         ensures more { OnOk result (self.new ≡ self.old ++ case ∷ []) }
         ensures as_before { OnErr result (self.new ≡ self.old) }
+        ensures few { length self.new ≤ 2147483647 }
     {
+        if self.items.len() >= MOST_CASES {
+            return Err(AllocError);
+        }
         self.items.push(case)?;
         Ok(())
     }

@@ -2,7 +2,7 @@
 ghost use Rattle.std.specs.Prelude.{◌≡◌, ◌↔◌, IsTrue, ℤ, Some};
 ghost use Rattle.std.specs.Fmt.{signed_decimal};
 ghost use Rattle.input_space.specs.Cases.{SpellsNumber};
-ghost use Rattle.input_space.specs.Readings.{IsReading};
+ghost use Rattle.clause_base.specs.Readings.{IsReading};
 
 use itoa::Buffer;
 

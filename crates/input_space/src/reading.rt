@@ -6,7 +6,7 @@ ghost use Rattle.mpy_tree.specs.Printing.{truth_text};
 ghost use Rattle.mpy_tree.specs.declared.value.Value.{Value as AnyValue};
 ghost use Rattle.input_space.specs.Cases.{SpellsCase, SpellsEach, SpellsNumber, SpellsNumbers};
 ghost use Rattle.input_space.specs.Cases.{SpellsValue};
-ghost use Rattle.input_space.specs.Readings.{IsReading};
+ghost use Rattle.clause_base.specs.Readings.{IsReading};
 ghost use Rattle.input_space.specs.declared.case.CaseError.TheVariants as case_error;
 
 use crate::NoMemory;

@@ -1,12 +1,15 @@
 //! Questions about what is graded, and the sessions in which a solver is asked them.
-ghost use Rattle.std.specs.Prelude.{◌≡◌, ◌∷◌, ◌++◌, [], IfOk, OnErr, OnOk};
+ghost use Rattle.std.specs.Prelude.{◌≡◌, ◌≤◌, ◌∷◌, ◌++◌, [], IfOk, OnErr, OnOk, length};
 
 use crate::NoMemory;
 use choice_tree::Selection;
 use clause_base::formula::Formula;
 use clause_base::log::Log;
-use std::alloc::Global;
+use std::alloc::{AllocError, Global};
 use std::marker::Model;
+
+/// How many sessions a list has at most.
+const MOST_SESSIONS: usize = 2147483647;
 
 /// A question that a formula states.
 #[derive(Drop)]
@@ -61,19 +64,21 @@ impl Session {
     }
 }
 
-/// A list of sessions.
+/// A list of sessions, at most 2147483647.
 #[derive(Drop)]
 pub struct Sessions {
     items: Vec<Session>,
 }
 
 impl Model for Sessions {
-    ghost use Rattle.std.specs.Prelude.{List};
+    ghost use Rattle.std.specs.Prelude.{◌≤◌, List, length};
     ghost use Rattle.input_space.specs.declared.session.Session.{Session};
 
     ghost Value = { List Session };
 
     ghost view = { λ s. s.items.items };
+
+    ghost invariant = { λ s. length s.items.items ≤ 2147483647 };
 }
 
 impl Sessions {
@@ -88,9 +93,18 @@ impl Sessions {
 
     /// The list of these sessions.
     pub fn from_vec(items: Vec<Session>) -> Sessions
+        requires { length items.items ≤ 2147483647 }
         ensures { result ≡ items.items }
     {
         Sessions { items }
+    }
+
+    /// The number of sessions, at most 2147483647.
+    pub fn count(&self) -> u32
+        ensures value { result ≡ length self.now }
+        ensures few { length self.now ≤ 2147483647 }
+    {
+        self.items.len() as u32
     }
 
     /// The sessions.
@@ -100,11 +114,16 @@ impl Sessions {
         self.items.as_slice()
     }
 
-    /// Adds a session at the end. Where memory is wanting the list stays as it was.
+    /// Adds a session at the end. Where memory is wanting, or the list has 2147483647 sessions, it
+    /// stays as it was.
     pub fn push(&mut self, session: Session) -> Result<(), NoMemory>
         ensures more { OnOk result (self.new ≡ self.old ++ session ∷ []) }
         ensures as_before { OnErr result (self.new ≡ self.old) }
+        ensures few { length self.new ≤ 2147483647 }
     {
+        if self.items.len() >= MOST_SESSIONS {
+            return Err(AllocError);
+        }
         self.items.push(session)?;
         Ok(())
     }

@@ -1,17 +1,17 @@
 -- What holds while questions are asked, after a case more is kept.
-use Rattle.std.specs.Prelude.{◌≡◌, ℕ, List, [], ◌∷◌, ◌++◌, Option, Some}
-use Rattle.std.proofs.Common.{sym, ap, ◌∙◌}
+use Rattle.std.specs.Prelude.{◌≡◌, ℕ, List, [], ◌∷◌, ◌++◌}
+use Rattle.std.proofs.Common.{ap, ◌∙◌}
 use Rattle.std.proofs.lemmas.List.{map_push}
 use Rattle.std.proofs.lemmas.List.Elements.{All-contains, Contains-append_left}
-use Rattle.mpy_tree.specs.declared.value.Value.{Value}
+use Rattle.mpy_tree.specs.declared.outcome.Outcome.{Outcome}
 use Rattle.choice_tree.specs.declared.selection.Choice.{Choice}
 use Rattle.choice_tree.specs.declared.tree.WProg.{WProg}
 use Rattle.input_space.specs.declared.case.Case.{Case}
 use Rattle.input_space.specs.Tasks.{Task}
+use Rattle.input_space.specs.TaskSpace.{SelectionMeets, wanted}
+use Rattle.input_space.proofs.Elements.{all_if_contained}
 use Rattle.list_questions.specs.declared.trial.Reached.{Reached}
 use Rattle.list_questions.specs.Asking.{IsAsking, IsReached, Fails, wanted_on}
-use Rattle.list_questions.specs.TaskSpace.{SelectionMeets, wanted}
-use Rattle.list_questions.proofs.Chosen.{all_if_contained}
 
 -- what fails on some cases fails on more
 fails_on_more : (k : Task) (xs ys : List Case) (s : List Choice) → Fails k xs s → Fails k (xs ++ ys) s
@@ -27,13 +27,14 @@ reached_more k xs ys r is = record {
   passed_by = λ i s on below at. fails_on_more k xs ys s (is.passed_by i s on below at);
 }
 
-pub asking_more : (k : Task) (tree : WProg) (last : ℕ) (reached : Reached) (table : List (Option Value)) (kept : List Case) (values : List Value)
-    (x : Case) (v : Value) → IsAsking k tree last reached table kept values → wanted k x.values ≡ Some v
-    → IsAsking k tree last reached table (kept ++ x ∷ []) (values ++ v ∷ [])
-asking_more k tree last reached table kept values x v asking is = record {
+pub asking_more : (k : Task) (tree : WProg) (last : ℕ) (reached : Reached) (table : List Outcome) (kept : List Case) (ends : List Outcome)
+    (x : Case) (end : Outcome) → IsAsking k tree last reached table kept ends → wanted k x.values ≡ end
+    → IsAsking k tree last reached table (kept ++ x ∷ []) (ends ++ end ∷ [])
+asking_more k tree last reached table kept ends x end asking is = record {
   tree_is = asking.tree_is;
   last_is = asking.last_is;
   reached_so = reached_more k kept (x ∷ []) reached asking.reached_so;
   table_is = asking.table_is;
-  values_are = map_push (λ (y : Case). wanted k y.values) kept x ∙ ap (λ o. wanted_on k kept ++ o ∷ []) is ∙ ap (λ os. os ++ Some v ∷ []) asking.values_are ∙ sym (map_push Some values v);
+  few = asking.few;
+  ends_are = map_push (λ (y : Case). wanted k y.values) kept x ∙ ap (λ o. wanted_on k kept ++ o ∷ []) is ∙ ap (λ os. os ++ end ∷ []) asking.ends_are;
 }

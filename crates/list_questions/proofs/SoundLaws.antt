@@ -1,36 +1,22 @@
--- What follows of a task's size: few inputs, and small costs.
-use Rattle.std.proofs.Common.{◌⊎◌, ℕ, ◌*◌, ◌<◌, ◌≤◌, ◌^◌, List, length, inl, inr, arith}
+-- What follows of a task's size: small costs.
+use Rattle.std.proofs.Common.{◌⊎◌, ℕ, ◌*◌, ◌<◌, ◌≤◌, ◌^◌, List, inl, inr, arith}
 use Rattle.std.specs.Prelude.{All}
-use Rattle.std.proofs.Math.Nat.{mul-le-mul_right}
 use Rattle.std.proofs.lemmas.Bool.{cases_lt}
 use Rattle.choice_tree.specs.Costs.{all_costs}
-use Rattle.choice_tree.specs.Selections.{choices}
 use Rattle.choice_tree.specs.Templates.{Correction}
 use Rattle.choice_tree.specs.WeightedTrees.{size}
-use Rattle.choice_tree.proofs.CountLaws.{some_choices}
 use Rattle.eml_faults.specs.FaultLaws.{IsSmall}
 use Rattle.eml_faults.proofs.Faultless.{small_kept}
 use Rattle.eml_rewrite.proofs.SmallCosts.{program_cheap}
-use Rattle.input_space.specs.Inputs.{inputs}
 use Rattle.input_space.specs.Tasks.{IsSound, Task, setting, tree_of}
 
 cases_le : (n most : ℕ) → (n ≤ most) ⊎ (most < n)
 cases_le n most = elim (cases_lt most n) [ inl high ↦ inr high | inr low ↦ inl low ]
 
--- a factor is no more than the product with another that isn't 0
-factor : (n m most : ℕ) → 1 ≤ n → most < m → most < n * m
-factor n m most some large = let more : 1 * m ≤ n * m = mul-le-mul_right m some in omega (arith, more, large)
-
-pub few_inputs : (k : Task) → IsSound k → length (inputs k.bounds.params) ≤ 1000000
-few_inputs k sound = elim (cases_le (length (inputs k.bounds.params)) 1000000) [
-  | inl few ↦ few
-  | inr many ↦ absurd (sound.small (inr (factor (choices (tree_of k)) (length (inputs k.bounds.params)) 1000000 (some_choices (tree_of k)) many)))
-]
-
 few_nodes : (k : Task) → IsSound k → size (tree_of k) ≤ 1000000
 few_nodes k sound = elim (cases_le (size (tree_of k)) 1000000) [
   | inl few ↦ few
-  | inr many ↦ absurd (sound.small (inl many))
+  | inr many ↦ absurd (sound.small (inl (record { many = many })))
 ]
 
 cheap_rules : (rs : List Correction) → All IsSmall rs → All (λ r. r.cost ≤ 9) rs

@@ -21,9 +21,9 @@ use Rattle.cegis_loop.specs.Space.{IsLow}
 use Rattle.list_questions.specs.declared.trial.Reached.{Reached}
 use Rattle.list_questions.specs.Answering.{NoneLow}
 use Rattle.list_questions.specs.Asking.{AllFail, Fails, IsBeyond, IsReached}
-use Rattle.list_questions.specs.TaskSpace.{SelectionMeets, space}
+use Rattle.input_space.specs.TaskSpace.{SelectionMeets, space}
 use Rattle.list_questions.specs.Trials.{StopsAt}
-use Rattle.list_questions.proofs.Chosen.{at_place}
+use Rattle.input_space.proofs.Elements.{at_place}
 
 levels : (k : Task) → AreLevels (tree_of k)
 levels k = let t = program_shape k.submission in are_levels (grown (setting k) (steps t) elsewhere (outermost (setting k)) t)
@@ -95,7 +95,7 @@ same_agree k s t xs same met = λ i d within p made. met i d within p (made ∙ 
 
 -- what was found is low
 pub found_low : (k : Task) (xs : List Case) (r : Reached) (most : Option ℕ) (s : List Choice) → IsReached k xs r → Contains r.level.items s → (IsBeyond most r.cost → ⊥) → All (SelectionMeets k s) xs
-    → IsLow (space k) most xs s
+    → IsLow (space k 1) most xs s
 found_low k xs r most s is there within agrees =
     let c : Contains (level (tree_of k) r.cost) s = Contains-permutation r.level.items (level (tree_of k) r.cost) s (IsPermutation-sym (level (tree_of k) r.cost) r.level.items is.level_is) there in
     record {

@@ -1,9 +1,11 @@
 -- What is asked about, and what holds while it is asked.
 use Rattle.std.specs.Prelude.{◌≡◌, ◌<◌, ◌≤◌, ℕ, List, All, length, map, Option, Some, None}
-use Rattle.std.specs.Prelude.{slice_get}
+use Rattle.std.specs.Prelude.{slice_get, true, false}
 use Rattle.std.specs.List.{Contains}
 use Rattle.std.specs.List.Sorted.{IsPermutation}
+use Rattle.mpy_tree.specs.declared.outcome.Outcome.{Outcome}
 use Rattle.mpy_tree.specs.declared.value.Value.{Value}
+use Rattle.mpy_tree.specs.Outcomes.{is_done}
 use Rattle.mpy_tree.specs.Syntax.{Routine}
 use Rattle.choice_tree.specs.declared.selection.Choice.{Choice}
 use Rattle.choice_tree.specs.declared.tree.WProg.{WProg}
@@ -15,10 +17,10 @@ use Rattle.input_space.specs.Inputs.{inputs}
 use Rattle.input_space.specs.declared.task.TaskParts.{TaskParts}
 use Rattle.input_space.specs.TaskParts.{task_with}
 use Rattle.input_space.specs.Tasks.{Task, tree_of}
-use Rattle.list_questions.specs.declared.runs.Expected.{Expected}
-use Rattle.list_questions.specs.declared.runs.Row.{Row}
+use Rattle.input_space.specs.TaskSpace.{Meets, SelectionMeets, wanted, wanted_inputs}
+use Rattle.list_questions.specs.declared.table.Expected.{Expected}
+use Rattle.list_questions.specs.declared.table.Row.{Row}
 use Rattle.list_questions.specs.declared.trial.Reached.{Reached}
-use Rattle.list_questions.specs.TaskSpace.{Meets, SelectionMeets, wanted, wanted_inputs}
 
 -- the parts of a task, and the cases that are kept, in order
 pub record Asking : Type 0 where
@@ -28,13 +30,13 @@ pub record Asking : Type 0 where
 abbrev pub task_of : Asking → Task
 task_of a = task_with a.parts
 
--- the values of the reference on cases
-abbrev pub wanted_on : Task → List Case → List (Option Value)
+-- how the reference ends on cases
+abbrev pub wanted_on : Task → List Case → List Outcome
 wanted_on k xs = map (λ x. wanted k x.values) xs
 
 -- and on all inputs
-abbrev pub all_wanted : Task → List (Option Value)
-all_wanted k = map (wanted k) (inputs k.bounds.params)
+abbrev pub all_ends : Task → List Outcome
+all_ends k = map (wanted k) (inputs k.bounds.params)
 
 -- a selection fails on some of the cases
 abbrev pub Fails : Task → List Case → List Choice → Type 0
@@ -56,38 +58,41 @@ pub record IsReached (k : Task) (xs : List Case) (r : Reached) : Type 0 where
 
 -- what the parts of a value that answers questions say
 pub record IsAsking (k : Task) (tree : WProg) (last : ℕ) (reached : Reached)
-    (table : List (Option Value)) (kept : List Case) (values : List Value) : Type 0 where
+    (table : List Outcome) (kept : List Case) (ends : List Outcome) : Type 0 where
   pub tree_is : weighted_prog tree ≡ tree_of k
   pub last_is : last ≡ most_cost (tree_of k)
   pub reached_so : IsReached k kept reached
-  pub table_is : table ≡ all_wanted k
-  pub values_are : wanted_on k kept ≡ map Some values
+  pub table_is : table ≡ all_ends k
+  pub few : length table ≤ 1000000
+  pub ends_are : wanted_on k kept ≡ ends
 
 -- a cost above the bound, if there is one
 abbrev pub IsBeyond : Option ℕ → ℕ → Type 0
 IsBeyond None cost = ⊥
 IsBeyond (Some most) cost = most < cost
 
--- an input on which the reference gives the value
+-- an input on which the reference gives a value, and how it ends there
 pub record IsExpected (k : Task) (e : Expected) : Type 0 where
   pub input : Contains (wanted_inputs k) e.case
-  pub value_is : wanted k e.case.values ≡ Some e.value
+  pub end_is : wanted k e.case.values ≡ e.end
 
--- one on which a program doesn't give it
+-- one on which a program doesn't give that value
 pub record IsFailing (k : Task) (p : List Routine) (e : Expected) : Type 0 where
   pub expected : IsExpected k e
   pub fails : Meets k p e.case → ⊥
 
--- a row of the table as a case with its value
+-- a row of the table as a case with the end
 abbrev pub expected_in : Row → Expected
-expected_in r = record { case = r.case; value = r.value.now }
+expected_in r = record { case = r.case; end = r.end.now }
 
 -- the reference gives no value on the input at a place
 abbrev pub NoneExpected : Task → ℕ → Type 0
 NoneExpected k place =
-    (vs : List Value) → slice_get (inputs k.bounds.params) place ≡ Some vs → wanted k vs ≡ None
+    (vs : List Value) → slice_get (inputs k.bounds.params) place ≡ Some vs
+    → is_done (wanted k vs) ≡ false
 
--- it gives this one
+-- it gives one, and ends so
 pub record ExpectedAt (k : Task) (place : ℕ) (e : Expected) : Type 0 where
   pub at : slice_get (inputs k.bounds.params) place ≡ Some e.case.values
-  pub value_is : wanted k e.case.values ≡ Some e.value
+  pub end_is : wanted k e.case.values ≡ e.end
+  pub done : is_done e.end ≡ true

@@ -1,4 +1,4 @@
 pub mod Answering
 pub mod Asking
+pub mod Tables
 pub mod Trials
-pub mod TaskSpace

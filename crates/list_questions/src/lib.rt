@@ -2,11 +2,10 @@
 #![tactic(auto)]
 
 mod questions;
-mod runs;
+mod table;
 mod trial;
 
 pub use questions::ListQuestions;
-pub use runs::Runs;
 use std::alloc::AllocError;
 
 /// Want of memory, where a call has no other refusal.

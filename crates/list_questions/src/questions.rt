@@ -3,20 +3,21 @@ ghost use Rattle.std.specs.Prelude.{◌≡◌, ◌++◌, ◌∷◌, [], IfOk, On
 ghost use Rattle.std.specs.Prelude.{option_to_list};
 ghost use Rattle.std.specs.List.{Contains};
 ghost use Rattle.cegis_loop.specs.Space.{AgreesOn, IsFail};
+ghost use Rattle.input_space.specs.TaskSpace.{space, wanted, wanted_inputs};
 ghost use Rattle.list_questions.specs.Answering.{IsProposed, answer};
 ghost use Rattle.list_questions.specs.Asking.{task_of};
-ghost use Rattle.list_questions.specs.TaskSpace.{space, wanted, wanted_inputs};
 
 use crate::NoMemory;
-use crate::runs::{Expected, Runs};
+use crate::table::{Expected, Table, ends_of};
 use crate::trial::{Reached, Trial};
 use cegis_loop::{Asked, Questions};
 use choice_tree::{Selection, cost, most_cost, plain};
 use cost_levels::Levels;
 use input_space::{Case, Cases, Task};
-use mpy_tree::Value;
+use mpy_tree::Outcome;
 use std::alloc::Global;
 use std::marker::Model;
+use task_runs::Runs;
 
 /// The questions of a search for the cheapest selection of a task that agrees with its reference,
 /// answered by trying all selections and all inputs.
@@ -30,11 +31,11 @@ pub struct ListQuestions<'a> {
     last: u32,
     // Each selection before the place that was reached fails on a kept case.
     reached: Reached,
-    // The values of the reference on all inputs.
-    table: Vec<Option<Value>>,
+    // How the reference ends on all inputs.
+    table: Vec<Outcome>,
     kept: Cases,
-    // The values of the reference on the kept cases.
-    values: Vec<Value>,
+    // How the reference ends on the kept cases.
+    ends: Vec<Outcome>,
 }
 
 impl<'a> Model for ListQuestions<'a> {
@@ -50,11 +51,12 @@ impl<'a> Model for ListQuestions<'a> {
     ghost view = { λ q. record { parts = q.runs.task.now; kept = q.kept } };
 
     ghost invariant = { λ q. IsAsking (task_with q.runs.task.now) q.levels q.last q.reached
-        q.table.items q.kept q.values.items };
+        q.table.items q.kept q.ends.items };
 }
 
 impl<'a> ListQuestions<'a> {
-    /// The questions about a task, of which none was asked.
+    /// The questions about a task, of which none was asked. Of a task with more than 1,000,000
+    /// inputs the answer is want of memory.
     pub fn new(alloc: Global, t: &'a Task) -> Result<ListQuestions<'a>, NoMemory>
         ensures { IfOk result (λ q. q ≡ record { parts = t.now; kept = [] }) }
     {
@@ -67,7 +69,7 @@ impl<'a> ListQuestions<'a> {
             passed: 0,
         };
         let last = most_cost(t.tree());
-        let table = runs.all_wanted()?;
+        let table = ends_of(&runs)?;
         Ok(ListQuestions {
             runs,
             levels,
@@ -75,7 +77,7 @@ impl<'a> ListQuestions<'a> {
             reached,
             table,
             kept: Cases::from_vec(Vec::new(alloc)),
-            values: Vec::new(alloc),
+            ends: Vec::new(alloc),
         })
     }
 
@@ -86,30 +88,30 @@ impl<'a> ListQuestions<'a> {
         &self.kept
     }
 
-    // Keeps a case and the value of the reference there.
-    fn push(&mut self, case: Case, value: Value) -> Result<(), NoMemory>
-        requires { wanted (task_of self.old) case.values ≡ Some value }
+    // Keeps a case and how the reference ends there.
+    fn push(&mut self, case: Case, end: Outcome) -> Result<(), NoMemory>
+        requires { wanted (task_of self.old) case.values ≡ end }
         ensures parts { self.new.parts ≡ self.old.parts }
         ensures kept { OnOk result (self.new.kept ≡ self.old.kept ++ case ∷ []) }
         ensures as_before { OnErr result (self.new ≡ self.old) }
     {
-        self.values.reserve(1)?;
+        self.ends.reserve(1)?;
         self.kept.push(case)?;
-        self.values.push_reserved(value);
+        self.ends.push_reserved(end);
         Ok(())
     }
 
     // Keeps an input that was found.
     fn keep(&mut self, found: Expected) -> Result<Case, NoMemory>
-        requires { wanted (task_of self.old) found.case.values ≡ Some found.value }
+        requires { wanted (task_of self.old) found.case.values ≡ found.end }
         ensures parts { self.new.parts ≡ self.old.parts }
         ensures kept { IfOk result (λ x. (x ≡ found.case)
             × (self.new.kept ≡ self.old.kept ++ found.case ∷ [])) }
         ensures as_before { OnErr result (self.new ≡ self.old) }
     {
-        let Expected { case, value } = found;
+        let Expected { case, end } = found;
         let copy = case.copy()?;
-        self.push(copy, value)?;
+        self.push(copy, end)?;
         Ok(case)
     }
 
@@ -123,7 +125,7 @@ impl<'a> ListQuestions<'a> {
             levels: &self.levels,
             last: self.last,
             kept: self.kept.items(),
-            values: self.values.as_slice(),
+            ends: self.ends.as_slice(),
         };
         trial.next(&mut self.reached, most)
     }
@@ -136,7 +138,11 @@ impl<'a> ListQuestions<'a> {
         ensures found { IfOk result (λ o. MatchOption o (wanted_inputs (task_of self.old) ≡ [])
             (Contains (wanted_inputs (task_of self.old)))) }
     {
-        match self.runs.first_expected(self.table.as_slice())? {
+        let table = Table {
+            runs: self.runs,
+            ends: self.table.as_slice(),
+        };
+        match table.first_expected()? {
             None => Ok(None),
             Some(expected) => Ok(Some(self.keep(expected)?)),
         }
@@ -148,11 +154,15 @@ impl<'a> ListQuestions<'a> {
         ensures kept { IfOk result (λ o. self.new.kept ≡ self.old.kept ++ option_to_list o) }
         ensures as_before { OnErr result (self.new ≡ self.old) }
         ensures found { IfOk result (λ o. MatchOption o
-            (AgreesOn (space (task_of self.old)) (wanted_inputs (task_of self.old)) c.now)
-            (IsFail (space (task_of self.old)) c.now)) }
+            (AgreesOn (space (task_of self.old) 1) (wanted_inputs (task_of self.old)) c.now)
+            (IsFail (space (task_of self.old) 1) c.now)) }
     {
         let program = plain(self.runs.alloc, self.runs.task.tree(), c)?;
-        match self.runs.first_failure(&program, self.table.as_slice())? {
+        let table = Table {
+            runs: self.runs,
+            ends: self.table.as_slice(),
+        };
+        match table.first_failure(&program)? {
             None => Ok(None),
             Some(expected) => Ok(Some(self.keep(expected)?)),
         }
@@ -178,13 +188,13 @@ impl Questions for ListQuestions<'_> {
     ghost use Rattle.std.specs.Prelude.{None};
     ghost use Rattle.input_space.specs.Tasks.{Task as AnyTask};
     ghost use Rattle.list_questions.specs.Asking.{task_of};
-    ghost use Rattle.list_questions.specs.TaskSpace.{space};
+    ghost use Rattle.input_space.specs.TaskSpace.{space};
 
     ghost Topic = { AnyTask };
 
     ghost topic = { task_of };
 
-    ghost space = { space };
+    ghost space = { λ k. space k 1 };
 
     ghost seen = { λ q. record { kept = q.kept; logged = 0; told = None } };
 

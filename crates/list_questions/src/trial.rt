@@ -1,23 +1,22 @@
 //! Selections tried on the cases that are kept.
-ghost use Rattle.std.specs.Prelude.{◌≡◌, ◌↔◌, ◌≤◌, IfOk, IsTrue, MatchOption, All, length, map};
-ghost use Rattle.std.specs.Prelude.{Some};
+ghost use Rattle.std.specs.Prelude.{◌≡◌, ◌↔◌, ◌≤◌, IfOk, IsTrue, MatchOption, All, length};
 ghost use Rattle.std.specs.List.Sorted.{IsPermutation};
 ghost use Rattle.mpy_tree.specs.View.{routines_of};
 ghost use Rattle.choice_tree.specs.StatementViews.{weighted_prog};
 ghost use Rattle.input_space.specs.TaskParts.{task_with};
+ghost use Rattle.input_space.specs.TaskSpace.{Meets, SelectionMeets, space};
 ghost use Rattle.cegis_loop.specs.Space.{IsLow};
 ghost use Rattle.cost_levels.specs.Levels.{level as level_of};
 ghost use Rattle.list_questions.specs.Answering.{NoneLow};
 ghost use Rattle.list_questions.specs.Asking.{IsBeyond, IsReached, wanted_on};
 ghost use Rattle.list_questions.specs.Trials.{IsTrial, StopsAt};
-ghost use Rattle.list_questions.specs.TaskSpace.{Meets, SelectionMeets, space};
 
 use crate::NoMemory;
-use crate::runs::Runs;
 use choice_tree::{Selection, plain};
 use cost_levels::Levels;
 use input_space::Case;
-use mpy_tree::{Prog, Value};
+use mpy_tree::{Outcome, Prog};
+use task_runs::Runs;
 
 /// How far the selections of a task were tried.
 #[derive(Drop)]
@@ -29,26 +28,26 @@ pub(crate) struct Reached {
 }
 
 /// The selections of a task by rising cost, the greatest of which is the last, and the kept cases
-/// with the reference's values there.
+/// with how the reference ends there.
 #[derive(Clone, Copy)]
 pub(crate) struct Trial<'a> {
     pub(crate) runs: Runs<'a>,
     pub(crate) levels: &'a Levels<'a>,
     pub(crate) last: u32,
     pub(crate) kept: &'a [Case],
-    pub(crate) values: &'a [Value],
+    pub(crate) ends: &'a [Outcome],
 }
 
 impl Trial<'_> {
     // Whether a program gives the values of the reference on the kept cases.
     fn agrees(&self, program: &Prog) -> Result<bool, NoMemory>
         requires { wanted_on (task_with self.now.runs.task.now) self.now.kept.now
-            ≡ map Some self.now.values.now }
+            ≡ self.now.ends.now }
         ensures { IfOk result (λ b. IsTrue b ↔ All (Meets (task_with self.now.runs.task.now)
             (routines_of program.now)) self.now.kept.now) }
     {
         for (i, case) in self.kept.iter().enumerate() {
-            if !self.runs.gives(program, case, &self.values[i])? {
+            if !self.runs.meets(program, case, &self.ends[i])? {
                 return Ok(false);
             }
         }
@@ -93,7 +92,7 @@ impl Trial<'_> {
             reached.new }
         ensures found { IfOk result (λ o. MatchOption o
             (NoneLow (task_with self.now.runs.task.now) most self.now.kept.now)
-            (IsLow (space (task_with self.now.runs.task.now)) most self.now.kept.now)) }
+            (IsLow (space (task_with self.now.runs.task.now) 1) most self.now.kept.now)) }
     {
         'levels: loop {
             if is_beyond(most, reached.cost) {

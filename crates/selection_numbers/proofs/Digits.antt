@@ -1,11 +1,12 @@
 -- Selections and the digits of numbers.
 use Rattle.std.proofs.Common.{◌≡◌, ℕ, zero, suc, ◌+◌, ◌*◌, ◌/◌, ◌%◌, ◌<◌, ◌≤◌, Bool, true, false}
 use Rattle.std.proofs.Common.{◌||◌, ◌&&◌, List, [], ◌∷◌, ◌++◌, refl, sym, ap, ◌∙◌, arith}
-use Rattle.std.proofs.Common.{map, append_assoc}
+use Rattle.std.proofs.Common.{map, append_assoc, subst}
 use Rattle.std.specs.Prelude.{◌==◌, nat_lt}
 use Rattle.std.proofs.lemmas.Bool.Decides.{nat_tests}
 use Rattle.std.proofs.Math.Nat.{mod-lt, mod-eq_of_lt, add-mul-mod_self_left}
-use Rattle.std.proofs.Math.Nat.{add-mul-div_left, div-eq_of_lt, mul-le-mul_left, mul-suc}
+use Rattle.std.proofs.Math.Nat.{add-mul-div_left, div-add-mod, div-eq_of_lt, lt_of_mul-lt-mul_left}
+use Rattle.std.proofs.Math.Nat.{mul-div-le, mul-le-mul_left, mul-suc}
 use Rattle.choice_tree.specs.declared.selection.Choice.{Choice}
 use Rattle.choice_tree.specs.Choices.{Rises, NamesBy}
 use Rattle.selection_numbers.specs.Numbers.{and_member, selection_from}
@@ -170,6 +171,40 @@ numbers_all (n ∷ ns) from (x ∷ xs) some r h =
         let rises : Rises (suc from) (x ∷ xs) = (past, r.1) in
         with_digit n ns from 0 (x ∷ xs) some.0
         (others (x ∷ xs) rises (named_rest n ns from (x ∷ xs) rises h))
+
+-- picks behind the first don't name it, so what it has and they have are known of both
+apart : (from d e : ℕ) (s t : List Choice) → Rises (suc from) s → Rises (suc from) t
+    → and_member from d s ≡ and_member from e t → (d ≡ e) × (s ≡ t)
+apart from zero zero s t r q h = (refl, h)
+apart from zero (suc e) s t r q h =
+    let first = (subst (Rises (suc from)) h r).0 in absurd (omega (arith, first))
+apart from (suc d) zero s t r q h =
+    let first = (subst (Rises (suc from)) (sym h) q).0 in absurd (omega (arith, first))
+apart from (suc d) (suc e) s t r q h =
+    let one : Choice = record { pick = from; member = suc d } in
+    let other : Choice = record { pick = from; member = suc e } in
+    let heads : one ≡ other = cc in
+    let rests : s ≡ t = cc in
+    let members : suc d ≡ suc e = ap (λ (c : Choice). c.member) heads in
+    (omega (arith, members), rests)
+
+-- a number below the product is that of its selection alone
+pub one_number : (ns : List ℕ) (from i j : ℕ) → AllSome ns → i < product ns → j < product ns
+    → selection_from from ns i ≡ selection_from from ns j → i ≡ j
+one_number [] from i j some a b h = omega (arith, a, b)
+one_number (n ∷ ns) from i j some a b h =
+    let parts =
+    apart from (i % n) (j % n) (selection_from (suc from) ns (i / n))
+    (selection_from (suc from) ns (j / n)) (digits_rise ns (suc from) (i / n))
+    (digits_rise ns (suc from) (j / n)) h in
+    let low = parts.0 in
+    let high = one_number ns (suc from) (i / n) (j / n) some.1 (below i a) (below j b) parts.1 in
+    sym (div-add-mod i n) ∙ (λ k. n * high k + low k) ∙ div-add-mod j n
+  where
+    below : (k : ℕ) → k < n * product ns → k / n < product ns
+    below k h =
+        let most : n * (k / n) ≤ k = mul-div-le k n in
+        lt_of_mul-lt-mul_left n (omega (arith, most, h))
 
 -- one pick more, and the picks behind it
 and_member_is : (p i : ℕ) (s : List Choice) → and_member p i s ≡ and_member p i [] ++ s

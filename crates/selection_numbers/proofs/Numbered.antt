@@ -1,6 +1,6 @@
 -- The selections that fit a tree whose picks are numbered.
 use Rattle.std.proofs.Common.{◌≡◌, ℕ, suc, ◌+◌, Bool, List, [], ◌∷◌, ◌++◌, refl, sym, ap}
-use Rattle.std.proofs.Common.{◌∙◌}
+use Rattle.std.proofs.Common.{◌∙◌, arith}
 use Rattle.choice_tree.specs.declared.selection.Choice.{Choice}
 use Rattle.choice_tree.specs.Choices.{NamesBy}
 use Rattle.choice_tree.specs.WeightedTrees.{Weighted, Weighteds, Others, plainly, pick, no_weighted}
@@ -11,6 +11,7 @@ use Rattle.selection_numbers.specs.MemberCounts.{member_counts, counts_in, count
 use Rattle.selection_numbers.specs.Numbers.{selection_of, AreNumbered}
 use Rattle.selection_numbers.proofs.Counting.{same_count, has_by_counts, product_is, all_some}
 use Rattle.selection_numbers.proofs.Digits.{has_digit, digits_rise, digits_named, numbers_all}
+use Rattle.selection_numbers.proofs.Digits.{one_number}
 
 -- numbers have no part in how many members the picks have
 mutual
@@ -65,4 +66,7 @@ are_numbered u =
             below = rw (product_is w) at b;
             is = r.is;
           };
+      one_number = λ i j a b h.
+          let all = product_is w in
+          one_number ns 0 i j (all_some w) (omega (arith, all, a)) (omega (arith, all, b)) h;
     }

@@ -25,8 +25,10 @@ pub record HasNumber (w : Weighted) (s : List Choice) : Type 0 where
   pub below : number < choices w
   pub is : selection_of w number ≡ s
 
--- Each number gives a selection that fits the tree, and each that fits has a number below the
--- number of choices.
+-- Each number gives a selection that fits the tree, and each that fits has one number below the
+-- number of choices, and no other: so there are as many as choices.
 pub record AreNumbered (w : Weighted) : Type 0 where
   pub each_fits : (j : ℕ) → Fits w (selection_of w j)
   pub each_has_one : (s : List Choice) → Fits w s → HasNumber w s
+  pub one_number : (i j : ℕ) → i < choices w → j < choices w
+      → selection_of w i ≡ selection_of w j → i ≡ j

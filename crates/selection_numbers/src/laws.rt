@@ -5,7 +5,8 @@ ghost use Rattle.selection_numbers.specs.MemberCounts.{member_counts};
 ghost use Rattle.selection_numbers.specs.Numbers.{AreNumbered};
 
 /// Where the picks of a tree are numbered in order, each number gives a selection that fits it, and
-/// each that fits has a number below the number of choices.
+/// each that fits has one number below the number of choices, and no other. So there are as many
+/// selections that fit as choices.
 pub fn selections_have_numbers()
     ensures { (u : Weighted) → AreNumbered (numbered u 0) }
 {}

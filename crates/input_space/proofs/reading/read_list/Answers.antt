@@ -1,6 +1,6 @@
 use Rattle.std.proofs.lemmas.Result.{IfOk-weaker}
 use Rattle.input_space.specs.Cases.{SpellsEach, SpellsNumber, SpellsNumbers}
-use Rattle.input_space.specs.Readings.{IsReading}
+use Rattle.clause_base.specs.Readings.{IsReading}
 use Rattle.input_space.proofs.ReadValues.{list_reading, no_list}
 use Rattle.input_space.proofs.reading.read_list.Goals as goal
 

@@ -10,8 +10,8 @@ use Rattle.cost_levels.specs.Rows.{Shows}
 use Rattle.cost_levels.proofs.Walked.{behind, behind_none}
 use Rattle.cost_levels.proofs.levels.Levels.level.Goals as goal
 
-pub returns : goal.returns
-returns c =
+pub returns-clause-listed : goal.returns-clause-listed
+returns-clause-listed c =
     let plan = planned (weighted_prog c.self.inside.tree.now) done in
     let shows : Shows c.as_slice.result.now c.self.inside.first plan =
     subst (λ (rs : List Row). Shows rs c.self.inside.first plan) (sym c.as_slice.ensures.value)
@@ -22,5 +22,5 @@ returns c =
     ++ behind (c.new-chosen.ensures.items i) (listed plan c.args.cost))
     ∙ behind_none (listed plan c.args.cost)
     ∙ ap (λ (t : WProg). level (weighted_prog t) c.args.cost) c.self.view_is in
-    subst (λ (ss : List (List Choice)). IsPermutation ss c.sort_by.new.self.items) all
-    c.in_ok-sort_by.ensures.permutation
+    subst (λ (ss : List (List Choice)). IsPermutation ss c.sort.new.listed.items) all
+    c.in_ok-sort.ensures.same

@@ -2,7 +2,7 @@ use Rattle.std.specs.Prelude.{◌≡◌, ◌<◌, ℕ, Some, slice_get}
 use Rattle.mpy_tree.specs.View.{routines_of}
 use Rattle.input_space.specs.declared.case.Case.{Case}
 use Rattle.input_space.specs.TaskParts.{task_with}
-use Rattle.list_questions.specs.TaskSpace.{Meets}
+use Rattle.input_space.specs.TaskSpace.{Meets}
 use Rattle.list_questions.proofs.trial.Trial.agrees.Given as goal
 
 -- the program gives the values of the reference on the cases so far

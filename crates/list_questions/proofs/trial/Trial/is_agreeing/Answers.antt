@@ -7,7 +7,7 @@ use Rattle.choice_tree.specs.Selections.{plain}
 use Rattle.choice_tree.proofs.EditLaws.{if_ok}
 use Rattle.input_space.specs.TaskParts.{task_with}
 use Rattle.input_space.specs.Tasks.{tree_of}
-use Rattle.list_questions.proofs.SelectionLaws.{all_meet, all_selection_meet}
+use Rattle.input_space.proofs.TaskSpaceLaws.{all_meet, all_selection_meet}
 use Rattle.list_questions.proofs.trial.Trial.is_agreeing.Goals as goal
 
 pub returns : goal.returns

@@ -8,7 +8,7 @@ use Rattle.cost_levels.specs.Levels.{level}
 use Rattle.input_space.specs.TaskParts.{task_with}
 use Rattle.list_questions.specs.declared.trial.Reached.{Reached}
 use Rattle.list_questions.specs.Trials.{StopsAt}
-use Rattle.list_questions.proofs.Chosen.{contained_at}
+use Rattle.input_space.proofs.Elements.{contained_at}
 use Rattle.list_questions.proofs.TrialLaws.{found_low, next_reached, none_left, none_within, passed_to}
 use Rattle.list_questions.proofs.trial.Trial.next.Goals as goal
 
