@@ -8,7 +8,8 @@ use Rattle.choice_tree.specs.Selections.{Fits, edits, plain}
 use Rattle.choice_tree.specs.WeightedTrees.{Weighted}
 use Rattle.input_space.specs.Agreement.{Failure}
 use Rattle.input_space.specs.Tasks.{Task, tree_of}
-use Rattle.feedback_text.specs.Answers.{Answer, Correct, Corrected, NoCorrection, Edit, edit_tree}
+use Rattle.feedback_text.specs.Answers.{Answer, Correct, Corrected, NoCorrection, EmptyReference}
+use Rattle.feedback_text.specs.Answers.{Edit, edit_tree}
 use Rattle.feedback_text.specs.declared.answer.Answer as code
 use Rattle.feedback_text.specs.declared.answer.Failure as code_failure
 
@@ -20,17 +21,23 @@ pub record Makes (w : Weighted) (s : List Choice) (p : List Routine) (es : List 
   pub program : program_shape p ≡ plain (member_of s) w
   pub edits_are : map edit_tree es ≡ edits (member_of s) w 0
 
--- the code's answer stands for this one; EmptyReference and NoMemory stand for none
+-- the code's answer stands for this one; want of memory stands for none
 abbrev pub StandsFor : Task → code.Answer → Answer → Type 0
 StandsFor k code.TheVariants.Correct a = a ≡ Correct
 StandsFor k (code.TheVariants.Corrected s n fails) (Corrected m failure es p) =
     (n ≡ m) × (failure_of fails ≡ failure) × Makes (tree_of k) s p es
+StandsFor k (code.TheVariants.Corrected s n fails) Correct = ⊥
+StandsFor k (code.TheVariants.Corrected s n fails) (NoCorrection failure) = ⊥
+StandsFor k (code.TheVariants.Corrected s n fails) EmptyReference = ⊥
 StandsFor k (code.TheVariants.NoCorrection fails) a = a ≡ NoCorrection (failure_of fails)
-StandsFor k _ a = ⊥
+StandsFor k code.TheVariants.EmptyReference a = a ≡ EmptyReference
+StandsFor k code.TheVariants.NoMemory a = ⊥
 
--- what the report is written of: a selection that fits the tree
+-- What a report is written of: a selection fits the tree. Of a reference without values there is
+-- none.
 abbrev pub IsReported : Task → code.Answer → Type 0
 IsReported k code.TheVariants.Correct = Unit {0}
 IsReported k (code.TheVariants.Corrected s n fails) = Fits (tree_of k) s
 IsReported k (code.TheVariants.NoCorrection fails) = Unit {0}
-IsReported k _ = ⊥
+IsReported k code.TheVariants.EmptyReference = ⊥
+IsReported k code.TheVariants.NoMemory = ⊥

@@ -4,7 +4,7 @@ use Rattle.mpy_tree.specs.Shapes.{shape}
 use Rattle.mpy_tree.specs.Syntax.{Routine, Term}
 use Rattle.choice_tree.specs.Rewriting as tree
 use Rattle.input_space.specs.Agreement.{Failure}
-use Rattle.input_space.specs.Tasks.{Task, IsBestOf, IsFailureOf, NoneAgrees}
+use Rattle.input_space.specs.Tasks.{Task, HasWanted, IsBestOf, IsFailureOf, NoneAgrees}
 
 -- a replacement on a line by a rule, counted from 0
 pub record Edit : Type 0 where
@@ -20,10 +20,13 @@ pub data Answer : Type 0 where
   Correct : Answer
   Corrected : (cost : ℕ) (fails : Failure) (edits : List Edit) (p : List Routine) → Answer
   NoCorrection : (fails : Failure) → Answer
+  EmptyReference : Answer
 
--- `correct` is the submission itself, at cost 0
+-- `correct` is the submission itself, at cost 0. Only of a reference that gives a value on some
+-- input is anything else answered than that it gives none.
 abbrev pub IsAnswer : Task → Answer → Type 0
-IsAnswer k Correct = IsBestOf k k.submission 0 []
+IsAnswer k Correct = HasWanted k × IsBestOf k k.submission 0 []
 IsAnswer k (Corrected cost fails edits p) =
     IsBestOf k p cost (map edit_tree edits) × (0 < cost) × IsFailureOf k fails
 IsAnswer k (NoCorrection fails) = NoneAgrees k × IsFailureOf k fails
+IsAnswer k EmptyReference = HasWanted k → ⊥

@@ -11,7 +11,8 @@ use Rattle.input_space.specs.Agreement.{Failure}
 use Rattle.input_space.specs.Tasks.{Task}
 use Rattle.feedback_text.specs.declared.holes.Hole.{Hole}
 use Rattle.feedback_text.specs.declared.holes.Hole.TheVariants as hole
-use Rattle.feedback_text.specs.Answers.{Answer, Correct, Corrected, NoCorrection, Edit}
+use Rattle.feedback_text.specs.Answers.{Answer, Correct, Corrected, NoCorrection, EmptyReference}
+use Rattle.feedback_text.specs.Answers.{Edit}
 use Rattle.feedback_text.specs.Messages.{filled}
 
 -- a value, or `fault` and its kind
@@ -51,9 +52,11 @@ edit_line e (Some r) = edit_by e r
 abbrev pub edits_text : List Correction → List Edit → List ℕ
 edits_text rules edits = flat_map (λ e. edit_line e (slice_get rules e.rule)) edits
 
+-- the report of an answer; a reference without values is refused, and has none
 abbrev pub report_of : Task → Answer → List ℕ
 report_of k Correct = codes "correct\n"
 report_of k (Corrected cost fails edits p) =
     codes "cost " ++ decimal cost ++ codes "\n" ++ fails_text k.bounds.entry fails
     ++ edits_text k.rules edits ++ codes "program\n" ++ program_text p
 report_of k (NoCorrection fails) = codes "no correction\n" ++ fails_text k.bounds.entry fails
+report_of k EmptyReference = []

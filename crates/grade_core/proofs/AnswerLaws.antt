@@ -1,10 +1,8 @@
 -- From what a search finds to the answer to a task.
-use Rattle.std.proofs.Common.{◌≡◌, ℕ, ◌≤◌, true, List, [], ◌∷◌, Option, None, Some, All, map, refl, sym, ap, subst, arith, inl, inr}
+use Rattle.std.proofs.Common.{◌≡◌, ℕ, ◌≤◌, true, List, [], ◌∷◌, All, map, refl, sym, subst, arith, inl, inr}
 use Rattle.std.specs.List.{Contains}
-use Rattle.std.specs.Option.{is_some}
 use Rattle.std.proofs.lemmas.Bool.{cases_lt}
 use Rattle.std.proofs.lemmas.List.Elements.{All-contains, All-head}
-use Rattle.mpy_tree.specs.declared.outcome.Outcome.TheVariants as outcome
 use Rattle.mpy_tree.specs.declared.value.Value.{Value}
 use Rattle.mpy_tree.specs.Shapes.{program_shape}
 use Rattle.mpy_tree.specs.Syntax.{Routine}
@@ -18,16 +16,15 @@ use Rattle.choice_tree.proofs.SelectionLaws.{made_by_selections}
 use Rattle.eml_faults.specs.FaultLaws.{IsSmall}
 use Rattle.eml_faults.proofs.Faultless.{primes_kept, small_kept}
 use Rattle.input_space.specs.declared.case.Case.{Case}
-use Rattle.input_space.specs.Agreement.{Agrees, IsInput, ends_on}
+use Rattle.input_space.specs.Agreement.{Agrees, IsInput}
 use Rattle.input_space.specs.Inputs.{inputs}
 use Rattle.input_space.specs.Tasks.{HasWanted, IsBestOf, IsSound, NoneAgrees, Rewrites, Task, setting, tree_of}
-use Rattle.cegis_loop.specs.Answers.{IsKept, IsLeast, NoneBelow}
+use Rattle.input_space.specs.TaskSpace.{Meets, SelectionMeets, case_of, is_wanted, space, wanted_inputs}
+use Rattle.input_space.proofs.Elements.{all_if_contained, contained_if, first_contained, map_contains}
+use Rattle.input_space.proofs.TaskSpaceLaws.{all_meet, all_selection_meet, wanted_is_input, was_wanted}
+use Rattle.cegis_loop.specs.Answers.{IsKept, IsLeast}
 use Rattle.cegis_loop.specs.Answers as loop
 use Rattle.cegis_loop.specs.Space as loop_space
-use Rattle.list_questions.specs.TaskSpace.{Meets, SelectionMeets, case_of, is_wanted, space, wanted, wanted_inputs}
-use Rattle.list_questions.proofs.Chosen.{all_if_contained, contained_if, contained_map, contained_was, first_contained, map_contains}
-use Rattle.list_questions.proofs.SelectionLaws.{all_meet, all_selection_meet}
-use Rattle.list_questions.proofs.TableLaws.{end_wanted, wanted_end, was_wanted}
 use Rattle.feedback_text.specs.Answers.{edit_tree}
 use Rattle.grade_core.specs.Runs.{IsBestSelection, SomeFails}
 use Rattle.grade_core.proofs.FreeRewritings.{free_is_whole, kept_whole}
@@ -46,20 +43,14 @@ whole k = kept_whole (setting k) elsewhere 0 (outermost (setting k)) (program_sh
 
 -- AGREEMENT
 
-input_wanted : (k : Task) (vs : List Value) (v : Value) → IsInput k.bounds vs → ends_on k.bounds k.reference vs ≡ outcome.Value v → Contains (wanted_inputs k) (case_of vs)
-input_wanted k vs v input ends =
-    contained_if (is_wanted k) (map case_of (inputs k.bounds.params)) (case_of vs) (map_contains case_of (inputs k.bounds.params) vs input) (ap is_some (end_wanted k vs v ends))
+input_wanted : (k : Task) (vs : List Value) → IsInput k.bounds vs → is_wanted k (case_of vs) ≡ true → Contains (wanted_inputs k) (case_of vs)
+input_wanted k vs input done = contained_if (is_wanted k) (map case_of (inputs k.bounds.params)) (case_of vs) (map_contains case_of (inputs k.bounds.params) vs input) done
 
 agrees_on_all : (k : Task) (p : List Routine) → All (Meets k p) (wanted_inputs k) → Agrees k.bounds k.reference p
-agrees_on_all k p met vs v input ends = All-contains (Meets k p) (wanted_inputs k) (case_of vs) met (input_wanted k vs v input ends) v ends
-
-pub wanted_is_input : (k : Task) (x : Case) → Contains (wanted_inputs k) x → IsInput k.bounds x.values
-wanted_is_input k x c =
-    let from = contained_map case_of (inputs k.bounds.params) x (contained_was (is_wanted k) (map case_of (inputs k.bounds.params)) x c).0 in
-    subst (λ (y : Case). IsInput k.bounds y.values) from.2 from.1
+agrees_on_all k p met vs input done = All-contains (Meets k p) (wanted_inputs k) (case_of vs) met (input_wanted k vs input done) done
 
 meets_where_agrees : (k : Task) (p : List Routine) → Agrees k.bounds k.reference p → All (Meets k p) (wanted_inputs k)
-meets_where_agrees k p agrees = all_if_contained (Meets k p) (wanted_inputs k) (λ x c v ends. agrees x.values v (wanted_is_input k x c) ends)
+meets_where_agrees k p agrees = all_if_contained (Meets k p) (wanted_inputs k) (λ x c done. agrees x.values (wanted_is_input k x c) done)
 
 -- a rewriting that agrees has a selection that does
 selected : (k : Task) → (sound : IsSound k) → (q : List Routine) (n : ℕ) (es : List tree.Edit) → Rewrites k q n es → Agrees k.bounds k.reference q
@@ -70,10 +61,10 @@ selected k sound q n es makes agrees =
 
 -- THE ANSWERS
 
-pub none_agree : (k : Task) → IsSound k → loop.NoneAgrees (space k) (wanted_inputs k) → NoneAgrees k
+pub none_agree : (k : Task) → IsSound k → loop.NoneAgrees (space k 1) (wanted_inputs k) → NoneAgrees k
 none_agree k sound none q n es makes agrees = let has = selected k sound q n es makes agrees in none has.0 has.1 has.3
 
-pub best_selection : (k : Task) → IsSound k → (s : List Choice) (n : ℕ) → IsLeast (space k) (wanted_inputs k) s n → IsBestSelection k s n
+pub best_selection : (k : Task) → IsSound k → (s : List Choice) (n : ℕ) → IsLeast (space k 1) (wanted_inputs k) s n → IsBestSelection k s n
 best_selection k sound s n found = record {
   fits = found.choice;
   best = λ p es makes. record {
@@ -97,7 +88,7 @@ free_selection k sound s fits free =
     (subst (λ m. tree.Rewrites (setting k) elsewhere 0 (outermost (setting k)) (program_shape k.submission) (plain (member_of s) (tree_of k)) m (edits (member_of s) (tree_of k) 0)) free
     ((selections k sound).made s fits)) refl
 
-pub submission_best : (k : Task) → IsSound k → (s : List Choice) → IsLeast (space k) (wanted_inputs k) s 0 → IsBestOf k k.submission 0 []
+pub submission_best : (k : Task) → IsSound k → (s : List Choice) → IsLeast (space k 1) (wanted_inputs k) s 0 → IsBestOf k k.submission 0 []
 submission_best k sound s found = record {
   rewriting = whole k;
   agrees = agrees_on_all k k.submission (all_meet k s k.submission (wanted_inputs k) (sym (free_selection k sound s found.choice found.cost_of)) found.agrees);
@@ -105,10 +96,10 @@ submission_best k sound s found = record {
 }
 
 -- where there is no input none is kept
-pub none_kept : (k : Task) (xs : List Case) → wanted_inputs k ≡ [] → IsKept (space k) xs → xs ≡ []
+pub none_kept : (k : Task) (xs : List Case) → wanted_inputs k ≡ [] → IsKept (space k 1) xs → xs ≡ []
 none_kept k [] none kept = refl
 none_kept k (x ∷ xs) none kept =
-    let c = subst (λ (ys : List Case). Contains ys x) none (All-head (loop_space.IsInput (space k)) x xs kept.inputs) in
+    let c = subst (λ (ys : List Case). Contains ys x) none (All-head (loop_space.IsInput (space k 1)) x xs kept.inputs) in
     absurd (let below = c.1 in omega arith)
 
 -- the selection of the submission itself
@@ -119,17 +110,12 @@ some_fails k sound xs none met =
 
 pub none_wanted : (k : Task) → wanted_inputs k ≡ [] → HasWanted k → ⊥
 none_wanted k none some =
-    let c = subst (λ xs. Contains xs (case_of some.input)) none (input_wanted k some.input some.wanted some.is_input some.ends) in
+    let c = subst (λ xs. Contains xs (case_of some.input)) none (input_wanted k some.input some.is_input some.done) in
     (let below = c.1 in omega arith)
-
-value_of : (k : Task) (x : Case) (o : Option Value) → wanted k x.values ≡ o → is_some o ≡ true → (v : Value) × (wanted k x.values ≡ Some v)
-value_of k x None is some = cc
-value_of k x (Some v) is some = (v, is)
 
 -- where there is an input the reference gives a value on it
 pub some_wanted : (k : Task) (xs : List Case) → xs ≡ wanted_inputs k → (wanted_inputs k ≡ [] → ⊥) → HasWanted k
 some_wanted k [] is some = absurd (some (sym is))
 some_wanted k (x ∷ xs) is some =
     let c = subst (λ ys. Contains ys x) is (first_contained x xs) in
-    let has = value_of k x (wanted k x.values) refl (was_wanted k x c) in
-    record { input = x.values; wanted = has.0; is_input = wanted_is_input k x c; ends = wanted_end k x.values has.0 has.1 }
+    record { input = x.values; is_input = wanted_is_input k x c; done = was_wanted k x c }

@@ -5,12 +5,12 @@ use Rattle.std.proofs.lemmas.List.Elements.{All-contains}
 use Rattle.input_space.specs.declared.case.Case.{Case}
 use Rattle.input_space.specs.Agreement.{IsInput, ends_on}
 use Rattle.input_space.specs.Tasks.{IsFailureOf, Task}
-use Rattle.list_questions.specs.TaskSpace.{Meets, wanted_inputs}
-use Rattle.list_questions.proofs.Chosen.{contained_at}
+use Rattle.input_space.specs.TaskSpace.{Meets, wanted_inputs}
+use Rattle.input_space.proofs.Elements.{contained_at}
+use Rattle.input_space.proofs.TaskSpaceLaws.{wanted_is_input}
 use Rattle.feedback_text.specs.declared.answer.Failure as code
 use Rattle.feedback_text.specs.AnswerViews.{failure_of}
 use Rattle.grade_core.specs.Runs.{FailsSo, IsFirstFailure}
-use Rattle.grade_core.proofs.AnswerLaws.{wanted_is_input}
 
 is_failure : (k : Task) (x : Case) (f : code.Failure) → Contains (wanted_inputs k) x → FailsSo k x f → IsFailureOf k (failure_of f)
 is_failure k x f c so = record {

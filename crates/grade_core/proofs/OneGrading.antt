@@ -2,8 +2,7 @@
 use Rattle.std.proofs.Common.{ℕ, List, [], ◌∷◌}
 use Rattle.task_read.specs.Steps.{IsOne}
 use Rattle.task_read.proofs.OneStep as task
-use Rattle.task_read.proofs.Steps.{one_done, one_refuse, one_then}
-use Rattle.grade_core.specs.Decisions.{graded_step, never, task_step}
+use Rattle.grade_core.specs.Decisions.{never, task_step}
 
 pub one_never : {A : Type 0} → IsOne (never {A = A})
 one_never = record { gives = λ a b x y. absurd x; refuses = λ q r x y. absurd x; not_both = λ a r x y. x }
@@ -15,6 +14,3 @@ one_task_step (a ∷ b ∷ []) = one_never
 one_task_step (a ∷ b ∷ c ∷ []) = one_never
 one_task_step (a ∷ b ∷ c ∷ d ∷ []) = task.one_task_step a b c d
 one_task_step (a ∷ b ∷ c ∷ d ∷ e ∷ ts) = one_never
-
-pub one_graded_step : (ts : List (List ℕ)) → IsOne (graded_step ts)
-one_graded_step ts = one_then _ _ (one_task_step ts) (λ k. one_then _ _ (one_refuse _ _) (λ some. one_done k))

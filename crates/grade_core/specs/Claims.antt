@@ -2,12 +2,18 @@
 use Rattle.grade_io.specs.declared.status.Status.{Status}
 use Rattle.grade_io.specs.declared.status.Status.TheVariants as status
 use Rattle.input_space.specs.Agreement.{Agrees}
-use Rattle.input_space.specs.Tasks.{Task, NoneAgrees}
+use Rattle.input_space.specs.Tasks.{Task, HasWanted, NoneAgrees}
 
 -- the answer to a task that nothing refuses; want of memory stays possible
 abbrev pub IsGraded : Task → Status → Type 0
-IsGraded k status.Correct = Agrees k.bounds k.reference k.submission
+IsGraded k status.Correct = HasWanted k × Agrees k.bounds k.reference k.submission
 IsGraded k status.Corrected = Agrees k.bounds k.reference k.submission → ⊥
 IsGraded k status.NoCorrection = NoneAgrees k
+IsGraded k status.Spent = ⊥
+IsGraded k status.Refused = HasWanted k → ⊥
+IsGraded k status.ReadFailed = ⊥
+IsGraded k status.WriteFailed = ⊥
 IsGraded k status.NoMemory = Unit {0}
-IsGraded k _ = ⊥
+IsGraded k status.Usage = ⊥
+IsGraded k status.StoreFailed = ⊥
+IsGraded k status.Rejected = ⊥

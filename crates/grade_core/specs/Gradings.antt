@@ -7,13 +7,30 @@ use Rattle.feedback_text.specs.declared.answer.Answer as code_answer
 use Rattle.feedback_text.specs.Answers.{Answer, IsAnswer}
 use Rattle.feedback_text.specs.AnswerViews.{IsReported, StandsFor}
 use Rattle.grade_core.specs.declared.grading.Graded.{Graded}
-use Rattle.grade_core.specs.Commands.{status_of}
-use Rattle.grade_core.specs.Decisions.{graded_step}
+use Rattle.grade_core.specs.Commands.{answer_text, status_of}
+use Rattle.grade_core.specs.Decisions.{task_step}
+
+-- what a text is written of: there was memory for an answer, and what it reports can be made
+abbrev pub IsTold : Task → code_answer.Answer → Type 0
+IsTold k code_answer.TheVariants.Correct = IsReported k code_answer.TheVariants.Correct
+IsTold k (code_answer.TheVariants.Corrected s n fails) =
+    IsReported k (code_answer.TheVariants.Corrected s n fails)
+IsTold k (code_answer.TheVariants.NoCorrection fails) =
+    IsReported k (code_answer.TheVariants.NoCorrection fails)
+IsTold k code_answer.TheVariants.EmptyReference = Unit {0}
+IsTold k code_answer.TheVariants.NoMemory = ⊥
+
+-- what is written of the answer for which the code's stands, by the word that names the reference
+pub record IsTextOf (word : List ℕ) (k : Task) (d : code_answer.Answer) (text : List ℕ)
+    : Type 0 where
+  pub answer : Answer
+  pub stands : StandsFor k d answer
+  pub text_is : text ≡ answer_text word k answer
 
 -- the texts spell this task, and this answer stands for its answer
 pub record IsGradedSo (ts : List (List ℕ)) (d : Graded) : Type 0 where
-  pub task : (graded_step ts).gives (task_with d.task)
-  pub reported : IsReported (task_with d.task) d.answer
+  pub task : (task_step ts).gives (task_with d.task)
+  pub told : IsTold (task_with d.task) d.answer
   pub answered : (a : Answer) → StandsFor (task_with d.task) d.answer a
       → IsAnswer (task_with d.task) a
 

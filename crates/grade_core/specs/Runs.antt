@@ -7,9 +7,9 @@ use Rattle.choice_tree.specs.Selections.{Fits}
 use Rattle.input_space.specs.declared.case.Case.{Case}
 use Rattle.input_space.specs.Agreement.{Failure, ends_on}
 use Rattle.input_space.specs.Tasks.{HasWanted, IsBestOf, IsFailureOf, NoneAgrees, Task, tree_of}
+use Rattle.input_space.specs.TaskSpace.{Meets, space}
 use Rattle.cegis_loop.specs.Answers.{IsKept, NoneBelow}
 use Rattle.cegis_loop.specs.Answers as loop
-use Rattle.list_questions.specs.TaskSpace.{Meets, space}
 use Rattle.feedback_text.specs.declared.answer.Answer as code
 use Rattle.feedback_text.specs.declared.answer.Failure as code_failure
 use Rattle.feedback_text.specs.Answers.{Edit, edit_tree}
@@ -41,15 +41,15 @@ IsRight k kept code.TheVariants.NoMemory = Unit {0}
 -- what the kept cases rule out by themselves: each selection that is cheaper, or each one
 abbrev pub RulesOut : Task → List Case → code.Answer → Type 0
 RulesOut k kept code.TheVariants.Correct = Unit {0}
-RulesOut k kept (code.TheVariants.Corrected s cost fails) = NoneBelow (space k) kept cost
-RulesOut k kept (code.TheVariants.NoCorrection fails) = loop.NoneAgrees (space k) kept
+RulesOut k kept (code.TheVariants.Corrected s cost fails) = NoneBelow (space k 1) kept cost
+RulesOut k kept (code.TheVariants.NoCorrection fails) = loop.NoneAgrees (space k 1) kept
 RulesOut k kept code.TheVariants.EmptyReference = kept ≡ []
 RulesOut k kept code.TheVariants.NoMemory = Unit {0}
 
 -- The kept cases are inputs on which the reference ends, each of them new, and each but the first
 -- refutes a selection that agrees on those before it.
 pub record KeepsCases (k : Task) (kept : List Case) (a : code.Answer) : Type 0 where
-  pub inputs : IsKept (space k) kept
+  pub inputs : IsKept (space k 1) kept
   pub ruled_out : RulesOut k kept a
 
 -- how the submission fails on a case

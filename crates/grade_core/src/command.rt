@@ -1,27 +1,30 @@
 //! The command `grade`.
-ghost use Rattle.std.specs.Prelude.{◌≡◌, ℕ, List, length, IfErr, IfOk};
+ghost use Rattle.std.specs.Prelude.{◌≡◌, ℕ, List, length, IfErr, IfOk, OnOk};
 ghost use Rattle.grade_io.specs.Devices.{devices};
+ghost use Rattle.grade_io.specs.Kept.{FilesLeft};
 ghost use Rattle.mpy_tree.specs.declared.refusal.Refusal.{Refusal as AnyRefusal};
-ghost use Rattle.input_space.specs.Tasks.{Task as AnyTask};
-ghost use Rattle.source_files.specs.Fetches.{CallsInOrder, FilesKept, IsLongSource, OnRefused};
+ghost use Rattle.mpy_tree.specs.Refusals.{refusal_text};
+ghost use Rattle.input_space.specs.Tasks.{HasWanted, Task as AnyTask};
+ghost use Rattle.source_files.specs.Fetches.{FetchedAll, FetchesInOrder, IsLongSource, OnRefused};
 ghost use Rattle.source_files.specs.Fetches.{ReadFaults};
 ghost use Rattle.source_files.specs.Files.{file as source_file};
 ghost use Rattle.source_files.specs.Texts.{AllFit, AreHeld, Tells};
 ghost use Rattle.source_files.specs.Views.{file_of, texts_of};
+ghost use Rattle.file_commands.specs.Calls.{CallsInOrder};
 ghost use Rattle.file_commands.specs.Claims.{AreTold, IsSaid, NoFault};
 ghost use Rattle.file_commands.specs.Commands.{Refused};
 ghost use Rattle.file_commands.specs.Ends.{ComesOfFiles, Ends, IsFirstRefusal};
 ghost use Rattle.file_commands.specs.Reports.{IsFound, ReportsFiles};
 ghost use Rattle.grade_core.specs.Claims.{IsGraded};
-ghost use Rattle.grade_core.specs.Commands.{files_of, grade_command, word_of};
-ghost use Rattle.grade_core.specs.Decisions.{graded_step};
+ghost use Rattle.grade_core.specs.Commands.{empty_reference, files_of, grade_command, word_of};
+ghost use Rattle.grade_core.specs.Decisions.{task_sources, task_step};
 ghost use Rattle.grade_core.specs.Requests.{grade_of};
 ghost use Rattle.grade_core.specs.Words.{IsBudget};
 
 use crate::NoMemory;
 use crate::grading::{answer_status, grade_texts};
 use crate::words::GradeWords;
-use feedback_text::report;
+use crate::writing::answer_text;
 use file_commands::{Lines, Report, end};
 use grade_io::{Shelf, Sink, Status};
 use mpy_tree::{Refusal, Source};
@@ -41,14 +44,16 @@ fn fetch<S: Shelf>(
     words: &GradeWords<'_>,
     shelf: &mut S,
 ) -> Result<Vec<Vec<u8>>, Stop>
-    ensures fit { IfOk result (λ v. AllFit (texts_of v.items)) }
+    ensures fit { IfOk result (λ v. AllFit task_sources (texts_of v.items)) }
     ensures held { IfOk result (λ v. AreHeld (S.seen shelf.old) (files_of (grade_of words.now))
         (texts_of v.items)) }
     ensures long { IfErr result (OnRefused (IsLongSource (files_of (grade_of words.now))
         (S.seen shelf.old) (S.seen shelf.new))) }
-    ensures calls { CallsInOrder (files_of (grade_of words.now)) (S.seen shelf.old)
+    ensures calls { FetchesInOrder (files_of (grade_of words.now)) (S.seen shelf.old)
         (S.seen shelf.new) }
-    ensures kept { FilesKept (S.seen shelf.old) (S.seen shelf.new) }
+    ensures all { OnOk result (FetchedAll (files_of (grade_of words.now)) (S.seen shelf.old)
+        (S.seen shelf.new)) }
+    ensures kept { FilesLeft (S.seen shelf.old) (S.seen shelf.new) }
     ensures faults { ReadFaults result (S.seen shelf.old) (S.seen shelf.new) }
 {
     let files = [
@@ -63,14 +68,15 @@ fn fetch<S: Shelf>(
 // What is written of what the texts decide.
 fn report_texts(alloc: Global, words: &GradeWords<'_>, texts: &[Vec<u8>]) -> Result<Report, Stop>
     requires four { length texts.now ≡ 4 }
-    requires fit { AllFit (texts_of texts.now) }
+    requires fit { AllFit task_sources (texts_of texts.now) }
     ensures { IsFound (grade_command (grade_of words.now)) (texts_of texts.now) result }
 {
     let graded = grade_texts(alloc, texts, words.budget)?;
-    let text = report(alloc, &graded.task, &graded.answer)?;
+    let text = answer_text(alloc, words.reference, &graded)?;
     Ok(Report {
         status: answer_status(&graded.answer),
         text,
+        kept: None,
     })
 }
 
@@ -85,9 +91,11 @@ fn find_report<S: Shelf>(
     ensures refused { IfErr result (OnRefused (λ r. ComesOfFiles
         (grade_command (grade_of words.now)) (S.seen shelf.old) (S.seen shelf.new)
         (Refused r))) }
-    ensures calls { CallsInOrder (files_of (grade_of words.now)) (S.seen shelf.old)
+    ensures calls { FetchesInOrder (files_of (grade_of words.now)) (S.seen shelf.old)
         (S.seen shelf.new) }
-    ensures kept { FilesKept (S.seen shelf.old) (S.seen shelf.new) }
+    ensures all { OnOk result (FetchedAll (files_of (grade_of words.now)) (S.seen shelf.old)
+        (S.seen shelf.new)) }
+    ensures kept { FilesLeft (S.seen shelf.old) (S.seen shelf.new) }
     ensures faults { ReadFaults result (S.seen shelf.old) (S.seen shelf.new) }
 {
     let texts = fetch(alloc, words, shelf)?;
@@ -136,15 +144,24 @@ pub fn grade<S: Shelf, K: Sink>(
         (devices (S.seen shelf.old) (K.seen out.old))
         (devices (S.seen shelf.new) (K.seen out.new)) result }
     // The fetches of the four sources, in order, each once, up to some point.
-    ensures calls { CallsInOrder (files_of (grade_of w.now)) (S.seen shelf.old)
+    ensures calls { CallsInOrder (grade_command (grade_of w.now)) (S.seen shelf.old)
         (S.seen shelf.new) }
     // A task that nothing refuses is graded, unless a device failed or memory lacked.
     ensures graded { (ts : List (List ℕ)) (k : AnyTask)
         → AreTold (devices (S.seen shelf.old) (K.seen out.old)) (files_of (grade_of w.now)) ts
-        → (graded_step ts).gives k
+        → (task_step ts).gives k
         → NoFault (devices (S.seen shelf.old) (K.seen out.old))
         (devices (S.seen shelf.new) (K.seen out.new))
         → IsGraded k result }
+    // Where its reference gives no value on any input, that is refused, unless a device failed or
+    // memory lacked.
+    ensures empty { (ts : List (List ℕ)) (k : AnyTask)
+        → AreTold (devices (S.seen shelf.old) (K.seen out.old)) (files_of (grade_of w.now)) ts
+        → (task_step ts).gives k → (HasWanted k → ⊥)
+        → NoFault (devices (S.seen shelf.old) (K.seen out.old))
+        (devices (S.seen shelf.new) (K.seen out.new))
+        → IsSaid (refusal_text w.now.reference.now (empty_reference k)) Status.Refused
+        (K.seen out.old) (K.seen out.new) result }
     // Where a refusal is the first, it is answered and its line written, unless a device failed or
     // memory lacked; by `ends` a refusal is answered for texts for which it is the first alone.
     ensures refused { (ts : List (List ℕ)) (r : AnyRefusal)
@@ -156,5 +173,5 @@ pub fn grade<S: Shelf, K: Sink>(
         (K.seen out.new) result }
 {
     let found = find_report(alloc, w, shelf);
-    end(alloc, w, found, out)
+    end(alloc, w, None, found, shelf, out)
 }

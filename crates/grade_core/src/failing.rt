@@ -3,15 +3,15 @@ ghost use Rattle.std.specs.Prelude.{◌≡◌, ◌↔◌, IfOk, IsTrue, MatchOpt
 ghost use Rattle.std.specs.List.{Contains};
 ghost use Rattle.mpy_tree.specs.declared.outcome.Outcome.TheVariants as ended;
 ghost use Rattle.input_space.specs.TaskParts.{task_with};
-ghost use Rattle.list_questions.specs.TaskSpace.{Meets, wanted_inputs};
+ghost use Rattle.input_space.specs.TaskSpace.{Meets, wanted_inputs};
 ghost use Rattle.feedback_text.specs.AnswerViews.{failure_of};
 ghost use Rattle.grade_core.specs.Runs.{FailsSo, IsFirstFailure, SomeFails};
 
 use crate::NoMemory;
 use feedback_text::Failure;
 use input_space::{Case, Cases};
-use list_questions::Runs;
 use mpy_tree::{Outcome, Value};
+use task_runs::Runs;
 
 // The failure of the submission on a case, if it fails there.
 fn failure_on(runs: &Runs<'_>, case: &Case) -> Result<Option<Failure>, NoMemory>
@@ -19,7 +19,7 @@ fn failure_on(runs: &Runs<'_>, case: &Case) -> Result<Option<Failure>, NoMemory>
         (Meets (task_with runs.now.task.now) (task_with runs.now.task.now).submission case.now)
         (FailsSo (task_with runs.now.task.now) case.now)) }
 {
-    let Some(wanted) = runs.wanted(case)? else {
+    let Outcome::Value(wanted) = runs.reference(case)? else {
         return Ok(None);
     };
     let gives = runs.submission(case)?;

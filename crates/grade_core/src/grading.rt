@@ -5,17 +5,16 @@ ghost use Rattle.source_files.specs.Fetches.{StopsAs};
 ghost use Rattle.source_files.specs.Texts.{AllFit};
 ghost use Rattle.source_files.specs.Views.{texts_of};
 ghost use Rattle.feedback_text.specs.declared.answer.Answer.{Answer as AnyAnswer};
-ghost use Rattle.grade_core.specs.Decisions.{graded_step, task_step};
+ghost use Rattle.grade_core.specs.Decisions.{task_sources, task_step};
 ghost use Rattle.grade_core.specs.Gradings.{HasStatus, IsGradedSo};
 
 use crate::run::answer;
 use feedback_text::Answer;
 use grade_io::Status;
 use input_space::Task;
-use mpy_tree::{Cause, Source};
-use source_files::{Stop, refused};
+use source_files::Stop;
 use std::alloc::Global;
-use task_read::{entry_line, read_task};
+use task_read::read_task;
 
 /// A task that nothing refuses, and its answer.
 #[derive(Drop)]
@@ -27,7 +26,7 @@ pub struct Graded {
 // The task that the texts spell.
 fn read(alloc: Global, texts: &[Vec<u8>]) -> Result<Task, Stop>
     requires four { length texts.now ≡ 4 }
-    requires fit { AllFit (texts_of texts.now) }
+    requires fit { AllFit task_sources (texts_of texts.now) }
     ensures { MatchResult result (λ t. (task_step (texts_of texts.now)).gives (task_with t))
         (StopsAs (task_step (texts_of texts.now)).refuses) }
 {
@@ -41,31 +40,24 @@ fn read(alloc: Global, texts: &[Vec<u8>]) -> Result<Task, Stop>
 ///
 /// # Errors
 ///
-/// The first refusal of the texts, also that the reference gives a value on no input; or want of
-/// memory.
+/// The first refusal of the texts, or want of memory.
 pub fn grade_texts(alloc: Global, texts: &[Vec<u8>], budget: u32) -> Result<Graded, Stop>
     requires four { length texts.now ≡ 4 }
-    requires fit { AllFit (texts_of texts.now) }
+    requires fit { AllFit task_sources (texts_of texts.now) }
     ensures { MatchResult result (IsGradedSo (texts_of texts.now))
-        (StopsAs (graded_step (texts_of texts.now)).refuses) }
+        (StopsAs (task_step (texts_of texts.now)).refuses) }
 {
     let task = read(alloc, texts)?;
     let run = answer(alloc, &task, budget);
     match run.answer {
-        Answer::EmptyReference => {
-            let line = entry_line(task.bounds(), task.reference());
-            Err(refused(Source::Reference, Cause::EmptyReference, line))
-        }
         Answer::NoMemory => Err(Stop::NoMemory),
         answer => Ok(Graded { task, answer }),
     }
 }
 
-/// The status of an answer that is written whole. Of one that isn't written it is that of its
-/// refusal, or that memory lacked.
+/// The status of an answer that is written whole; or that memory lacked.
 pub fn answer_status(answer: &Answer) -> Status
     ensures written { HasStatus answer.now result }
-    ensures no_value { answer.now ≡ Answer.EmptyReference → result ≡ Status.Refused }
     ensures no_memory { answer.now ≡ Answer.NoMemory → result ≡ Status.NoMemory }
 {
     match answer {

@@ -6,12 +6,14 @@ mod failing;
 mod grading;
 mod run;
 mod words;
+mod writing;
 
 pub use command::grade;
 pub use grading::{Graded, answer_status, grade_texts};
 pub use run::{Run, answer};
 use std::alloc::AllocError;
 pub use words::GradeWords;
+pub use writing::answer_text;
 
 /// Want of memory, where a call has no other refusal.
 pub type NoMemory = AllocError;

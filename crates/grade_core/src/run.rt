@@ -2,7 +2,7 @@
 ghost use Rattle.std.specs.Prelude.{None, IfOk};
 ghost use Rattle.cegis_loop.specs.Answers.{IsAnswer};
 ghost use Rattle.input_space.specs.TaskParts.{task_with};
-ghost use Rattle.list_questions.specs.TaskSpace.{space};
+ghost use Rattle.input_space.specs.TaskSpace.{space};
 ghost use Rattle.grade_core.specs.Runs.{IsRight, KeepsCases};
 
 use crate::NoMemory;
@@ -11,8 +11,9 @@ use cegis_loop::{Least, least};
 use choice_tree::Selection;
 use feedback_text::Answer;
 use input_space::{Cases, Task};
-use list_questions::{ListQuestions, Runs};
+use list_questions::ListQuestions;
 use std::alloc::{AllocError, Global};
+use task_runs::Runs;
 
 /// The answer to a task, and the inputs that were kept to find it.
 #[derive(Drop)]
@@ -56,7 +57,7 @@ fn search(alloc: Global, t: &Task) -> Result<Run, NoMemory>
 
 // What is told of what was found.
 fn told(runs: &Runs<'_>, kept: &Cases, found: Least<Selection>) -> Result<Answer, NoMemory>
-    requires { IsAnswer (space (task_with runs.now.task.now))
+    requires { IsAnswer (space (task_with runs.now.task.now) 1)
         (record { kept = kept.now; told = None; logged = 0 }) found }
     ensures right { IfOk result (IsRight (task_with runs.now.task.now) kept.now) }
     ensures kept { IfOk result (KeepsCases (task_with runs.now.task.now) kept.now) }

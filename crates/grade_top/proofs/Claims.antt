@@ -7,22 +7,24 @@ use Rattle.grade_io.specs.declared.status.Status.{Status}
 use Rattle.grade_io.specs.declared.status.Status.TheVariants as status
 use Rattle.mpy_tree.specs.declared.outcome.Outcome as run
 use Rattle.mpy_tree.specs.declared.refusal.Refusal.{Refusal}
-use Rattle.input_space.specs.Tasks.{Task}
+use Rattle.mpy_tree.specs.declared.refusal.Source.TheVariants as source
+use Rattle.mpy_tree.specs.Refusals.{refusal_text}
+use Rattle.input_space.specs.Tasks.{HasWanted, Task}
 use Rattle.source_files.specs.Texts.{Tells}
 use Rattle.file_commands.specs.Claims.{AreTold, IsSaid, NoFault}
 use Rattle.file_commands.specs.Commands.{Answered}
 use Rattle.file_commands.specs.Ends.{Ends, IsFirstRefusal}
 use Rattle.file_commands.proofs.Claims as claim
 use Rattle.file_commands.proofs.Endings.{said}
-use Rattle.feedback_text.specs.Answers.{Answer, Correct, Corrected, NoCorrection}
+use Rattle.feedback_text.specs.Answers.{Answer, Correct, Corrected, NoCorrection, EmptyReference}
 use Rattle.grade_core.specs.Claims.{IsGraded}
-use Rattle.grade_core.specs.Commands.{status_of}
-use Rattle.grade_core.specs.Decisions.{graded_step}
-use Rattle.grade_core.proofs.GradeClaims.{graded_as}
-use Rattle.grade_core.proofs.OneGrading.{one_graded_step}
-use Rattle.grade_top.specs.Commands.{AnswerOf, file_command, files_of, line_of, run_command, run_files, sample_command, usage_command}
+use Rattle.grade_core.specs.Commands.{answer_text, empty_reference, status_of}
+use Rattle.grade_core.specs.Decisions.{task_step}
+use Rattle.grade_core.proofs.GradeClaims.{empty_as, empty_found, graded_as}
+use Rattle.grade_core.proofs.OneGrading.{one_task_step}
+use Rattle.grade_top.specs.Commands.{AnswerOf, file_command, files_of, line_of, run_command, run_files, sample_command, sample_word, usage_command}
 use Rattle.grade_top.specs.Decisions.{run_step, sample_texts}
-use Rattle.grade_top.specs.Reports.{run_text, usage_text}
+use Rattle.grade_top.specs.Reports.{run_text, sample_report, usage_text}
 use Rattle.grade_top.specs.Words.{Command, Grade, Run, Sample, Nothing, RunWords}
 use Rattle.grade_top.proofs.OneOutcome.{not_both, one_refuses, one_run_step}
 
@@ -32,6 +34,7 @@ answer_no_usage : (a : Answer) → status.Usage ≡ status_of a → ⊥
 answer_no_usage Correct e = cc
 answer_no_usage (Corrected cost fails edits p) e = cc
 answer_no_usage (NoCorrection fails) e = cc
+answer_no_usage EmptyReference e = cc
 
 never_usage : (c : Command) → (c ≡ Nothing → ⊥) → (a : AnswerOf c) → status.Usage ≡ (file_command c).status a → ⊥
 never_usage (Grade g) some a e = answer_no_usage a.answer e
@@ -46,14 +49,29 @@ no_usage c before after s some ends is = claim.never_usage (file_command c) befo
 -- the usage is said
 pub usage_ends : (shelf : ShelfState) (before after : SinkState) (s : Status) → Says usage_text status.Usage before after s → Ends usage_command (devices shelf before) (devices shelf after) s
 usage_ends shelf before after s says =
-    said usage_command (λ a. tt) (devices shelf before) (devices shelf after) (Answered tt) s refl (record { texts = []; held = tt; comes = (tt, tt) }) says refl
+    said usage_command (λ a. tt) (devices shelf before) (devices shelf after) (Answered tt) s refl (record { texts = []; held = tt; comes = (tt, tt) }) says (record { bytes = refl; files = refl })
 
 -- ANSWERS
 
-pub sampled : (n : ℕ) (k : Task) (before after : Devices) (s : Status) → Ends (sample_command n) before after s → (graded_step (sample_texts n)).gives k → NoFault before after → IsGraded k s
+pub sampled : (n : ℕ) (k : Task) (before after : Devices) (s : Status) → Ends (sample_command n) before after s → (task_step (sample_texts n)).gives k → NoFault before after → IsGraded k s
 sampled n k before after s ends given sure =
     claim.answered (sample_command n) [] before after s (IsGraded k) tt (λ x decided wrote. graded_as (sample_texts n) k x given decided)
-    (λ r refuses. (one_graded_step (sample_texts n)).not_both k r given refuses) ends (record { tells = tt; fit = tt }) sure
+    (λ r refuses. (one_task_step (sample_texts n)).not_both k r given refuses) ends (record { tells = tt; fit = tt }) sure
+
+-- a sample whose reference gives no value: what `grade` writes is written
+empty_text : (n : ℕ) (k : Task) (a : Answer) → a ≡ EmptyReference → sample_report n k a ≡ answer_text (sample_word source.Reference) k a
+empty_text n k Correct is = cc
+empty_text n k (Corrected cost fails edits p) is = cc
+empty_text n k (NoCorrection fails) is = refl
+empty_text n k EmptyReference is = refl
+
+pub empty_sample : (n : ℕ) (k : Task) (before after : Devices) (s : Status) → Ends (sample_command n) before after s → (task_step (sample_texts n)).gives k → (HasWanted k → ⊥)
+    → NoFault before after → IsSaid (refusal_text (sample_word source.Reference) (empty_reference k)) status.Refused before.sink after.sink s
+empty_sample n k before after s ends given none sure =
+    claim.answered (sample_command n) [] before after s (IsSaid (refusal_text (sample_word source.Reference) (empty_reference k)) status.Refused before.sink after.sink) tt
+    (λ x decided wrote. empty_as (sample_word source.Reference) (sample_texts n) k x before.sink after.sink given none decided
+    (subst (Wrote before.sink after.sink) (empty_text n x.task x.answer (empty_found (sample_texts n) k x given none decided)) wrote))
+    (λ r refuses. (one_task_step (sample_texts n)).not_both k r given refuses) ends (record { tells = tt; fit = tt }) sure
 
 pub ran : (w : RunWords) (ts : List (List ℕ)) (o : run.Outcome) (before after : Devices) (s : Status) → Ends (run_command w) before after s → AreTold before (run_files w) ts
     → (run_step w ts).gives o → NoFault before after → IsSaid (run_text o) status.Correct before.sink after.sink s

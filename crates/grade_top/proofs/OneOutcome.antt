@@ -7,6 +7,7 @@ use Rattle.mpy_tree.specs.declared.value.Value.{Value}
 use Rattle.bounds_reader.specs.declared.params.Param.{Param}
 use Rattle.input_space.specs.Tasks.{Task}
 use Rattle.input_space.proofs.OneCase.{one_case}
+use Rattle.source_files.specs.Files.{sources_of}
 use Rattle.source_files.specs.Texts.{AllFit}
 use Rattle.task_read.specs.Sources.{entry_at}
 use Rattle.task_read.specs.Steps.{IsOne}
@@ -15,8 +16,8 @@ use Rattle.task_read.proofs.Steps.{one_done, one_refuse, one_then}
 use Rattle.file_commands.specs.Ends.{IsFirstRefusal}
 use Rattle.file_commands.proofs.FirstRefusals as first
 use Rattle.grade_core.specs.Decisions.{task_step}
-use Rattle.grade_core.proofs.OneGrading.{one_graded_step, one_never, one_task_step}
-use Rattle.grade_top.specs.Commands.{AnswerOf, file_command}
+use Rattle.grade_core.proofs.OneGrading.{one_never, one_task_step}
+use Rattle.grade_top.specs.Commands.{AnswerOf, file_command, files_of}
 use Rattle.grade_top.specs.Decisions.{run_step, sample_texts, spelled_step, value_step, values_step}
 use Rattle.grade_top.specs.Words.{Command, Grade, Run, Sample, Nothing, RunWords}
 
@@ -54,21 +55,21 @@ one_run_step w (a ∷ b ∷ c ∷ ts) = one_never
 -- WHAT COMES OF THE TEXTS
 
 pub one_refuses : (c : Command) (ts : List (List ℕ)) (q r : Refusal) → (file_command c).refuses ts q → (file_command c).refuses ts r → q ≡ r
-one_refuses (Grade g) ts q r a b = (one_graded_step ts).refuses q r a b
-one_refuses (Sample n) ts q r a b = (one_graded_step (sample_texts n)).refuses q r a b
+one_refuses (Grade g) ts q r a b = (one_task_step ts).refuses q r a b
+one_refuses (Sample n) ts q r a b = (one_task_step (sample_texts n)).refuses q r a b
 one_refuses (Run w) ts q r a b = (one_run_step w ts).refuses q r a b
 one_refuses Nothing ts q r a b = absurd a
 
 pub not_both : (c : Command) (ts : List (List ℕ)) (r : Refusal) (a : AnswerOf c) → (file_command c).decides ts a → (file_command c).refuses ts r → ⊥
-not_both (Grade g) ts r a decided refused = (one_graded_step ts).not_both a.task r decided.task refused
-not_both (Sample n) ts r a decided refused = (one_graded_step (sample_texts n)).not_both a.task r decided.task refused
+not_both (Grade g) ts r a decided refused = (one_task_step ts).not_both a.task r decided.task refused
+not_both (Sample n) ts r a decided refused = (one_task_step (sample_texts n)).not_both a.task r decided.task refused
 not_both (Run w) ts r a decided refused = (one_run_step w ts).not_both a r decided refused
 not_both Nothing ts r a decided refused = refused
 
 pub one_refusal : (c : Command) (ts : List (List ℕ)) (q r : Refusal) → IsFirstRefusal (file_command c) ts q → IsFirstRefusal (file_command c) ts r → q ≡ r
 one_refusal c ts q r a b = first.one_refusal (file_command c) ts (one_refuses c ts) q r a b
 
-pub not_refused_and_decided : (c : Command) (ts : List (List ℕ)) (r : Refusal) (a : AnswerOf c) → IsFirstRefusal (file_command c) ts r → AllFit ts → (file_command c).decides ts a → ⊥
+pub not_refused_and_decided : (c : Command) (ts : List (List ℕ)) (r : Refusal) (a : AnswerOf c) → IsFirstRefusal (file_command c) ts r → AllFit (sources_of (files_of c)) ts → (file_command c).decides ts a → ⊥
 not_refused_and_decided c ts r a is_first fit decided = first.not_first (file_command c) ts r (not_both c ts r a decided) fit is_first
 
 pub one_task : (ts : List (List ℕ)) (k other : Task) → (task_step ts).gives k → (task_step ts).gives other → k ≡ other

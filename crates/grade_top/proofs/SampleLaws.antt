@@ -22,25 +22,26 @@ use Rattle.feedback_text.specs.AnswerViews.{StandsFor, failure_of}
 use Rattle.feedback_text.specs.ReportViews.{edit_of}
 use Rattle.sample_maker.specs.Samples.{bounds_text, reference_text, rules_text, submission_text}
 use Rattle.sample_maker.proofs.Lengths.{bounds_short, reference_short, rules_short, submission_short}
-use Rattle.grade_core.specs.Decisions.{graded_step}
+use Rattle.grade_core.specs.Commands.{answer_text}
+use Rattle.grade_core.specs.Gradings.{IsTextOf}
+use Rattle.grade_core.specs.Decisions.{task_sources, task_step}
 use Rattle.grade_top.specs.Decisions.{sample_texts}
 use Rattle.grade_top.specs.Outcomes.{IsSampleOf, Summarizes}
-use Rattle.grade_top.specs.Reports.{sample_lines}
+use Rattle.grade_top.specs.Reports.{sample_lines, sample_report}
 
-pub sample_fits : (n : ℕ) → AllFit (sample_texts n)
+pub sample_fits : (n : ℕ) → AllFit task_sources (sample_texts n)
 sample_fits n = (bounds_short, (reference_short n, (submission_short n, (rules_short, tt))))
 
 pub sample_is : (n : ℕ) (a b c d : List ℕ) → a ≡ bounds_text → b ≡ reference_text n → c ≡ submission_text n → d ≡ rules_text → a ∷ b ∷ c ∷ d ∷ [] ≡ sample_texts n
 sample_is n a b c d ia ib ic id = cc
 
 -- the submission was read within the limits
-pub few : (n : ℕ) (k : Task) → (graded_step (sample_texts n)).gives k → length (all_statements k.submission) ≤ 200
-few n k graded =
-    let task = graded.given in
+pub few : (n : ℕ) (k : Task) → (task_step (sample_texts n)).gives k → length (all_statements k.submission) ≤ 200
+few n k task =
     let parts = task.given in
     let submission = parts.second.second in
     let same : k.submission ≡ submission.first.program =
-    ap (λ (j : Task). j.submission) (graded.second.second ∙ task.second.second.second ∙ submission.second.second) in
+    ap (λ (j : Task). j.submission) (task.second.second.second ∙ submission.second.second) in
     rw same (few_statements submission.first.program submission.given.read.small)
 
 -- THE TEXT OF AN ANSWER
@@ -102,3 +103,21 @@ pub corrected : (n : ℕ) (k : Task) (d : code.Answer) (s : List Choice) (cost :
     → IfOk r (λ t. Summarizes n k s cost t.items) → IfOk r (λ t. IsSampleOf n k d t.items)
 corrected n k d s cost fails is (Ok t) shown = corrected_is n k d s cost fails t.items is shown
 corrected n k d s cost fails is (Err e) shown = shown
+
+-- another answer, of which what `grade` writes is written
+pub other_text : (n : ℕ) (k : Task) (d : code.Answer) (text : List ℕ) → (d ≡ code.TheVariants.Correct → ⊥)
+    → ((s : List Choice) (cost : ℕ) (fails : code_failure.Failure) → d ≡ code.TheVariants.Corrected s cost fails → ⊥)
+    → IsTextOf (codes "reference") k d text → IsSampleOf n k d text
+other_text n k code.TheVariants.Correct text wrong dear is = absurd (wrong refl)
+other_text n k (code.TheVariants.Corrected s cost fails) text wrong dear is = absurd (dear s cost fails refl)
+other_text n k (code.TheVariants.NoCorrection fails) text wrong dear is = record {
+  answer = is.answer;
+  stands = is.stands;
+  text_is = is.text_is ∙ subst (λ a. answer_text (codes "reference") k a ≡ sample_report n k a) (sym is.stands) refl;
+}
+other_text n k code.TheVariants.EmptyReference text wrong dear is = record {
+  answer = is.answer;
+  stands = is.stands;
+  text_is = is.text_is ∙ subst (λ a. answer_text (codes "reference") k a ≡ sample_report n k a) (sym is.stands) refl;
+}
+other_text n k code.TheVariants.NoMemory text wrong dear is = absurd is.stands

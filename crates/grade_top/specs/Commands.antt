@@ -1,5 +1,5 @@
 -- The commands: which files each reads, what their texts decide, and what is written of it.
-use Rattle.std.specs.Prelude.{ℕ, List, [], ◌∷◌, codes}
+use Rattle.std.specs.Prelude.{ℕ, List, [], ◌∷◌, None, codes}
 use Rattle.grade_io.specs.declared.status.Status.TheVariants as status
 use Rattle.mpy_tree.specs.declared.outcome.Outcome as run
 use Rattle.mpy_tree.specs.declared.refusal.Source.{Source}
@@ -9,7 +9,7 @@ use Rattle.mpy_tree.specs.Refusals.{refusal_text}
 use Rattle.source_files.specs.Files.{SourceFile, file}
 use Rattle.file_commands.specs.Commands.{FileCommand}
 use Rattle.grade_core.specs.Commands.{Graded, IsGradedAs, grade_command, status_of}
-use Rattle.grade_core.specs.Decisions.{graded_step}
+use Rattle.grade_core.specs.Decisions.{task_step}
 use Rattle.grade_top.specs.Decisions.{run_step, sample_texts}
 use Rattle.grade_top.specs.Reports.{run_text, sample_report, usage_text, value_refusal_text}
 use Rattle.grade_top.specs.Words.{Command, Grade, Run, Sample, Nothing, RunWords}
@@ -39,8 +39,10 @@ run_line w source.Cert r = refusal_text (run_word w source.Cert) r
 abbrev pub run_command : RunWords → FileCommand run.Outcome
 run_command w = record {
   files = run_files w;
+  place = None;
   decides = λ ts. (run_step w ts).gives;
   refuses = λ ts. (run_step w ts).refuses;
+  kept = λ o. None;
   text = run_text;
   status = λ o. status.Correct;
   line = λ r. run_line w r.source r;
@@ -59,8 +61,10 @@ sample_word (source.Word n) = []
 abbrev pub sample_command : ℕ → FileCommand Graded
 sample_command n = record {
   files = [];
+  place = None;
   decides = λ ts. IsGradedAs (sample_texts n);
-  refuses = λ ts. (graded_step (sample_texts n)).refuses;
+  refuses = λ ts. (task_step (sample_texts n)).refuses;
+  kept = λ x. None;
   text = λ x. sample_report n x.task x.answer;
   status = λ x. status_of x.answer;
   line = λ r. refusal_text (sample_word r.source) r;
@@ -70,8 +74,10 @@ sample_command n = record {
 abbrev pub usage_command : FileCommand Unit
 usage_command = record {
   files = [];
+  place = None;
   decides = λ ts a. Unit {0};
   refuses = λ ts r. ⊥;
+  kept = λ a. None;
   text = λ a. usage_text;
   status = λ a. status.Usage;
   line = λ r. [];

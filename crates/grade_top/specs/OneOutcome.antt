@@ -3,10 +3,11 @@ use Rattle.std.specs.Prelude.{◌≡◌, ℕ, List}
 use Rattle.mpy_tree.specs.declared.outcome.Outcome as run
 use Rattle.mpy_tree.specs.declared.refusal.Refusal.{Refusal}
 use Rattle.input_space.specs.Tasks.{Task}
+use Rattle.source_files.specs.Files.{sources_of}
 use Rattle.source_files.specs.Texts.{AllFit}
 use Rattle.file_commands.specs.Ends.{IsFirstRefusal}
 use Rattle.grade_core.specs.Decisions.{task_step}
-use Rattle.grade_top.specs.Commands.{AnswerOf, file_command}
+use Rattle.grade_top.specs.Commands.{AnswerOf, file_command, files_of}
 use Rattle.grade_top.specs.Decisions.{run_step}
 use Rattle.grade_top.specs.Words.{Command, RunWords}
 
@@ -32,4 +33,5 @@ HaveOneRefusal =
 abbrev pub NotRefusedAndDecided : Type 0
 NotRefusedAndDecided =
     (c : Command) (ts : List (List ℕ)) (r : Refusal) (a : AnswerOf c)
-    → IsFirstRefusal (file_command c) ts r → AllFit ts → (file_command c).decides ts a → ⊥
+    → IsFirstRefusal (file_command c) ts r → AllFit (sources_of (files_of c)) ts
+    → (file_command c).decides ts a → ⊥

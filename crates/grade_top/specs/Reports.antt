@@ -10,8 +10,8 @@ use Rattle.mpy_tree.specs.Printing.{value_text}
 use Rattle.mpy_tree.specs.Refusals.{cause_text}
 use Rattle.mpy_limits.specs.Limits.{all_statements}
 use Rattle.input_space.specs.Tasks.{Task}
-use Rattle.feedback_text.specs.Answers.{Answer, Correct, Corrected}
-use Rattle.feedback_text.specs.Reports.{report_of}
+use Rattle.feedback_text.specs.Answers.{Answer, Correct, Corrected, NoCorrection, EmptyReference}
+use Rattle.grade_core.specs.Commands.{answer_text}
 
 abbrev pub usage_text : List ℕ
 usage_text =
@@ -33,11 +33,13 @@ sample_lines n k edits cost =
     ++ codes "\nstatements " ++ decimal (length (all_statements k.submission))
     ++ codes "\nedits " ++ decimal edits ++ codes "\ncost " ++ decimal cost ++ codes "\n"
 
--- of other answers, which no sample meets, what `grade` writes
+-- Of other answers, which no sample meets, it is what `grade` writes, by the source's own name.
 abbrev pub sample_report : ℕ → Task → Answer → List ℕ
 sample_report n k Correct = sample_lines n k 0 0
 sample_report n k (Corrected cost fails edits p) = sample_lines n k (length edits) cost
-sample_report n k a = report_of k a
+sample_report n k (NoCorrection fails) =
+    answer_text (codes "reference") k (NoCorrection fails)
+sample_report n k EmptyReference = answer_text (codes "reference") k EmptyReference
 
 -- a value of `run` is refused, by its number
 abbrev pub value_refusal_text : ℕ → Cause → List ℕ

@@ -1,9 +1,9 @@
 //! A command, from its words to its status.
 ghost use Rattle.grade_io.specs.Devices.{devices};
 ghost use Rattle.grade_io.specs.Says.{Says};
-ghost use Rattle.source_files.specs.Fetches.{CallsInOrder};
+ghost use Rattle.file_commands.specs.Calls.{CallsInOrder};
 ghost use Rattle.file_commands.specs.Ends.{Ends};
-ghost use Rattle.grade_top.specs.Commands.{file_command, files_of};
+ghost use Rattle.grade_top.specs.Commands.{file_command};
 ghost use Rattle.grade_top.specs.Reports.{usage_text};
 ghost use Rattle.grade_top.specs.Requests.{command_of};
 ghost use Rattle.grade_top.specs.Words.{AreAsked};
@@ -33,7 +33,7 @@ pub(crate) fn answer<S: Shelf, K: Sink>(
     ensures ends { Ends (file_command (command_of command.now))
         (devices (S.seen shelf.old) (K.seen out.old))
         (devices (S.seen shelf.new) (K.seen out.new)) result }
-    ensures calls { CallsInOrder (files_of (command_of command.now)) (S.seen shelf.old)
+    ensures calls { CallsInOrder (file_command (command_of command.now)) (S.seen shelf.old)
         (S.seen shelf.new) }
 {
     match command {

@@ -6,16 +6,19 @@ ghost use Rattle.std.specs.String.{string_bytes};
 ghost use Rattle.grade_io.specs.Devices.{Rose, devices};
 ghost use Rattle.mpy_tree.specs.declared.outcome.Outcome.{Outcome as RunOutcome};
 ghost use Rattle.mpy_tree.specs.declared.refusal.Refusal.{Refusal};
-ghost use Rattle.input_space.specs.Tasks.{Task};
-ghost use Rattle.source_files.specs.Fetches.{CallsInOrder};
+ghost use Rattle.mpy_tree.specs.declared.refusal.Source.TheVariants as source;
+ghost use Rattle.mpy_tree.specs.Refusals.{refusal_text};
+ghost use Rattle.input_space.specs.Tasks.{HasWanted, Task};
 ghost use Rattle.source_files.specs.Texts.{Tells};
+ghost use Rattle.file_commands.specs.Calls.{CallsInOrder};
 ghost use Rattle.file_commands.specs.Claims.{AreTold, IsSaid, NoFault};
 ghost use Rattle.file_commands.specs.Ends.{Ends, IsFirstRefusal};
 ghost use Rattle.grade_core.specs.Claims.{IsGraded};
-ghost use Rattle.grade_core.specs.Decisions.{graded_step};
+ghost use Rattle.grade_core.specs.Commands.{empty_reference};
+ghost use Rattle.grade_core.specs.Decisions.{task_step};
 ghost use Rattle.grade_core.specs.Words.{GradeWords};
 ghost use Rattle.grade_top.specs.Claims.{IsUsage};
-ghost use Rattle.grade_top.specs.Commands.{file_command, files_of, line_of};
+ghost use Rattle.grade_top.specs.Commands.{file_command, files_of, line_of, sample_word};
 ghost use Rattle.grade_top.specs.Decisions.{run_step, sample_texts};
 ghost use Rattle.grade_top.specs.Reports.{run_text};
 ghost use Rattle.grade_top.specs.Words.{Asks, Command, Grade, Nothing, Run, RunWords, Sample};
@@ -53,7 +56,7 @@ pub fn grade_top<S: Shelf, K: Sink>(
         (devices (S.seen shelf.new) (K.seen out.new)) result }
     // The calls of the command's words, in order, each once, up to some point.
     ensures calls { (c : Command) → Asks (map string_bytes words.now.items) c
-        → CallsInOrder (files_of c) (S.seen shelf.old) (S.seen shelf.new) }
+        → CallsInOrder (file_command c) (S.seen shelf.old) (S.seen shelf.new) }
     // The usage is answered exactly for words that ask for nothing.
     ensures usage { result ≡ Status.Usage → Asks (map string_bytes words.now.items) Nothing }
     ensures no_form { Asks (map string_bytes words.now.items) Nothing → IsUsage result }
@@ -64,17 +67,34 @@ pub fn grade_top<S: Shelf, K: Sink>(
     ensures graded { (g : GradeWords) (ts : List (List ℕ)) (k : Task)
         → Asks (map string_bytes words.now.items) (Grade g)
         → AreTold (devices (S.seen shelf.old) (K.seen out.old)) (files_of (Grade g)) ts
-        → (graded_step ts).gives k
+        → (task_step ts).gives k
         → NoFault (devices (S.seen shelf.old) (K.seen out.old))
         (devices (S.seen shelf.new) (K.seen out.new))
         → IsGraded k result }
     // A sample that nothing refuses is graded, unless a device failed or memory lacked.
     ensures sampled { (n : ℕ) (k : Task)
         → Asks (map string_bytes words.now.items) (Sample n)
-        → (graded_step (sample_texts n)).gives k
+        → (task_step (sample_texts n)).gives k
         → NoFault (devices (S.seen shelf.old) (K.seen out.old))
         (devices (S.seen shelf.new) (K.seen out.new))
         → IsGraded k result }
+    // Where the reference of such a task or sample gives no value on any input, that is refused,
+    // unless a device failed or memory lacked.
+    ensures empty { (g : GradeWords) (ts : List (List ℕ)) (k : Task)
+        → Asks (map string_bytes words.now.items) (Grade g)
+        → AreTold (devices (S.seen shelf.old) (K.seen out.old)) (files_of (Grade g)) ts
+        → (task_step ts).gives k → (HasWanted k → ⊥)
+        → NoFault (devices (S.seen shelf.old) (K.seen out.old))
+        (devices (S.seen shelf.new) (K.seen out.new))
+        → IsSaid (refusal_text g.reference (empty_reference k)) Status.Refused
+        (K.seen out.old) (K.seen out.new) result }
+    ensures empty_sample { (n : ℕ) (k : Task)
+        → Asks (map string_bytes words.now.items) (Sample n)
+        → (task_step (sample_texts n)).gives k → (HasWanted k → ⊥)
+        → NoFault (devices (S.seen shelf.old) (K.seen out.old))
+        (devices (S.seen shelf.new) (K.seen out.new))
+        → IsSaid (refusal_text (sample_word source.Reference) (empty_reference k)) Status.Refused
+        (K.seen out.old) (K.seen out.new) result }
     // A run that nothing refuses is told, unless a device failed or memory lacked.
     ensures ran { (w : RunWords) (ts : List (List ℕ)) (o : RunOutcome)
         → Asks (map string_bytes words.now.items) (Run w)

@@ -1,11 +1,13 @@
 //! The command `run`.
-ghost use Rattle.std.specs.Prelude.{◌≡◌, IfErr, IfOk, MatchResult, length};
+ghost use Rattle.std.specs.Prelude.{◌≡◌, IfErr, IfOk, MatchResult, OnOk, length};
 ghost use Rattle.grade_io.specs.Devices.{devices};
-ghost use Rattle.source_files.specs.Fetches.{CallsInOrder, FilesKept, IsLongSource, OnRefused};
+ghost use Rattle.grade_io.specs.Kept.{FilesLeft};
+ghost use Rattle.source_files.specs.Fetches.{FetchedAll, FetchesInOrder, IsLongSource, OnRefused};
 ghost use Rattle.source_files.specs.Fetches.{ReadFaults, StopsAs};
-ghost use Rattle.source_files.specs.Files.{file as source_file};
+ghost use Rattle.source_files.specs.Files.{file as source_file, sources_of};
 ghost use Rattle.source_files.specs.Texts.{AllFit, AreHeld};
 ghost use Rattle.source_files.specs.Views.{file_of, texts_of};
+ghost use Rattle.file_commands.specs.Calls.{CallsInOrder};
 ghost use Rattle.file_commands.specs.Commands.{Refused};
 ghost use Rattle.file_commands.specs.Ends.{ComesOfFiles, Ends};
 ghost use Rattle.file_commands.specs.Reports.{IsFound, ReportsFiles};
@@ -34,14 +36,17 @@ fn file(source: Source, word: &str) -> File<'_>
 
 /// The texts of the bounds and of the program.
 fn fetch<S: Shelf>(alloc: Global, words: &RunWords<'_>, shelf: &mut S) -> Result<Vec<Vec<u8>>, Stop>
-    ensures fit { IfOk result (λ v. AllFit (texts_of v.items)) }
+    ensures fit { IfOk result (λ v. AllFit (sources_of (run_files (run_of words.now)))
+        (texts_of v.items)) }
     ensures held { IfOk result (λ v. AreHeld (S.seen shelf.old) (run_files (run_of words.now))
         (texts_of v.items)) }
     ensures long { IfErr result (OnRefused (IsLongSource (run_files (run_of words.now))
         (S.seen shelf.old) (S.seen shelf.new))) }
-    ensures calls { CallsInOrder (run_files (run_of words.now)) (S.seen shelf.old)
+    ensures calls { FetchesInOrder (run_files (run_of words.now)) (S.seen shelf.old)
         (S.seen shelf.new) }
-    ensures kept { FilesKept (S.seen shelf.old) (S.seen shelf.new) }
+    ensures all { OnOk result (FetchedAll (run_files (run_of words.now)) (S.seen shelf.old)
+        (S.seen shelf.new)) }
+    ensures kept { FilesLeft (S.seen shelf.old) (S.seen shelf.new) }
     ensures faults { ReadFaults result (S.seen shelf.old) (S.seen shelf.new) }
 {
     let files = [
@@ -54,7 +59,7 @@ fn fetch<S: Shelf>(alloc: Global, words: &RunWords<'_>, shelf: &mut S) -> Result
 /// How the program of the texts ends on the values.
 fn outcome(alloc: Global, words: &RunWords<'_>, texts: &[Vec<u8>]) -> Result<Outcome, Stop>
     requires two { length texts.now ≡ 2 }
-    requires fit { AllFit (texts_of texts.now) }
+    requires fit { AllFit (sources_of (run_files (run_of words.now))) (texts_of texts.now) }
     ensures { MatchResult result (run_step (run_of words.now) (texts_of texts.now)).gives
         (StopsAs (run_step (run_of words.now) (texts_of texts.now)).refuses) }
 {
@@ -81,7 +86,7 @@ fn outcome(alloc: Global, words: &RunWords<'_>, texts: &[Vec<u8>]) -> Result<Out
 /// What is written of a run.
 fn report_texts(alloc: Global, words: &RunWords<'_>, texts: &[Vec<u8>]) -> Result<Report, Stop>
     requires two { length texts.now ≡ 2 }
-    requires fit { AllFit (texts_of texts.now) }
+    requires fit { AllFit (sources_of (run_files (run_of words.now))) (texts_of texts.now) }
     ensures { IsFound (command_run (run_of words.now)) (texts_of texts.now) result }
 {
     let outcome = outcome(alloc, words, texts)?;
@@ -89,6 +94,7 @@ fn report_texts(alloc: Global, words: &RunWords<'_>, texts: &[Vec<u8>]) -> Resul
     Ok(Report {
         status: Status::Correct,
         text,
+        kept: None,
     })
 }
 
@@ -98,9 +104,11 @@ fn find_report<S: Shelf>(alloc: Global, words: &RunWords<'_>, shelf: &mut S) -> 
         (S.seen shelf.old) (S.seen shelf.new)) }
     ensures refused { IfErr result (OnRefused (λ r. ComesOfFiles (command_run (run_of words.now))
         (S.seen shelf.old) (S.seen shelf.new) (Refused r))) }
-    ensures calls { CallsInOrder (run_files (run_of words.now)) (S.seen shelf.old)
+    ensures calls { FetchesInOrder (run_files (run_of words.now)) (S.seen shelf.old)
         (S.seen shelf.new) }
-    ensures kept { FilesKept (S.seen shelf.old) (S.seen shelf.new) }
+    ensures all { OnOk result (FetchedAll (run_files (run_of words.now)) (S.seen shelf.old)
+        (S.seen shelf.new)) }
+    ensures kept { FilesLeft (S.seen shelf.old) (S.seen shelf.new) }
     ensures faults { ReadFaults result (S.seen shelf.old) (S.seen shelf.new) }
 {
     let texts = fetch(alloc, words, shelf)?;
@@ -150,9 +158,9 @@ pub(crate) fn run_command<S: Shelf, K: Sink>(
     ensures ends { Ends (command_run (run_of words.now))
         (devices (S.seen shelf.old) (K.seen out.old))
         (devices (S.seen shelf.new) (K.seen out.new)) result }
-    ensures calls { CallsInOrder (run_files (run_of words.now)) (S.seen shelf.old)
+    ensures calls { CallsInOrder (command_run (run_of words.now)) (S.seen shelf.old)
         (S.seen shelf.new) }
 {
     let found = find_report(alloc, words, shelf);
-    end(alloc, words, found, out)
+    end(alloc, words, None, found, shelf, out)
 }

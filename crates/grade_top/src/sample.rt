@@ -5,15 +5,15 @@ ghost use Rattle.mpy_limits.specs.Limits.{all_statements};
 ghost use Rattle.input_space.specs.TaskParts.{task_with};
 ghost use Rattle.file_commands.specs.Ends.{Ends};
 ghost use Rattle.file_commands.specs.Reports.{IsFound};
-ghost use Rattle.feedback_text.specs.AnswerViews.{IsReported};
+ghost use Rattle.grade_core.specs.Gradings.{IsTold};
 ghost use Rattle.grade_top.specs.Commands.{sample_command as command_sample};
 ghost use Rattle.grade_top.specs.Outcomes.{IsSampleOf, Summarizes};
 ghost use Rattle.grade_top.specs.Reports.{sample_lines};
 
 use choice_tree::{Selection, edits, plain};
-use feedback_text::{Answer, report};
-use file_commands::{Lines, Report, end};
-use grade_core::{Graded, answer_status, grade_texts};
+use feedback_text::Answer;
+use file_commands::{Lines, Report, end_at_once};
+use grade_core::{Graded, answer_status, answer_text, grade_texts};
 use grade_io::{Sink, Status};
 use input_space::Task;
 use mpy_limits::statements_count;
@@ -66,7 +66,7 @@ fn corrected_lines(
 
 /// What is written of the answer to a sample.
 fn text(alloc: Global, number: u32, graded: &Graded) -> Result<Vec<u8>, NoMemory>
-    requires reported { IsReported (task_with graded.now.task) graded.now.answer }
+    requires told { IsTold (task_with graded.now.task) graded.now.answer }
     requires few { length (all_statements (task_with graded.now.task).submission) ≤ 200 }
     ensures { IfOk result (λ v. IsSampleOf number (task_with graded.now.task) graded.now.answer
         v.items) }
@@ -78,7 +78,7 @@ fn text(alloc: Global, number: u32, graded: &Graded) -> Result<Vec<u8>, NoMemory
             cost,
             ..
         } => corrected_lines(alloc, number, &graded.task, selection, *cost),
-        answer => report(alloc, &graded.task, answer),
+        _ => answer_text(alloc, "reference", graded),
     }
 }
 
@@ -99,6 +99,7 @@ fn find_report(alloc: Global, number: u32) -> Result<Report, Stop>
     Ok(Report {
         status: answer_status(&graded.answer),
         text,
+        kept: None,
     })
 }
 
@@ -131,5 +132,5 @@ pub(crate) fn sample_command<K: Sink>(alloc: Global, number: u32, out: &mut K) -
         (devices shelf (K.seen out.old)) (devices shelf (K.seen out.new)) result }
 {
     let found = find_report(alloc, number);
-    end(alloc, &SampleSources, found, out)
+    end_at_once(alloc, &SampleSources, found, out)
 }

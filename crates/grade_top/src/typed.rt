@@ -26,7 +26,7 @@ pub(crate) fn read_typed(
     text: &[u8],
     source: Source,
 ) -> Result<Typed, Stop>
-    requires { Fits text.now }
+    requires { Fits source text.now }
     ensures { MatchResult result
         (λ p. (program_step source text.now (entry_at bounds.now)).gives (typed_of p))
         (StopsAs (program_step source text.now (entry_at bounds.now)).refuses) }

@@ -1,4 +1,6 @@
 pub mod Answers
+mod Judged
+mod LeastTypes
 pub mod OneAnswer
 pub mod OneStep
 mod Ready
@@ -7,3 +9,4 @@ mod Stopping
 mod TaskAnswers
 mod TaskReading
 mod Trees
+mod TypedOrFaulted

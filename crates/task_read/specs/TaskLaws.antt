@@ -1,5 +1,5 @@
 -- What task four texts spell, and whether they are refused, are one thing.
-use Rattle.std.specs.Prelude.{◌≡◌, ℕ, List}
+use Rattle.std.specs.Prelude.{◌≡◌, ◌⊎◌, ℕ, List}
 use Rattle.mpy_tree.specs.declared.refusal.Refusal.{Refusal}
 use Rattle.input_space.specs.Tasks.{Task}
 use Rattle.task_read.specs.TaskSteps.{task_step}
@@ -11,6 +11,17 @@ OneTask =
     → (task_step bounds reference submission rules).gives k
     → (task_step bounds reference submission rules).gives other
     → k ≡ other
+
+-- four texts spell a task, or are refused
+abbrev pub AreJudged : List ℕ → List ℕ → List ℕ → List ℕ → Type 0
+AreJudged bounds reference submission rules =
+    ((k : Task) × (task_step bounds reference submission rules).gives k)
+    ⊎ ((r : Refusal) × (task_step bounds reference submission rules).refuses r)
+
+-- any four texts are one or the other
+abbrev pub TaskReadOrRefused : Type 0
+TaskReadOrRefused =
+    (bounds reference submission rules : List ℕ) → AreJudged bounds reference submission rules
 
 -- texts that spell a task aren't refused
 abbrev pub NotTaskAndRefused : Type 0

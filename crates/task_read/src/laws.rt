@@ -1,11 +1,17 @@
 //! What texts spell, and whether they are refused, are one thing.
 ghost use Rattle.task_read.specs.ProgramLaws.{NotTypedAndRefused, OneProgramRefusal};
-ghost use Rattle.task_read.specs.ProgramLaws.{OneTypedProgram};
+ghost use Rattle.task_read.specs.ProgramLaws.{OneTypedProgram, ReadOrRefused};
 ghost use Rattle.task_read.specs.TaskLaws.{NotTaskAndRefused, OneTask, OneTaskRefusal};
+ghost use Rattle.task_read.specs.TaskLaws.{TaskReadOrRefused};
 
 /// A text spells one typed program at most.
 pub fn one_typed_program()
     ensures holds { OneTypedProgram }
+{}
+
+/// A text spells a typed program, or is refused.
+pub fn typed_or_refused()
+    ensures holds { ReadOrRefused }
 {}
 
 /// A text that spells a typed program isn't refused.
@@ -21,6 +27,11 @@ pub fn one_program_refusal()
 /// Four texts spell one task at most.
 pub fn one_task()
     ensures holds { OneTask }
+{}
+
+/// Four texts spell a task, or are refused.
+pub fn task_or_refused()
+    ensures holds { TaskReadOrRefused }
 {}
 
 /// Texts that spell a task aren't refused.

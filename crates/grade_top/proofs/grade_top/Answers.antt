@@ -3,9 +3,9 @@ use Rattle.grade_top.specs.Requests.{command_of}
 use Rattle.grade_top.specs.Words.{Grade, Nothing, Run, Sample}
 use Rattle.grade_io.specs.Devices.{devices}
 use Rattle.file_commands.proofs.Claims.{read_failed}
-use Rattle.grade_core.proofs.GradeClaims.{graded}
+use Rattle.grade_core.proofs.GradeClaims.{empty, graded}
 use Rattle.grade_top.specs.Commands.{file_command}
-use Rattle.grade_top.proofs.Claims.{no_usage, ran, refused, sampled, usage_ends}
+use Rattle.grade_top.proofs.Claims.{empty_sample, no_usage, ran, refused, sampled, usage_ends}
 use Rattle.grade_top.proofs.OneCommand.{asks_something, one_command}
 use Rattle.grade_top.proofs.grade_top.Goals as goal
 
@@ -37,6 +37,14 @@ returns-in-Some-clause-graded g c = λ words ts k asks told given sure.
 pub returns-in-Some-clause-sampled : goal.returns-in-Some-clause-sampled
 returns-in-Some-clause-sampled g c = λ n k asks given sure.
     sampled n k _ _ c.answer.result (rw (one_command _ (command_of c.in-Some.command) (Sample n) (rw c.deref.ensures.value at c.in-Some.ensures.found) asks) at c.answer.ensures.ends) given sure
+
+pub returns-in-Some-clause-empty : goal.returns-in-Some-clause-empty
+returns-in-Some-clause-empty g c = λ words ts k asks told given none sure.
+    empty words ts k _ _ c.answer.result (rw (one_command _ (command_of c.in-Some.command) (Grade words) (rw c.deref.ensures.value at c.in-Some.ensures.found) asks) at c.answer.ensures.ends) told given none sure
+
+pub returns-in-Some-clause-empty_sample : goal.returns-in-Some-clause-empty_sample
+returns-in-Some-clause-empty_sample g c = λ n k asks given none sure.
+    empty_sample n k _ _ c.answer.result (rw (one_command _ (command_of c.in-Some.command) (Sample n) (rw c.deref.ensures.value at c.in-Some.ensures.found) asks) at c.answer.ensures.ends) given none sure
 
 pub returns-in-Some-clause-ran : goal.returns-in-Some-clause-ran
 returns-in-Some-clause-ran g c = λ words ts o asks told given sure.

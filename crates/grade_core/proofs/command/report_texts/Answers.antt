@@ -1,4 +1,5 @@
 -- the report is that of the answer
+use Rattle.std.proofs.Common.{refl}
 use Rattle.input_space.specs.TaskParts.{task_with}
 use Rattle.grade_core.proofs.command.report_texts.Goals as goal
 
@@ -9,5 +10,5 @@ returns c =
     record {
       answer = record { task = k; answer = shown.answer };
       decided = record { task = c.in_ok-graded.ensures.task; answer = c.in_ok-graded.ensures.answered shown.answer shown.stands };
-      shows = record { text = shown.text_is; status = c.answer_status.ensures.written k shown.answer shown.stands };
+      shows = record { text = shown.text_is; status = c.answer_status.ensures.written k shown.answer shown.stands; kept = refl };
     }

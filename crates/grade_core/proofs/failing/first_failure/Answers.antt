@@ -3,8 +3,8 @@ use Rattle.std.proofs.Common.{◌≡◌, List, Some, length, refl, slice_get, su
 use Rattle.std.proofs.lemmas.Option.{slice_get_read}
 use Rattle.input_space.specs.declared.case.Case.{Case}
 use Rattle.input_space.specs.TaskParts.{task_with}
-use Rattle.list_questions.specs.TaskSpace.{Meets}
-use Rattle.list_questions.proofs.SelectionLaws.{each_more}
+use Rattle.input_space.specs.TaskSpace.{Meets}
+use Rattle.input_space.proofs.Elements.{each_more}
 use Rattle.grade_core.proofs.FailingLaws.{is_first}
 use Rattle.grade_core.proofs.failing.first_failure.Goals as goal
 

@@ -1,7 +1,7 @@
 use Rattle.std.specs.Prelude.{◌≡◌, ◌<◌, ℕ, Some, slice_get}
 use Rattle.input_space.specs.declared.case.Case.{Case}
 use Rattle.input_space.specs.TaskParts.{task_with}
-use Rattle.list_questions.specs.TaskSpace.{Meets}
+use Rattle.input_space.specs.TaskSpace.{Meets}
 use Rattle.grade_core.proofs.failing.first_failure.Given as goal
 
 -- the submission gives the values of the reference on the cases so far

@@ -2,14 +2,14 @@
 use Rattle.std.proofs.Common.{arith, refl, subst}
 use Rattle.cegis_loop.specs.Answers.{IsLeast}
 use Rattle.input_space.specs.TaskParts.{task_with}
-use Rattle.list_questions.specs.TaskSpace.{space, wanted_inputs}
+use Rattle.input_space.specs.TaskSpace.{space, wanted_inputs}
 use Rattle.grade_core.proofs.AnswerLaws.{best_selection, none_agree, none_kept, none_wanted, some_fails, some_wanted, submission_best}
 use Rattle.grade_core.proofs.run.told.Goals as goal
 
 pub first_failure-requires-clause-some : goal.first_failure-requires-clause-some
 first_failure-requires-clause-some c =
     let k = task_with c.args.runs.now.task.now in
-    let found : IsLeast (space k) c.args.kept.now c.in-Found.choice c.in-Found.cost = (rw c.in-Found.is at c.requires.means_on_kept).1 in
+    let found : IsLeast (space k 1) c.args.kept.now c.in-Found.choice c.in-Found.cost = (rw c.in-Found.is at c.requires.means_on_kept).1 in
     some_fails k c.is_sound.ensures c.args.kept.now (λ s fits free met. found.least s fits (let dear = c.in-Found.cost-test.1 in omega arith) met)
 
 pub first_failure-requires-in-Nothing-clause-some : goal.first_failure-requires-in-Nothing-clause-some
@@ -21,15 +21,15 @@ pub returns-in-Found-default-eq0-clause-right : goal.returns-in-Found-default-eq
 returns-in-Found-default-eq0-clause-right c =
     let k = task_with c.args.runs.now.task.now in
     let s = c.in-Found-default-eq0.choice in
-    let found : IsLeast (space k) (wanted_inputs k) s c.in-Found-default-eq0.cost = (rw c.in-Found-default-eq0.is at c.requires.means).1 in (
+    let found : IsLeast (space k 1) (wanted_inputs k) s c.in-Found-default-eq0.cost = (rw c.in-Found-default-eq0.is at c.requires.means).1 in (
       some_wanted k (wanted_inputs k) refl (rw c.in-Found-default-eq0.is at c.requires.means).0,
-      submission_best k c.is_sound.ensures s (subst (IsLeast (space k) (wanted_inputs k) s) c.in-Found-default-eq0.cost-test found),
+      submission_best k c.is_sound.ensures s (subst (IsLeast (space k 1) (wanted_inputs k) s) c.in-Found-default-eq0.cost-test found),
     )
 
 pub returns-in_ok-first_failure-in-Found-clause-right : goal.returns-in_ok-first_failure-in-Found-clause-right
 returns-in_ok-first_failure-in-Found-clause-right c =
     let k = task_with c.args.runs.now.task.now in
-    let found : IsLeast (space k) (wanted_inputs k) c.in-Found.choice c.in-Found.cost = (rw c.in-Found.is at c.requires.means).1 in (
+    let found : IsLeast (space k 1) (wanted_inputs k) c.in-Found.choice c.in-Found.cost = (rw c.in-Found.is at c.requires.means).1 in (
       best_selection k c.is_sound.ensures c.in-Found.choice c.in-Found.cost found,
       (let dear = c.in-Found.cost-test.1 in omega arith),
       c.in_ok-first_failure-in-Found.ensures,
@@ -51,7 +51,7 @@ returns-in-Found-default-eq0-clause-kept c = record { inputs = c.requires.kept; 
 pub returns-in_ok-first_failure-in-Found-clause-kept : goal.returns-in_ok-first_failure-in-Found-clause-kept
 returns-in_ok-first_failure-in-Found-clause-kept c =
     let k = task_with c.args.runs.now.task.now in
-    let found : IsLeast (space k) c.args.kept.now c.in-Found.choice c.in-Found.cost = (rw c.in-Found.is at c.requires.means_on_kept).1 in
+    let found : IsLeast (space k 1) c.args.kept.now c.in-Found.choice c.in-Found.cost = (rw c.in-Found.is at c.requires.means_on_kept).1 in
     record { inputs = c.requires.kept; ruled_out = found.least }
 
 pub returns-in_ok-first_failure-in-Nothing-clause-kept : goal.returns-in_ok-first_failure-in-Nothing-clause-kept

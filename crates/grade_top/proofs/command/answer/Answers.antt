@@ -1,5 +1,7 @@
 -- each command ends as its own call does
-use Rattle.file_commands.proofs.Endings.{no_calls}
+use Rattle.file_commands.proofs.Calling.{no_calls}
+use Rattle.grade_top.specs.Commands.{file_command}
+use Rattle.grade_top.specs.Requests.{command_of}
 use Rattle.grade_top.proofs.command.answer.Goals as goal
 
 pub grade-requires : goal.grade-requires
@@ -21,4 +23,4 @@ pub returns-in-Sample-clause-ends : goal.returns-in-Sample-clause-ends
 returns-in-Sample-clause-ends g c = rw c.in-Sample.is (c.sample_command.ensures (g.S.Shelf.seen c.args.shelf.now))
 
 pub returns-in-Sample-clause-calls : goal.returns-in-Sample-clause-calls
-returns-in-Sample-clause-calls g c = rw c.in-Sample.is (no_calls (g.S.Shelf.seen c.args.shelf.now))
+returns-in-Sample-clause-calls g c = no_calls (file_command (command_of c.args.command.now)) (g.S.Shelf.seen c.args.shelf.now)

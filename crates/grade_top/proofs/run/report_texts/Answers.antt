@@ -6,5 +6,5 @@ pub returns : goal.returns
 returns c = record {
   answer = c.in_ok-outcome.outcome;
   decided = c.in_ok-outcome.ensures;
-  shows = record { text = c.in_ok-text.ensures; status = refl };
+  shows = record { text = c.in_ok-text.ensures; status = refl; kept = refl };
 }

@@ -27,4 +27,4 @@ returns-in-Ok-clause-size c =
 pub returns-in-Err-Large-clause-refused : goal.returns-in-Err-Large-clause-refused
 returns-in-Err-Large-clause-refused c =
     let large = rewritten c.args.parts.now c.items.result.now (Err stop.Large) c.items.ensures (rw c.in-Err-Large.field-0-is at c.in-Err-Large.ensures) in
-    rw c.at_entry.ensures (inl large, refl)
+    rw c.at_entry.ensures (inl (record { many = large }), refl)
