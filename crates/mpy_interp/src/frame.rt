@@ -1,7 +1,7 @@
 //! The locals of a call.
 ghost use Rattle.std.specs.Prelude.{◌≡◌, IfOk, OnOk, MatchOption, IfSome, Some, None};
 ghost use Rattle.value_operations.specs.Answers.{Meets, MeetsBy};
-ghost use Rattle.mpy_tree.specs.Values.{on_line, same_bytes, set_or_fault, assign};
+ghost use Rattle.mpy_tree.specs.Values.{on_line, set_or_fault, assign};
 ghost use Rattle.mpy_tree.specs.Running.{bound};
 ghost use Rattle.mpy_interp.specs.Frames.{Changes, changed, place_of, state_of};
 ghost use Rattle.mpy_tree.specs.Operations.{append, put};
@@ -45,7 +45,7 @@ impl<'a> Frame<'a> {
             (λ v. state_of self.now x.now ≡ Some v.now) }
     {
         for b in &self.locals {
-            if is_same(x, b.name) {
+            if x.is(b.name) {
                 return Some(&b.value);
             }
         }
@@ -141,27 +141,8 @@ impl<'a> Frame<'a> {
     fn place(&self, x: &Name) -> Option<usize>
         ensures { result ≡ place_of self.now.locals.items x.now }
     {
-        self.locals.iter().position(|b| is_same(x, b.name))
+        self.locals.iter().position(|b| x.is(b.name))
     }
-}
-
-// Whether two names have the same bytes. They are short, so one is compared after another here.
-#[inline]
-fn is_same(x: &Name, y: &Name) -> bool
-    ensures { result ≡ same_bytes x.now y.now }
-{
-    let others = y.bytes();
-    for (i, c) in x.bytes().iter().enumerate() {
-        match others.get(i) {
-            None => return false,
-            Some(d) => {
-                if *c != *d {
-                    return false;
-                }
-            }
-        }
-    }
-    x.bytes().len() == others.len()
 }
 
 // Replaces an element of a list where it stands.
