@@ -23,4 +23,8 @@ mod samples;
 #[cfg(test)]
 mod slow;
 #[cfg(test)]
+mod stores;
+#[cfg(test)]
+mod typed_programs;
+#[cfg(test)]
 mod words;

@@ -1,6 +1,6 @@
 //! Files and pieces over a reader and a writer that move one byte a call, are interrupted, and
 //! fail.
-use grade_io::{Counted, Fault, FetchError, put_piece, read_whole, write_whole};
+use grade_io::{Counted, FetchError, PutError, StoreError, put_piece, read_whole, write_whole};
 use std::io;
 use std::io::{ErrorKind, Read, Write};
 use std::test::Fail;
@@ -97,10 +97,10 @@ fn reads_one_byte_a_call(rt: HostRuntime) -> Result<(), Fail> {
 #[test]
 fn writes_one_byte_a_call(rt: HostRuntime) -> Result<(), Fail> {
     let alloc = rt.alloc();
-    let rows: [(usize, u32, Result<(), Fault>, &[u8]); 4] = [
+    let rows: [(usize, u32, Result<(), StoreError>, &[u8]); 4] = [
         (5, 0, Ok(()), b"12345"),
-        (3, 0, Err(Fault), b"123"),
-        (5, 6, Err(Fault), b"12"),
+        (3, 0, Err(StoreError::Failed), b"123"),
+        (5, 6, Err(StoreError::Failed), b"12"),
         (5, 11, Ok(()), b"12345"),
     ];
     for (room, fails, wanted, written) in rows {
@@ -121,10 +121,10 @@ fn writes_one_byte_a_call(rt: HostRuntime) -> Result<(), Fail> {
 #[test]
 fn puts_one_byte_a_call(rt: HostRuntime) -> Result<(), Fail> {
     let alloc = rt.alloc();
-    let rows: [(usize, u32, &[u8], Result<usize, Fault>, u32); 4] = [
+    let rows: [(usize, u32, &[u8], Result<usize, PutError>, u32); 4] = [
         (1, 0, b"123", Ok(1), 2),
-        (0, 0, b"123", Err(Fault), 2),
-        (1, 2, b"123", Err(Fault), 2),
+        (0, 0, b"123", Err(PutError::Failed), 2),
+        (1, 2, b"123", Err(PutError::Failed), 2),
         (0, 1, b"", Ok(0), 0),
     ];
     for (room, fails, piece, wanted, last) in rows {

@@ -2,9 +2,11 @@
 
 use crate::trees::three_rules;
 use choice_tree::{Choice, Selection, choices, edits, fits, plain};
+use cost_levels::Levels;
 use mpy_printer::{print_expr, print_prog};
 use std::alloc::Global;
 use std::test::Fail;
+use tree_weights::lift;
 
 /// Selections, as pairs of a pick and a member, with what is returned.
 const FITTING: [(&[(u32, u32)], &str); 8] = [
@@ -95,5 +97,57 @@ fn edits_are_told_in_order(rt: HostRuntime) -> Result<(), Fail> {
 fn trees_are_counted(rt: HostRuntime) -> Result<(), Fail> {
     let tree = three_rules(rt.alloc())?;
     assert!(rt; choices(&tree) == 12);
+    Ok(())
+}
+
+/// The choices as pairs of a pick and a member.
+fn pairs_of(alloc: Global, s: &Selection) -> Result<Vec<(u32, u32)>, Fail> {
+    let mut pairs = Vec::new(alloc);
+    for choice in s.items() {
+        pairs.push((choice.pick, choice.member))?;
+    }
+    Ok(pairs)
+}
+
+#[test]
+fn selections_are_copied(rt: HostRuntime) -> Result<(), Fail> {
+    let alloc = rt.alloc();
+    for pairs in &OTHERS {
+        let copy = selection(alloc, *pairs)?.copy()?;
+        assert!(rt;
+            pairs_of(alloc, &copy)?.as_slice() == *pairs,
+            "at {pairs:?}"
+        );
+    }
+    Ok(())
+}
+
+/// Costs, each with how many selections have it that name no pick in a member that isn't chosen.
+const OF_COST: [(u32, usize); 6] = [(0, 1), (1, 2), (2, 1), (3, 1), (4, 0), (9, 0)];
+
+#[test]
+fn levels_have_the_selections_of_a_cost(rt: HostRuntime) -> Result<(), Fail> {
+    let alloc = rt.alloc();
+    let tree = three_rules(alloc)?;
+    let levels = Levels::of(alloc, &tree)?;
+    for (cost, many) in OF_COST {
+        assert_eq!(rt; levels.level(alloc, cost)?.len(), many, "at {cost}");
+    }
+    let dearest = levels.level(alloc, 3)?;
+    let only = dearest.first().ok_or("none of cost 3")?;
+    assert!(rt; pairs_of(alloc, only)?.as_slice() == [(0, 1)].as_slice());
+    Ok(())
+}
+
+#[test]
+fn a_lifted_program_has_no_choice(rt: HostRuntime) -> Result<(), Fail> {
+    let alloc = rt.alloc();
+    let tree = three_rules(alloc)?;
+    let program = plain(alloc, &tree, &selection(alloc, &[(0, 2), (2, 1)])?)?;
+    let lifted = lift(alloc, &program)?;
+    assert!(rt; choices(&lifted) == 1);
+    let back = plain(alloc, &lifted, &selection(alloc, &[])?)?;
+    let text = print_prog(alloc, &back)?;
+    assert!(rt; text.as_slice() == "def f(x):\n    return x + 1 + 1\n".as_bytes());
     Ok(())
 }

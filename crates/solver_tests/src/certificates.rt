@@ -1,6 +1,6 @@
 //! Certificates as texts: which are read, and at which line the others are refused.
 
-use cert_text::{CertError, read_cert, write_cert};
+use cert_text::{Cert, CertError, case_line, read_cert, write_cert};
 use std::alloc::Global;
 use std::test::Fail;
 
@@ -139,6 +139,32 @@ fn again(alloc: Global, text: &str) -> Option<Vec<u8>> {
     write_cert(alloc, &cert).ok()
 }
 
+/// The lines of the cases of the certificate that the text is of.
+fn case_lines(alloc: Global, text: &str) -> Option<Vec<u32>> {
+    let bytes = text.as_bytes();
+    if bytes.len() > 1000 {
+        return None;
+    }
+    let cert = read_cert(alloc, bytes).ok()?;
+    let mut lines = Vec::new(alloc);
+    for place in 0..cert.cases.count() {
+        lines.push(case_line(&cert, place + 1)).ok()?;
+    }
+    Some(lines)
+}
+
+#[test]
+fn cases_stand_on_their_lines(rt: HostRuntime) -> Result<(), Fail> {
+    let none = "mpycert 1\nclaim none\nend\n";
+    let best = "mpycert 1\nclaim cost 0\nselection\ncase 1\ncase 2\nend\n";
+    let spent = "mpycert 1\nclaim spent 1\ncase 1\ncase 2\nend\n";
+    for (text, lines) in [(none, [].as_slice()), (best, &[4, 5]), (spent, &[3, 4])] {
+        let found = case_lines(rt.alloc(), text).ok_or("not read")?;
+        assert_eq!(rt; found.as_slice(), lines);
+    }
+    Ok(())
+}
+
 #[test]
 fn certificates_are_written_as_they_were(rt: HostRuntime) -> Result<(), Fail> {
     for text in GOOD {
@@ -161,5 +187,30 @@ fn a_case_may_have_double_quotes(rt: HostRuntime) -> Result<(), Fail> {
     let written = again(rt.alloc(), text).ok_or("not read")?;
     let printed = "mpycert 1\nclaim none\ncase 'it\\'s'\nend\n";
     assert_eq!(rt; written.as_slice(), printed.as_bytes());
+    Ok(())
+}
+
+/// The same, of copies of the parts of the certificate.
+fn copied(alloc: Global, text: &str) -> Option<Vec<u8>> {
+    let bytes = text.as_bytes();
+    if bytes.len() > 1000 {
+        return None;
+    }
+    let read = read_cert(alloc, bytes).ok()?;
+    let cert = Cert {
+        claim: read.claim,
+        selection: read.selection.copy().ok()?,
+        cases: read.cases.copy().ok()?,
+        sessions: read.sessions.copy().ok()?,
+    };
+    write_cert(alloc, &cert).ok()
+}
+
+#[test]
+fn copies_are_written_alike(rt: HostRuntime) -> Result<(), Fail> {
+    for text in GOOD {
+        let written = copied(rt.alloc(), text).ok_or("not read")?;
+        assert_eq!(rt; written.as_slice(), text.as_bytes());
+    }
     Ok(())
 }

@@ -13,6 +13,8 @@ mod clauses;
 #[cfg(test)]
 mod folding;
 #[cfg(test)]
+mod formulas;
+#[cfg(test)]
 mod graph;
 #[cfg(test)]
 mod numbers;

@@ -13,7 +13,7 @@ use Rattle.sym_values.specs.Owned.{owns_one_more}
 -- a task's weighted tree isn't too large
 pub few_nodes : (k : Task) → IsSound k → size (tree_of k) ≤ 1000000
 few_nodes k sound = elim (cases_lt 1000000 (size (tree_of k))) [
-  | inl more ↦ absurd (sound.small (inl more))
+  | inl more ↦ absurd (sound.small (inl (record { many = more })))
   | inr few ↦ omega arith
 ]
 
