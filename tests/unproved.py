@@ -106,19 +106,24 @@ class Harness:
         """What the program answers to these lines."""
         return answers_in(self.printed(''.join(line + '\n' for line in lines)), lines)
 
-    def answers_to_each(self, inputs):
-        """What one build of the program answers to each of these lists of lines, which stand in standard input."""
+    def printed_for_each(self, texts):
+        """The lines that one build of the program prints for each of these texts, which stand in standard input."""
         folder = self.input + '.cases'
         os.makedirs(folder)
-        for number, lines in enumerate(inputs):
+        for number, text in enumerate(texts):
             with open(os.path.join(folder, '%05d' % number), 'w') as out:
-                out.writelines(line + '\n' for line in lines)
-        printed = '\n'.join(self.ran(['--cases', folder], 'cases=%d' % len(inputs)))
+                out.write(text)
+        printed = '\n'.join(self.ran(['--cases', folder], 'cases=%d' % len(texts)))
         shutil.rmtree(folder)
         parts = re.split(r'^== \d{5}$', printed, flags=re.MULTILINE)[1:]
-        if len(parts) != len(inputs):
-            sys.exit('%d outputs for %d inputs\n%s' % (len(parts), len(inputs), printed[-3000:]))
-        return [answers_in(part.splitlines(), lines) for part, lines in zip(parts, inputs)]
+        if len(parts) != len(texts):
+            sys.exit('%d outputs for %d inputs\n%s' % (len(parts), len(texts), printed[-3000:]))
+        return [part.splitlines() for part in parts]
+
+    def answers_to_each(self, inputs):
+        """What one build of the program answers to each of these lists of lines."""
+        texts = [''.join(line + '\n' for line in lines) for lines in inputs]
+        return [answers_in(part, lines) for part, lines in zip(self.printed_for_each(texts), inputs)]
 
 
 def answers_in(printed, lines):

@@ -1,7 +1,7 @@
 """Functions of a program that read values as bits; nothing by itself.
 
 A value is a letter for its type, and its bits: those of a number or of a truth value, or those of the length and of the items of a
-list or a text. A bit is `0`, `1`, or `*` for a variable.
+list or a text. A bit is `0`, `1`, `*` for a variable, or `=` for the bit before it once more.
 """
 
 SETTINGS = r'''
@@ -17,7 +17,12 @@ fn read_bit(g: &mut Graph, mark: u8) -> Result<GraphBit, anyhow::Error> {
 fn read_bits(alloc: Global, g: &mut Graph, marks: &[u8]) -> Result<Vec<GraphBit>, anyhow::Error> {
     let mut bits = Vec::new(alloc);
     for mark in marks {
-        bits.push(read_bit(g, *mark)?)?;
+        let before: Option<&GraphBit> = bits.last();
+        let bit = match before {
+            Some(bit) if *mark == b'=' => *bit,
+            _ => read_bit(g, *mark)?,
+        };
+        bits.push(bit)?;
     }
     Ok(bits)
 }

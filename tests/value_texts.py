@@ -102,8 +102,8 @@ fn put_outcome(alloc: Global, out: &mut String, g: &Graph, made: &SymOutcome<Gra
 }
 '''
 
-CIRCUIT = r'''
-// Circuits
+BITS = r'''
+// Gates and bits
 
 fn put_bit(alloc: Global, out: &mut String, g: &Graph, bit: GraphBit) -> Result<(), anyhow::Error> {
     let source = match bit.source() {
@@ -125,6 +125,25 @@ fn put_word(alloc: Global, out: &mut String, g: &Graph, bits: &[GraphBit]) -> Re
     }
     Ok(())
 }
+
+// The variables and the gates, with `|` behind each.
+fn put_graph(alloc: Global, out: &mut String, g: &Graph) -> Result<(), anyhow::Error> {
+    let variables = g.variables();
+    let head = format!(in alloc; "{variables}|")?;
+    put(out, head.as_str())?;
+    for k in 0..g.gate_count() {
+        let gate = g.gate(k);
+        if k > 0 {
+            put(out, " ")?;
+        }
+        put_word(alloc, out, g, &[gate.left, gate.right])?;
+    }
+    put(out, "|")
+}
+'''
+
+CIRCUIT = BITS + r'''
+// Circuits
 
 fn put_items(alloc: Global, out: &mut String, g: &Graph, list: ListParts<'_, GraphBit>) -> Result<(), anyhow::Error> {
     let ListParts { len, items } = list;
@@ -164,17 +183,7 @@ fn put_gates(
     g: &Graph,
     made: &SymOutcome<GraphBit>,
 ) -> Result<(), anyhow::Error> {
-    let variables = g.variables();
-    let head = format!(in alloc; "{variables}|")?;
-    put(out, head.as_str())?;
-    for k in 0..g.gate_count() {
-        let gate = g.gate(k);
-        if k > 0 {
-            put(out, " ")?;
-        }
-        put_word(alloc, out, g, &[gate.left, gate.right])?;
-    }
-    put(out, "|")?;
+    put_graph(alloc, out, g)?;
     put_bit(alloc, out, g, made.fault)?;
     put(out, "|")?;
     put_value(alloc, out, g, &made.value)
