@@ -1,5 +1,5 @@
 -- What holds of a search stays: with one entry more, and with one clause more.
-use Rattle.std.proofs.Common.{◌≡◌, ℕ, ◌<◌, ◌≤◌, ◌-◌, ◌+◌, true, false, List, [], ◌∷◌, ◌++◌, length, Some, None, Option, arith, sym, ap, ◌∙◌, subst, inl, inr, append_assoc, length-append}
+use Rattle.std.proofs.Common.{◌≡◌, ℕ, ◌<◌, ◌≤◌, ◌-◌, ◌+◌, true, false, List, [], ◌∷◌, ◌++◌, length, Some, None, Option, arith, refl, sym, ap, ◌∙◌, subst, inl, inr, append_assoc, length-append}
 use Rattle.std.proofs.lemmas.List.{length_push}
 use Rattle.std.proofs.lemmas.List.Elements.{All-push, All-append}
 use Rattle.clause_base.specs.declared.lit.Lit.{Lit}
@@ -88,5 +88,9 @@ logged_push known follows fresh base s logged room may =
       narrow = λ d led. All-append (λ (t : Step). IsCovered d t.clause.lits) base.steps (s ∷ []) (logged.narrow d led) (may.narrow d led);
     }
 
-pub sizes_are : (s : Sizes) (a b v n : ℕ) → s ≡ record { vars = a; clauses = b } → a ≡ v → b ≡ n → s ≡ record { vars = v; clauses = n }
-sizes_are s a b v n is vars clauses = subst (λ x. s ≡ record { vars = x; clauses = n }) vars (subst (λ y. s ≡ record { vars = a; clauses = y }) clauses is)
+-- with one clause more, where the sizes were those of other numbers
+pub sizes_more : (old new : Sizes) (v n m : ℕ) → old ≡ record { vars = v; clauses = n } → new.vars ≡ old.vars → new.clauses ≡ old.clauses + 1 → n + 1 ≡ m → new ≡ record { vars = v; clauses = m }
+sizes_more old new v n m is vars clauses many =
+    let a : new.vars ≡ v = vars ∙ ap (λ (z : Sizes). z.vars) is in
+    let b : new.clauses ≡ m = clauses ∙ ap (λ (z : Sizes). z.clauses + 1) is ∙ many in
+    subst (λ x. new ≡ record { vars = x; clauses = m }) a (subst (λ y. new ≡ record { vars = new.vars; clauses = y }) b refl)

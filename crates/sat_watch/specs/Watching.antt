@@ -13,7 +13,9 @@ pub record Sizes : Type 0 where
 abbrev pub list_of : Lit → ℕ
 list_of l = 2 * (l.var - 1) + (if l.positive then 1 else 0)
 
-pub record AreWatches (vars : ℕ) (firsts : List ℕ) (items : List Watch) : Type 0 where
+pub record AreWatches (vars clauses : ℕ) (firsts : List ℕ) (items : List Watch) : Type 0 where
+  pub few : clauses ≤ 2147483647
+  pub two : length items ≡ 2 * clauses
   pub many : length firsts ≡ 2 * vars
   pub heads : All (λ n. n ≤ length items) firsts
   pub nexts : All (λ w. w.next ≤ length items) items

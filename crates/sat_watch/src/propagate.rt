@@ -11,7 +11,7 @@ ghost use Rattle.sat_watch.specs.Trails.{IsConflict, IsValued, literals_of};
 use crate::known::Known;
 use crate::listing::Listing;
 use crate::trail::{Scan, Trail};
-use crate::watches::Watches;
+use crate::watches::{Watches, number_of};
 use clause_base::lit::Lit;
 
 /// What a visit of a clause finds.
@@ -64,48 +64,39 @@ fn is_true(trail: &Trail, lit: Lit) -> bool
 
 /// Visits the clauses that watch a literal, which is false, up to one whose literals are all false:
 /// gives its number. One that comes to watch another literal leaves the list.
-pub fn go_over(
-    known: &Known<'_>,
-    trail: &mut Trail,
-    mine: &mut Watches,
-    others: &Watches,
-    lit: Lit,
-) -> Option<u32>
+pub fn go_over(known: &Known<'_>, trail: &mut Trail, watches: &mut Watches, lit: Lit) -> Option<u32>
     requires vars { trail.old.vars ≡ known.now.vars }
     requires range { in_range known.now.vars lit ≡ true }
-    requires mine { mine.old ≡ record {
-      vars = known.now.vars;
-      clauses = length (all_of known.now);
-    } }
-    requires others { others.now ≡ record {
+    requires watches { watches.old ≡ record {
       vars = known.now.vars;
       clauses = length (all_of known.now);
     } }
     requires search { IsSearch (record { base = known.now; entries = trail.old.entries }) }
-    ensures mine { mine.new ≡ mine.old }
+    ensures watches { watches.new ≡ watches.old }
     ensures vars { trail.new.vars ≡ trail.old.vars }
     ensures grows { Grows trail.old.entries trail.new.entries }
     ensures search { IsSearch (record { base = known.now; entries = trail.new.entries }) }
     ensures conflict { IfSome result (IsConflict (all_of known.now) trail.new.entries) }
 {
     let mut before = 0;
-    let mut number = mine.first(lit);
-    for _count in 0..known.len() {
-        if number == 0 {
+    let mut item = watches.first(lit);
+    for _count in 0..2 * known.len() {
+        if item == 0 {
             break;
         }
-        let next = mine.next(number);
-        let other = others.lit(number);
+        let next = watches.next(item);
+        let other = watches.other(item);
         if is_true(trail, other) {
-            before = number;
+            before = item;
         } else {
+            let number = number_of(item);
             match visit(known, trail, number, other) {
                 Seen::Closed => return Some(number),
-                Seen::Implied => before = number,
-                Seen::Other(to) => mine.rewatch(lit, before, number, to),
+                Seen::Implied => before = item,
+                Seen::Other(to) => watches.rewatch(lit, before, item, to),
             }
         }
-        number = next;
+        item = next;
     }
     None
 }
@@ -115,22 +106,16 @@ pub fn go_over(
 pub fn propagate(
     known: &Known<'_>,
     trail: &mut Trail,
-    first: &mut Watches,
-    second: &mut Watches,
+    watches: &mut Watches,
     from: usize,
 ) -> Option<u32>
     requires vars { trail.old.vars ≡ known.now.vars }
-    requires first { first.old ≡ record {
-      vars = known.now.vars;
-      clauses = length (all_of known.now);
-    } }
-    requires second { second.old ≡ record {
+    requires watches { watches.old ≡ record {
       vars = known.now.vars;
       clauses = length (all_of known.now);
     } }
     requires search { IsSearch (record { base = known.now; entries = trail.old.entries }) }
-    ensures first { first.new ≡ first.old }
-    ensures second { second.new ≡ second.old }
+    ensures watches { watches.new ≡ watches.old }
     ensures vars { trail.new.vars ≡ trail.old.vars }
     ensures grows { Grows trail.old.entries trail.new.entries }
     ensures search { IsSearch (record { base = known.now; entries = trail.new.entries }) }
@@ -139,10 +124,7 @@ pub fn propagate(
     let mut next = from;
     while next < trail.len() {
         let lit = trail.at(next).opposite();
-        if let Some(number) = go_over(known, trail, first, second, lit) {
-            return Some(number);
-        }
-        if let Some(number) = go_over(known, trail, second, first, lit) {
+        if let Some(number) = go_over(known, trail, watches, lit) {
             return Some(number);
         }
         next += 1;

@@ -31,8 +31,7 @@ use std::marker::Model;
 pub struct Search<'a> {
     known: Known<'a>,
     trail: Trail,
-    first: Watches,
-    second: Watches,
+    watches: Watches,
     listing: Listing,
 }
 
@@ -46,8 +45,7 @@ impl<'a> Model for Search<'a> {
     ghost view = { λ s. record { base = s.known; entries = s.trail.entries } };
 
     ghost invariant = { λ s. (s.trail.vars ≡ s.known.vars)
-        × (s.first ≡ record { vars = s.known.vars; clauses = length (all_of s.known) })
-        × (s.second ≡ record { vars = s.known.vars; clauses = length (all_of s.known) })
+        × (s.watches ≡ record { vars = s.known.vars; clauses = length (all_of s.known) })
         × IsListing s.known.vars (all_of s.known) s.listing
         × IsSearch (record { base = s.known; entries = s.trail.entries }) };
 }
@@ -67,32 +65,16 @@ fn list(listing: &mut Listing, clause: &Clause, number: u32) -> Result<(), NoMem
 }
 
 /// Has a clause watch its first two literals; one that has fewer watches none.
-fn watch(
-    first: &mut Watches,
-    second: &mut Watches,
-    clause: &Clause,
-    number: u32,
-) -> Result<(), NoMemory>
-    requires first { IsCovered first.old.vars clause.now.lits }
-    requires second { IsCovered second.old.vars clause.now.lits }
-    requires number { number ≡ first.old.clauses + 1 }
-    requires same { number ≡ second.old.clauses + 1 }
-    ensures first { OnOk result (first.new ≡ record {
-      vars = first.old.vars;
-      clauses = number;
-    }) }
-    ensures second { OnOk result (second.new ≡ record {
-      vars = second.old.vars;
-      clauses = number;
-    }) }
+fn watch(watches: &mut Watches, clause: &Clause) -> Result<(), NoMemory>
+    requires { IsCovered watches.old.vars clause.now.lits }
+    ensures vars { watches.new.vars ≡ watches.old.vars }
+    ensures clauses { OnOk result (watches.new.clauses ≡ watches.old.clauses + 1) }
 {
     let lits = clause.lits.as_slice();
     if lits.len() < 2 {
-        first.push_none()?;
-        return second.push_none();
+        return watches.watch_none();
     }
-    first.push(lits[0], number)?;
-    second.push(lits[1], number)
+    watches.watch(lits[0], lits[1])
 }
 
 impl<'a> Search<'a> {
@@ -107,20 +89,18 @@ impl<'a> Search<'a> {
         let known = Known::new(alloc, f);
         let trail = Trail::new(alloc, f.vars)?;
         let many = f.clauses.len();
-        let mut first = Watches::new(alloc, f.vars, many)?;
-        let mut second = Watches::new(alloc, f.vars, many)?;
+        let mut watches = Watches::new(alloc, f.vars, many as u32)?;
         let mut listing = Listing::new(alloc, f.vars, many)?;
         for place in 0..many {
             let clause = f.clauses.at(place);
             let number = place as u32 + 1;
             list(&mut listing, clause, number)?;
-            watch(&mut first, &mut second, clause, number)?;
+            watch(&mut watches, clause)?;
         }
         Ok(Search {
             known,
             trail,
-            first,
-            second,
+            watches,
             listing,
         })
     }
@@ -174,13 +154,7 @@ impl<'a> Search<'a> {
         ensures grows { Grows self.old.entries self.new.entries }
         ensures conflict { IfSome result (IsConflict (all_of self.new.base) self.new.entries) }
     {
-        propagate(
-            &self.known,
-            &mut self.trail,
-            &mut self.first,
-            &mut self.second,
-            from,
-        )
+        propagate(&self.known, &mut self.trail, &mut self.watches, from)
     }
 
     /// Gives a variable a value that has none while all smaller ones have one: by a clause whose
@@ -255,20 +229,18 @@ impl<'a> Search<'a> {
         let Search {
             mut known,
             trail,
-            mut first,
-            mut second,
+            mut watches,
             mut listing,
         } = self;
         let number = known.len() + 1;
         list(&mut listing, &step.clause, number)?;
-        watch(&mut first, &mut second, &step.clause, number)?;
+        watch(&mut watches, &step.clause)?;
         what_is_known();
         known.add(step)?;
         Ok(Search {
             known,
             trail,
-            first,
-            second,
+            watches,
             listing,
         })
     }

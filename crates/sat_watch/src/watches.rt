@@ -1,39 +1,42 @@
-//! The clauses by a literal that each of them watches.
+//! The clauses by the literals that each of them watches.
 
-ghost use Rattle.std.specs.Prelude.{◌≡◌, ◌+◌, ◌*◌, ◌<◌, ◌≤◌, true, length, IfOk, OnOk, OnErr};
+ghost use Rattle.std.specs.Prelude.{◌≡◌, ◌+◌, ◌*◌, ◌<◌, ◌≤◌, true, ℕ, IfOk, OnOk, OnErr};
 ghost use Rattle.clause_base.specs.Formulas.{in_range};
 
 use clause_base::NoMemory;
 use clause_base::lit::Lit;
-use std::alloc::Global;
+use std::alloc::{AllocError, Global};
 use std::marker::Model;
 
-/// The literal that a clause watches, and the number of the next clause that does, or 0.
+/// How many clauses have items whose numbers are within 32 bits.
+const MOST_CLAUSES: u32 = 2147483647;
+
+/// A literal that a clause watches, and the number of the next item of its list, or 0.
 #[derive(Clone, Copy)]
 pub struct Watch {
     lit: Lit,
     next: u32,
 }
 
-/// For each literal the list of the clauses that watch it. A clause watches one here; a solver has
-/// two such values, so that each clause watches two. Nothing rests on the lists being complete, so
-/// contracts see the sizes alone.
+/// For each literal the list of the clauses that watch it. A clause watches two literals and has an
+/// item for each: that of number n has the items 2n - 1 and 2n. Nothing rests on the lists being
+/// complete, so contracts see the sizes alone.
 #[derive(Drop)]
 pub struct Watches {
     vars: u32,
+    clauses: u32,
     heads: Vec<u32>,
     items: Vec<Watch>,
 }
 
 impl Model for Watches {
-    ghost use Rattle.std.specs.Prelude.{length};
     ghost use Rattle.sat_watch.specs.Watching.{AreWatches, Sizes};
 
     ghost Value = { Sizes };
 
-    ghost view = { λ s. record { vars = s.vars; clauses = length s.items.items } };
+    ghost view = { λ s. record { vars = s.vars; clauses = s.clauses } };
 
-    ghost invariant = { λ s. AreWatches s.vars s.heads.items s.items.items };
+    ghost invariant = { λ s. AreWatches s.vars s.clauses s.heads.items s.items.items };
 }
 
 /// The place of a literal's list.
@@ -45,96 +48,131 @@ fn list_of(lit: Lit, vars: u32) -> usize
     if lit.positive { place + 1 } else { place }
 }
 
+/// The number of the clause that has an item.
+pub fn number_of(item: u32) -> u32
+    requires { 0 < item }
+    ensures least { item ≤ 2 * result }
+    ensures most { 2 * result ≤ item + 1 }
+{
+    (item - 1) / 2 + 1
+}
+
+/// The place of the other item of the clause that has an item.
+fn other_place(item: u32) -> usize
+    requires { 0 < item }
+    ensures { (clauses : ℕ) → item ≤ 2 * clauses → result < 2 * clauses }
+{
+    let place = item as usize - 1;
+    if place % 2 == 0 { place + 1 } else { place - 1 }
+}
+
 impl Watches {
     /// No clauses, and room for so many.
-    pub fn new(alloc: Global, vars: u32, clauses: usize) -> Result<Watches, NoMemory>
+    pub fn new(alloc: Global, vars: u32, clauses: u32) -> Result<Watches, NoMemory>
         ensures { IfOk result (λ s. s ≡ record { vars = vars; clauses = 0 }) }
     {
         Ok(Watches {
             vars,
+            clauses: 0,
             heads: vec![in alloc; 0; 2 * vars as usize]?,
-            items: Vec::with_capacity(alloc, clauses)?,
+            items: Vec::with_capacity(alloc, 2 * clauses as usize)?,
         })
     }
 
-    /// The number of the first clause that watches a literal, or 0.
+    /// The first item of a literal's list, or 0.
     pub fn first(&self, lit: Lit) -> u32
         requires { in_range self.now.vars lit ≡ true }
-        ensures { result ≤ self.now.clauses }
+        ensures { result ≤ 2 * self.now.clauses }
     {
         self.heads[list_of(lit, self.vars)]
     }
 
-    /// The number of the next clause that watches what that of a number watches, or 0.
-    pub fn next(&self, number: u32) -> u32
-        requires some { 0 < number }
-        requires within { number ≤ self.now.clauses }
-        ensures { result ≤ self.now.clauses }
+    /// The item behind this one in its list, or 0.
+    pub fn next(&self, item: u32) -> u32
+        requires some { 0 < item }
+        requires within { item ≤ 2 * self.now.clauses }
+        ensures { result ≤ 2 * self.now.clauses }
     {
-        self.items[number as usize - 1].next
+        self.items[item as usize - 1].next
     }
 
-    /// The literal that the clause of a number watches. A clause that watches none has variable 0.
-    pub fn lit(&self, number: u32) -> Lit
-        requires some { 0 < number }
-        requires within { number ≤ self.now.clauses }
+    /// The other literal that the clause of an item watches. A clause that watches none has
+    /// variable 0.
+    pub fn other(&self, item: u32) -> Lit
+        requires some { 0 < item }
+        requires within { item ≤ 2 * self.now.clauses }
         ensures { result.var ≤ self.now.vars }
     {
-        self.items[number as usize - 1].lit
+        self.items[other_place(item)].lit
     }
 
-    /// One clause more, of the next number, which watches a literal.
-    pub fn push(&mut self, lit: Lit, number: u32) -> Result<(), NoMemory>
-        requires range { in_range self.old.vars lit ≡ true }
-        requires number { number ≡ self.old.clauses + 1 }
+    /// One clause more, which watches two literals. With 2147483647 clauses it is want of memory.
+    pub fn watch(&mut self, first: Lit, second: Lit) -> Result<(), NoMemory>
+        requires first { in_range self.old.vars first ≡ true }
+        requires second { in_range self.old.vars second ≡ true }
         ensures vars { self.new.vars ≡ self.old.vars }
         ensures clauses { OnOk result (self.new.clauses ≡ self.old.clauses + 1) }
         ensures err { OnErr result (self.new ≡ self.old) }
     {
-        let list = list_of(lit, self.vars);
-        self.items.push(Watch {
-            lit,
-            next: self.heads[list],
-        })?;
-        self.heads[list] = number;
+        self.watch_none()?;
+        let item = 2 * self.clauses;
+        self.link(item - 1, first);
+        self.link(item, second);
         Ok(())
     }
 
-    /// One clause more, which watches no literal.
-    pub fn push_none(&mut self) -> Result<(), NoMemory>
+    /// One clause more, which watches no literal. With 2147483647 clauses it is want of memory.
+    pub fn watch_none(&mut self) -> Result<(), NoMemory>
         ensures vars { self.new.vars ≡ self.old.vars }
         ensures clauses { OnOk result (self.new.clauses ≡ self.old.clauses + 1) }
         ensures err { OnErr result (self.new ≡ self.old) }
     {
-        self.items.push(Watch {
+        if self.clauses >= MOST_CLAUSES {
+            return Err(AllocError);
+        }
+        let none = Watch {
             lit: Lit::default(),
             next: 0,
-        })?;
+        };
+        self.items.reserve(2)?;
+        self.items.push_reserved(none);
+        self.items.push_reserved(none);
+        self.clauses += 1;
         Ok(())
     }
 
-    /// Takes the clause of a number out of a literal's list, behind that of the number `before`, or
-    /// its first where that is 0; from here on it watches another literal.
-    pub fn rewatch(&mut self, lit: Lit, before: u32, number: u32, to: Lit)
-        requires from { in_range self.old.vars lit ≡ true }
-        requires to { in_range self.old.vars to ≡ true }
-        requires before { before ≤ self.old.clauses }
-        requires some { 0 < number }
-        requires within { number ≤ self.old.clauses }
+    /// Puts an item, which is in no list, before the others that watch a literal.
+    fn link(&mut self, item: u32, lit: Lit)
+        requires range { in_range self.old.vars lit ≡ true }
+        requires some { 0 < item }
+        requires within { item ≤ 2 * self.old.clauses }
         ensures { self.new ≡ self.old }
     {
-        let next = self.items[number as usize - 1].next;
+        let list = list_of(lit, self.vars);
+        self.items[item as usize - 1] = Watch {
+            lit,
+            next: self.heads[list],
+        };
+        self.heads[list] = item;
+    }
+
+    /// Takes an item out of a literal's list, behind the item `before`, or the first where that is
+    /// 0; from here on it watches another literal.
+    pub fn rewatch(&mut self, lit: Lit, before: u32, item: u32, to: Lit)
+        requires from { in_range self.old.vars lit ≡ true }
+        requires to { in_range self.old.vars to ≡ true }
+        requires before { before ≤ 2 * self.old.clauses }
+        requires some { 0 < item }
+        requires within { item ≤ 2 * self.old.clauses }
+        ensures { self.new ≡ self.old }
+    {
+        let next = self.items[item as usize - 1].next;
         if before == 0 {
             let list = list_of(lit, self.vars);
             self.heads[list] = next;
         } else {
             self.items[before as usize - 1].next = next;
         }
-        let list = list_of(to, self.vars);
-        self.items[number as usize - 1] = Watch {
-            lit: to,
-            next: self.heads[list],
-        };
-        self.heads[list] = number;
+        self.link(item, to);
     }
 }

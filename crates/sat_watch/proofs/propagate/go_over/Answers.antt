@@ -1,4 +1,4 @@
-use Rattle.std.proofs.Common.{◌≡◌, ◌∙◌, ◌≤◌, ap, arith, length, subst, sym}
+use Rattle.std.proofs.Common.{◌≡◌, ◌∙◌, ◌*◌, ◌≤◌, ap, arith, length, subst, sym}
 use Rattle.sat_watch.specs.Searching.{Grows, IsSearch, all_of}
 use Rattle.sat_watch.specs.Trails.{Path}
 use Rattle.sat_watch.specs.Watching.{Sizes}
@@ -22,21 +22,21 @@ loop-count-preserved c =
       | else-is_true+in-Other w ↦ subst IsKept (sym w.trail-is)
           (w.visit.ensures.vars ∙ inv.vars, grows_on start.entries c.loop-count.trail.entries w.visit.new.trail.entries inv.grows w.visit.ensures.grows, w.visit.ensures.search)
     ] in
-    let mine : c.if-is_true.mine ≡ c.args.mine.now = elim c.if-is_true.branch [
-      | then-is_true w ↦ w.mine-is ∙ inv.mine
-      | else-is_true+in-Implied w ↦ w.mine-is ∙ inv.mine
-      | else-is_true+in-Other w ↦ w.mine-is ∙ w.rewatch.ensures ∙ inv.mine
+    let watches : c.if-is_true.watches ≡ c.args.watches.now = elim c.if-is_true.branch [
+      | then-is_true w ↦ w.watches-is ∙ inv.watches
+      | else-is_true+in-Implied w ↦ w.watches-is ∙ inv.watches
+      | else-is_true+in-Other w ↦ w.watches-is ∙ w.rewatch.ensures ∙ inv.watches
     ] in
-    let within : c.loop-count.number ≤ length (all_of base) = inv.within in
-    let earlier : c.loop-count.before ≤ length (all_of base) = inv.before in
-    let before : c.if-is_true.before ≤ length (all_of base) = elim c.if-is_true.branch [
+    let within : c.loop-count.item ≤ 2 * length (all_of base) = inv.within in
+    let earlier : c.loop-count.before ≤ 2 * length (all_of base) = inv.before in
+    let before : c.if-is_true.before ≤ 2 * length (all_of base) = elim c.if-is_true.branch [
       | then-is_true w ↦ let is = w.before-is in omega arith
       | else-is_true+in-Implied w ↦ let is = w.before-is in omega arith
       | else-is_true+in-Other w ↦ let is = w.before-is in omega arith
     ] in
-    let many : c.loop-count.mine.clauses ≡ length (all_of base) = ap (λ (z : Sizes). z.clauses) (inv.mine ∙ c.requires.mine) in
+    let many : c.loop-count.watches.clauses ≡ length (all_of base) = ap (λ (z : Sizes). z.clauses) (inv.watches ∙ c.requires.watches) in
     record {
-      mine = mine;
+      watches = watches;
       vars = trail.0;
       grows = trail.1;
       search = trail.2;

@@ -7,7 +7,7 @@ use Rattle.sat_watch.specs.Listing.{IsListing}
 use Rattle.sat_watch.specs.Searching.{Base, MayFollow, Spares, State, all_of}
 use Rattle.sat_watch.specs.Watching.{Sizes}
 use Rattle.sat_watch.proofs.Covered.{covered}
-use Rattle.sat_watch.proofs.Growing.{search_more, sizes_are}
+use Rattle.sat_watch.proofs.Growing.{search_more, sizes_more}
 use Rattle.sat_watch.proofs.search.Search.add.Goals as goal
 
 pub list-requires : goal.list-requires
@@ -15,21 +15,14 @@ list-requires c =
     let inside = c.self.inside in
     let lits = c.args.step.clause.lits in
     let may = subst (λ (s : State). MayFollow s.base c.args.step) (sym c.self.view_is) c.requires.may in
-    subst (λ n. IsCovered n lits) (sym c.self.invariant.3.many) (covered inside.known.vars lits may.follows.within)
+    subst (λ n. IsCovered n lits) (sym c.self.invariant.2.many) (covered inside.known.vars lits may.follows.within)
 
-pub watch-requires-clause-first : goal.watch-requires-clause-first
-watch-requires-clause-first c =
+pub watch-requires : goal.watch-requires
+watch-requires c =
     let inside = c.self.inside in
     let lits = c.args.step.clause.lits in
     let may = subst (λ (s : State). MayFollow s.base c.args.step) (sym c.self.view_is) c.requires.may in
     subst (λ n. IsCovered n lits) (sym (ap (λ (z : Sizes). z.vars) c.self.invariant.1)) (covered inside.known.vars lits may.follows.within)
-
-pub watch-requires-clause-second : goal.watch-requires-clause-second
-watch-requires-clause-second c =
-    let inside = c.self.inside in
-    let lits = c.args.step.clause.lits in
-    let may = subst (λ (s : State). MayFollow s.base c.args.step) (sym c.self.view_is) c.requires.may in
-    subst (λ n. IsCovered n lits) (sym (ap (λ (z : Sizes). z.vars) c.self.invariant.2)) (covered inside.known.vars lits may.follows.within)
 
 pub add-requires : goal.add-requires
 add-requires c = subst (λ (s : State). MayFollow s.base c.args.step) (sym c.self.view_is) c.requires.may
@@ -45,12 +38,12 @@ invariant_of-result c =
     let vars : base.vars ≡ new.vars = sym (ap (λ (b : Base). b.vars) c.in_ok-add.ensures) in
     let all : all_of new ≡ all_of base ++ step.clause ∷ [] = ap all_of c.in_ok-add.ensures ∙ known base.clauses base.steps step in
     let number : c.len-number.result + 1 ≡ length (all_of base) + 1 = ap (λ n. n + 1) c.len-number.ensures.count in
-    let many : c.len-number.result + 1 ≡ length (all_of new) = number ∙ sym (ap length all ∙ length_push (all_of base) step.clause) in
-    let listing = c.in_ok-list.ensures base.vars (all_of base) inv.3 number in
+    let grown : length (all_of base) + 1 ≡ length (all_of new) = sym (ap length all ∙ length_push (all_of base) step.clause) in
+    let listing = c.in_ok-list.ensures base.vars (all_of base) inv.2 number in
     let spares = subst (λ (s : State). Spares s.entries step.clause.lits) (sym c.self.view_is) c.requires.spares in (
       inv.0 ∙ vars,
-      sizes_are c.watch.new.first inside.first.vars (c.len-number.result + 1) new.vars (length (all_of new)) c.in_ok-watch.ensures.first (ap (λ (z : Sizes). z.vars) inv.1 ∙ vars) many,
-      sizes_are c.watch.new.second inside.second.vars (c.len-number.result + 1) new.vars (length (all_of new)) c.in_ok-watch.ensures.second (ap (λ (z : Sizes). z.vars) inv.2 ∙ vars) many,
+      subst (λ v. c.watch.new.watches ≡ record { vars = v; clauses = length (all_of new) }) vars
+          (sizes_more inside.watches c.watch.new.watches base.vars (length (all_of base)) (length (all_of new)) inv.1 c.watch.ensures.vars c.in_ok-watch.ensures.clauses grown),
       subst (λ v. IsListing v (all_of new) c.list.new.listing) vars (subst (λ (cs : List Clause). IsListing base.vars cs c.list.new.listing) (sym all) listing),
-      search_more known base new inside.trail.entries step inv.4 spares c.in_ok-add.ensures,
+      search_more known base new inside.trail.entries step inv.3 spares c.in_ok-add.ensures,
     )

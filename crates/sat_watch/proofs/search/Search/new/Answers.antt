@@ -5,7 +5,7 @@ use Rattle.clause_base.specs.Literals.{IsCovered}
 use Rattle.sat_watch.specs.Listing.{IsListing}
 use Rattle.sat_watch.specs.Watching.{Sizes}
 use Rattle.sat_watch.proofs.Covered.{covered_at}
-use Rattle.sat_watch.proofs.Growing.{sizes_are}
+use Rattle.sat_watch.proofs.Growing.{sizes_more}
 use Rattle.sat_watch.proofs.Members.{take_push}
 use Rattle.sat_watch.proofs.search.Search.new.Goals as goal
 
@@ -15,17 +15,11 @@ list-requires c =
     let clause = c.at-clause.result.now in
     subst (λ n. IsCovered n clause.lits) (sym c.loop-place.invariant.listing.many) (covered_at f.vars f.clauses c.loop-place.place clause c.at-clause.ensures f.in_range)
 
-pub watch-requires-clause-first : goal.watch-requires-clause-first
-watch-requires-clause-first c =
+pub watch-requires : goal.watch-requires
+watch-requires c =
     let f = c.args.f.now in
     let clause = c.at-clause.result.now in
-    subst (λ n. IsCovered n clause.lits) (sym (ap (λ (z : Sizes). z.vars) c.loop-place.invariant.first)) (covered_at f.vars f.clauses c.loop-place.place clause c.at-clause.ensures f.in_range)
-
-pub watch-requires-clause-second : goal.watch-requires-clause-second
-watch-requires-clause-second c =
-    let f = c.args.f.now in
-    let clause = c.at-clause.result.now in
-    subst (λ n. IsCovered n clause.lits) (sym (ap (λ (z : Sizes). z.vars) c.loop-place.invariant.second)) (covered_at f.vars f.clauses c.loop-place.place clause c.at-clause.ensures f.in_range)
+    subst (λ n. IsCovered n clause.lits) (sym (ap (λ (z : Sizes). z.vars) c.loop-place.invariant.watches)) (covered_at f.vars f.clauses c.loop-place.place clause c.at-clause.ensures f.in_range)
 
 pub loop-place-preserved : goal.loop-place-preserved
 loop-place-preserved c =
@@ -38,7 +32,6 @@ loop-place-preserved c =
     let number : place + 1 ≡ length (take place f.clauses) + 1 = ap (λ n. n + 1) (sym long) in
     let listing = c.in_ok-list.ensures f.vars (take place f.clauses) inv.listing number in
     record {
-      first = sizes_are c.watch.new.first c.loop-place.first.vars (place + 1) f.vars (place + 1) c.in_ok-watch.ensures.first (ap (λ (z : Sizes). z.vars) inv.first) refl;
-      second = sizes_are c.watch.new.second c.loop-place.second.vars (place + 1) f.vars (place + 1) c.in_ok-watch.ensures.second (ap (λ (z : Sizes). z.vars) inv.second) refl;
+      watches = sizes_more c.loop-place.watches c.watch.new.watches f.vars place (place + 1) inv.watches c.watch.ensures.vars c.in_ok-watch.ensures.clauses refl;
       listing = subst (λ (cs : List Clause). IsListing f.vars cs c.list.new.listing) (sym (take_push f.clauses place clause c.at-clause.ensures)) listing;
     }
