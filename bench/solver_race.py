@@ -30,7 +30,7 @@ import time
 from built import Built
 from race_formulas import (QUESTIONS, SMALL_QUESTIONS, chain_formula, dimacs, program_formulas, random_formula, text_of)
 
-SOLVER = ['clause_base', 'derivation_check', 'sat_core', 'sat_plain']
+SOLVER = ['clause_base', 'derivation_check', 'sat_core', 'sat_plain', 'step_lines']
 BUDGET = 20000
 RUNS = 3
 # Nanoseconds up to which a time by the clock counts: the system tells the processor's only from time to time.
