@@ -6,7 +6,7 @@ ghost use Rattle.mpy_tree.specs.Expressions.{apply};
 use crate::calls::Calls;
 use crate::machine::Machine;
 use mpy_tree::{Builtin, Name, Value};
-use value_operations::{Stop, call_builtin, call_on_number};
+use value_operations::{Stop, call_builtin};
 
 impl<C: Calls> Machine<'_, C> {
     /// What a call of a builtin, or else of a function of the program, gives.
@@ -26,7 +26,7 @@ impl<C: Calls> Machine<'_, C> {
             f.now (Value.Int z ∷ []) line) }
     {
         match Builtin::of(f.bytes()) {
-            Some(b) => call_on_number(self.alloc, self.limits, line, b, z),
+            Some(b) => call_builtin(self.alloc, self.limits, line, b, &[Value::Int(z)]),
             None => {
                 let mut args = Vec::with_capacity(self.alloc, 1)?;
                 args.push(Value::Int(z))?;

@@ -1,5 +1,5 @@
 //! The builtin functions.
-ghost use Rattle.std.specs.Prelude.{◌≡◌, ◌∷◌, []};
+ghost use Rattle.std.specs.Prelude.{◌≡◌};
 ghost use Rattle.value_operations.specs.Answers.{Meets, GivesNumber};
 ghost use Rattle.mpy_tree.specs.Values.{on_line};
 ghost use Rattle.mpy_tree.specs.Operations.{absolute, greatest, least, length_of};
@@ -31,23 +31,6 @@ pub fn call_builtin(
             let numbers = numbers_of(alloc, line, args)?;
             range_over(alloc, l, line, &numbers)
         }
-        _ => Err(stuck(line)),
-    }
-}
-
-/// What a builtin gives on a number alone.
-pub fn call_on_number(
-    alloc: Global,
-    l: &Limits,
-    line: u32,
-    b: Builtin,
-    z: i32,
-) -> Result<Value, Stop>
-    ensures { Meets result (on_line line (builtin l.now b (Value.Int z ∷ []))) }
-{
-    match b {
-        Builtin::Abs => make_number(l, line, (z as i64).abs()),
-        Builtin::Range => range(alloc, l, line, 0, z, 1),
         _ => Err(stuck(line)),
     }
 }

@@ -9,7 +9,7 @@ mod operators;
 mod ranges;
 mod stop;
 
-pub use builtins::{call_builtin, call_on_number, length_of_value};
+pub use builtins::{call_builtin, length_of_value};
 pub use comparisons::{compared, is_true, relate_numbers};
 pub use lists::{
     append_to, byte_in, element_at, list_literal, member_at, number_in, part_between, replace_at,
