@@ -8,9 +8,9 @@ use Rattle.choice_tree.specs.declared.node.Pick.{Pick}
 use Rattle.choice_tree.specs.declared.tree.Other.{Other}
 use Rattle.choice_tree.specs.Contexts.{line_below}
 use Rattle.choice_tree.specs.EditViews.{parts_line, edits_of_each, picks_of_each}
-use Rattle.choice_tree.specs.Rewriting.{Edit}
+use Rattle.choice_tree.specs.Rewriting.{Edit, edit_by}
 use Rattle.choice_tree.specs.WeightedTrees.{Weighted, Weighteds, plainly, pick, no_weighted}
-use Rattle.choice_tree.specs.WeightedTrees.{weighted_and, children, listed, base_of, edit_by}
+use Rattle.choice_tree.specs.WeightedTrees.{weighted_and, children, listed, base_of}
 use Rattle.choice_tree.specs.WeightedViews.{weighted_of, members, member_seen}
 use Rattle.choice_tree.specs.Selections.{plain, edits, edits_in, other_edits, edited_picks}
 use Rattle.choice_tree.specs.Selections.{picks_in, other_picks, other_at, chosen}

@@ -2,10 +2,10 @@
 use Rattle.std.proofs.Common.{◌≡◌, ◌⊎◌, ℕ, ◌+◌, List, [], ◌∷◌, ◌++◌, refl, ap, ◌∙◌, inl, inr}
 use Rattle.mpy_tree.specs.Trees.{Tree, Trees, node, no_trees, tree_and}
 use Rattle.choice_tree.specs.Contexts.{line_below}
-use Rattle.choice_tree.specs.Rewriting.{Edit}
+use Rattle.choice_tree.specs.Rewriting.{Edit, edit_by}
 use Rattle.choice_tree.specs.WeightedTrees.{Weighted, Weighteds, Others, plainly, pick, no_weighted}
 use Rattle.choice_tree.specs.WeightedTrees.{weighted_and, no_others, other_and, lifted, lifted_all}
-use Rattle.choice_tree.specs.WeightedTrees.{base_of, edit_by}
+use Rattle.choice_tree.specs.WeightedTrees.{base_of}
 use Rattle.choice_tree.specs.Growing.{picked}
 
 -- what the first part gives, and what the others give

@@ -6,9 +6,9 @@ use Rattle.mpy_tree.specs.Trees.{Tree, Trees, node, no_trees, tree_and}
 use Rattle.mpy_tree.specs.Shapes.{program_shape}
 use Rattle.choice_tree.specs.Choices.{member_of}
 use Rattle.choice_tree.specs.Contexts.{Setting, elsewhere, outermost, line_below}
-use Rattle.choice_tree.specs.Rewriting.{Edit}
+use Rattle.choice_tree.specs.Rewriting.{Edit, edit_by}
 use Rattle.choice_tree.specs.WeightedTrees.{Weighted, Weighteds, Others, plainly, pick, no_weighted}
-use Rattle.choice_tree.specs.WeightedTrees.{weighted_and, no_others, other_and, base_of, edit_by}
+use Rattle.choice_tree.specs.WeightedTrees.{weighted_and, no_others, other_and, base_of}
 use Rattle.choice_tree.specs.WeightedTrees.{numbered, numbered_all, numbered_others}
 use Rattle.choice_tree.specs.WeightedTrees.{picks}
 use Rattle.choice_tree.specs.Growing.{grown, steps, weighted_program}

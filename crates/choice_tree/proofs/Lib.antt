@@ -10,6 +10,7 @@ pub mod Lists
 pub mod MostLaws
 pub mod Numbers
 pub mod Opening
+pub mod PickOrder
 pub mod Places
 pub mod PlainParts
 pub mod SelectionLaws

@@ -6,10 +6,10 @@ use Rattle.std.specs.Prelude.{◌==◌, nat_le}
 use Rattle.std.proofs.lemmas.Bool.Decides.{nat_tests}
 use Rattle.mpy_tree.specs.Trees.{Tree, Trees, node, tree_and}
 use Rattle.choice_tree.specs.Contexts.{line_below}
-use Rattle.choice_tree.specs.Rewriting.{Edit}
+use Rattle.choice_tree.specs.Rewriting.{Edit, edit_by}
 use Rattle.choice_tree.specs.WeightedTrees.{Weighted, Weighteds, Others, plainly, pick, no_weighted}
 use Rattle.choice_tree.specs.WeightedTrees.{weighted_and, no_others, other_and, base_of, bases_of}
-use Rattle.choice_tree.specs.WeightedTrees.{edit_by, picks, picks_in, picks_in_others, numbered}
+use Rattle.choice_tree.specs.WeightedTrees.{picks, picks_in, picks_in_others, numbered}
 use Rattle.choice_tree.specs.WeightedTrees.{numbered_all, numbered_others}
 use Rattle.choice_tree.specs.declared.selection.Choice.{Choice}
 use Rattle.choice_tree.specs.Choices.{member_of, Rises, NamesBy}

@@ -6,11 +6,12 @@ use Rattle.mpy_tree.specs.declared.typing.Ty.TheVariants as ty
 use Rattle.mpy_tree.specs.declared.typing.Slot.TheVariants as slot
 use Rattle.mpy_tree.specs.declared.operators.ArithOp.TheVariants as arith
 use Rattle.mpy_tree.specs.declared.operators.CmpOp.TheVariants as cmp
-use Rattle.mpy_tree.specs.Syntax.{Term, a_term, no_term, no_terms, at, end, step, Routine}
+use Rattle.mpy_tree.specs.Syntax.{Term, a_term, no_term, at, end, step, Routine}
 use Rattle.mpy_tree.specs.Syntax as ast
 use Rattle.mpy_tree.specs.Rules.{Slots}
 use Rattle.mpy_tree.specs.Trees as kind
 use Rattle.mpy_tree.specs.Shapes.{shape, program_shape}
+use Rattle.choice_tree.specs.Contexts.{setting_with}
 use Rattle.choice_tree.specs.Templates.{exactly, one_arith, one_comparison}
 use Rattle.choice_tree.specs.Templates.{Template, Templates, made, hole, one_of, some_local}
 use Rattle.choice_tree.specs.Templates.{no_templates, template_and, Correction}
@@ -53,7 +54,7 @@ returning e =
 
 abbrev tree_by : List Correction → Term → Weighted
 tree_by rules e =
-    weighted_program (record { rules = rules; program = returning e; slots = types }) (returning e)
+    weighted_program (setting_with rules (returning e) types) (returning e)
 
 abbrev rule : Place → ℕ → Template → Template → Correction
 rule p cost left right =

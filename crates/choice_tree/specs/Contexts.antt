@@ -14,6 +14,9 @@ pub record Setting : Type 0 where
   pub program : List Routine
   pub slots : Slots
 
+abbrev pub setting_with : List Correction → List Routine → Slots → Setting
+setting_with rules program slots = record { rules = rules; program = program; slots = slots }
+
 abbrev pub scope_in : Setting → ℕ → Scope
 scope_in g i = record { slots = g.slots; program = g.program; number = i }
 
@@ -55,7 +58,28 @@ line_below (kind.Return line) _ = line
 line_below (kind.Arm line) _ = line
 line_below (kind.While line) _ = line
 line_below (kind.For line x) _ = line
-line_below _ line = line
+line_below (kind.Int n) line = line
+line_below (kind.Bool b) line = line
+line_below (kind.Text cs) line = line
+line_below (kind.Name x) line = line
+line_below kind.List line = line
+line_below kind.Neg line = line
+line_below kind.Not line = line
+line_below (kind.Arith op) line = line
+line_below (kind.Cmp op) line = line
+line_below kind.And line = line
+line_below kind.Or line = line
+line_below kind.Cond line = line
+line_below kind.Index line = line
+line_below (kind.Slice from to) line = line
+line_below (kind.Call f) line = line
+line_below (kind.Pass _) line = line
+line_below (kind.Break _) line = line
+line_below (kind.Continue _) line = line
+line_below (kind.If _) line = line
+line_below kind.Block line = line
+line_below (kind.Function _ f xs) line = line
+line_below kind.Program line = line
 
 -- Of the part of a node at a place. The whole expression of `v = e`, of a `return` and of a `for`
 -- is shared, and so are the arms of a conditional that is.

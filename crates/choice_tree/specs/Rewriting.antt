@@ -35,8 +35,12 @@ abbrev mutual
   written_all g (tree_and t ts) k i c =
       tree_and (written g t (below g k i c)) (written_all g ts k (suc i) c)
 
+-- what a rule makes on a line
+abbrev pub edit_by : ℕ → ℕ → Tree → Tree → Edit
+edit_by line rule old new = record { line = line; rule = rule; old = old; new = new }
+
 abbrev pub edit : Setting → ℕ → Context → ℕ → Tree → Tree → Edit
-edit g line c rule t t' = record { line = line; rule = rule; old = written g t c; new = t' }
+edit g line c rule t t' = edit_by line rule (written g t c) t'
 
 mutual
   -- The rules make t' of t at this cost, by these edits: from left to right, an outer one before

@@ -7,10 +7,10 @@ use Rattle.choice_tree.specs.declared.selection.Choice.{Choice}
 use Rattle.choice_tree.specs.Choices.{member_of, Rises, NamesBy}
 use Rattle.mpy_tree.specs.Trees.{Tree, Trees, node, no_trees, tree_and}
 use Rattle.choice_tree.specs.Contexts.{line_below}
-use Rattle.choice_tree.specs.Rewriting.{Edit}
+use Rattle.choice_tree.specs.Rewriting.{Edit, edit_by}
 use Rattle.choice_tree.specs.WeightedTrees.{Weighted, Weighteds, Others, plainly, pick}
 use Rattle.choice_tree.specs.WeightedTrees.{no_weighted, weighted_and, no_others, other_and}
-use Rattle.choice_tree.specs.WeightedTrees.{base_of, edit_by}
+use Rattle.choice_tree.specs.WeightedTrees.{base_of}
 
 -- the member besides the base, by its number from 1
 abbrev pub other_at : {A : Type 0} → ℕ → List A → Option A

@@ -2,7 +2,6 @@
 use Rattle.std.specs.Prelude.{ℕ, suc, ◌+◌, if◌then◌else◌, List, [], ◌∷◌}
 use Rattle.mpy_tree.specs.Trees.{Kind, Tree, Trees, node, no_trees, tree_and}
 use Rattle.choice_tree.specs.Matching.{is_expression}
-use Rattle.choice_tree.specs.Rewriting.{Edit}
 
 mutual
   -- a node; or a pick with its number, its base, which costs nothing, and its other members
@@ -112,7 +111,3 @@ abbrev mutual
   numbered_others no_others from = no_others
   numbered_others (other_and rule cost w os) from =
       other_and rule cost (numbered w from) (numbered_others os (from + picks w))
-
--- an edit by a member of a pick
-abbrev pub edit_by : ℕ → ℕ → Tree → Tree → Edit
-edit_by line rule old new = record { line = line; rule = rule; old = old; new = new }

@@ -71,7 +71,11 @@ action_least g c (ast.Append x e) = least_size g c.scope (shape e)
 action_least g c (ast.Return (a_term e)) = placed_least g c at_return (shape e)
 action_least g c (ast.While e body) = placed_least g c at_while (shape e)
 action_least g c (ast.For x e body) = placed_least g c (at_for x) (shape e)
-action_least g c _ = 0
+action_least g c (ast.Return ast.no_term) = 0
+action_least g c ast.Pass = 0
+action_least g c ast.Break = 0
+action_least g c ast.Continue = 0
+action_least g c (ast.If arms last) = 0
 
 -- of what stands on a line
 abbrev pub line_least : Setting → Context → Line → ℕ

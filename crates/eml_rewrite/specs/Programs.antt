@@ -11,7 +11,7 @@ use Rattle.mpy_tree.specs.Trees as kind
 use Rattle.choice_tree.specs.declared.rules.Rules.{Rules}
 use Rattle.choice_tree.specs.declared.tree.WFuncs.{WFuncs}
 use Rattle.choice_tree.specs.declared.tree.WProg.{WProg}
-use Rattle.choice_tree.specs.Contexts.{Setting, outermost}
+use Rattle.choice_tree.specs.Contexts.{Setting, outermost, setting_with}
 use Rattle.choice_tree.specs.Growing.{parts_grown}
 use Rattle.choice_tree.specs.RuleViews.{corrections_of}
 use Rattle.choice_tree.specs.StatementViews.{weighted_func, weighted_prog}
@@ -24,7 +24,7 @@ use Rattle.eml_rewrite.specs.Statements.{fully_grown}
 -- rules for a program whose names have the types that these facts give
 abbrev pub setting_of : FactSet → Rules → List Func → Setting
 setting_of facts rules funcs =
-    record { rules = corrections_of rules; program = map routine_of funcs; slots = single facts }
+    setting_with (corrections_of rules) (map routine_of funcs) (single facts)
 
 abbrev pub funcs_grown : Setting → List Routine → Weighteds
 funcs_grown g rs = parts_grown g (fully_grown g) (routine_shapes rs) kind.Program 0 (outermost g)

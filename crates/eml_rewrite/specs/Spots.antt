@@ -4,7 +4,7 @@ use Rattle.mpy_tree.specs.View.{routine_of}
 use Rattle.mpy_tree.specs.Rules.{single}
 use Rattle.mpy_types.specs.declared.known.Known as known
 use Rattle.choice_tree.specs.Contexts as context
-use Rattle.choice_tree.specs.Contexts.{Setting, Context, apart, shared, copied}
+use Rattle.choice_tree.specs.Contexts.{Setting, Context, apart, shared, copied, setting_with}
 use Rattle.choice_tree.specs.RuleViews.{corrections_of}
 use Rattle.eml_instances.specs.Scopes.{scope_of}
 use Rattle.eml_rewrite.specs.declared.sharing.Sharing.{Sharing}
@@ -19,11 +19,8 @@ sharing_of sharing.Copied = copied
 -- the rules, the program and the facts of a place
 abbrev pub setting_at : {K : Type 0} {G : known.Ghosts K} → Spot K G → Setting
 setting_at {G = G} s =
-    record {
-      rules = corrections_of s.rules.now;
-      program = map routine_of s.scope.now.scopes.now.funcs.now;
-      slots = single (G.gives s.scope.now.known.now);
-    }
+    setting_with (corrections_of s.rules.now) (map routine_of s.scope.now.scopes.now.funcs.now)
+    (single (G.gives s.scope.now.known.now))
 
 abbrev pub context_at : {K : Type 0} {G : known.Ghosts K} → Spot K G → Context
 context_at {G = G} s =

@@ -77,7 +77,7 @@ fn count_own<'a, K: Known>(alloc: Global, spot: &Spot<'a, K>, act: &'a Act) -> R
             let second = count_whole(alloc, spot, e)?;
             Ok(first.saturating_add(second))
         }
-        _ => Ok(0),
+        Act::Return(None) | Act::Pass | Act::Break | Act::Continue | Act::If(_, _) => Ok(0),
     }
 }
 

@@ -9,7 +9,7 @@ use Rattle.mpy_tree.specs.Rules.{Slots}
 use Rattle.mpy_tree.specs.Trees as kind
 use Rattle.mpy_tree.specs.Trees.{Kind, leaf}
 use Rattle.choice_tree.specs.declared.rules.Place.TheVariants as place
-use Rattle.choice_tree.specs.Contexts.{Setting, elsewhere, outermost, scope_in}
+use Rattle.choice_tree.specs.Contexts.{Setting, elsewhere, outermost, scope_in, setting_with}
 use Rattle.choice_tree.specs.Growing.{grown}
 use Rattle.choice_tree.specs.Templates.{Correction, Template, exactly, made, no_templates}
 use Rattle.choice_tree.specs.Templates.{template_and}
@@ -50,7 +50,7 @@ rule right =
     }
 
 abbrev setting : Template → Setting
-setting right = record { rules = rule right ∷ []; program = []; slots = types }
+setting right = setting_with (rule right ∷ []) [] types
 
 -- the type of the weighted tree of 1
 abbrev type_by : Template → Option Ty

@@ -9,7 +9,7 @@ use Rattle.mpy_tree.specs.Trees.{Kind, Tree}
 use Rattle.mpy_tree.specs.Typings.{AreTypes, set_of}
 use Rattle.choice_tree.specs.declared.tree.WFunc.{WFunc}
 use Rattle.choice_tree.specs.declared.tree.WProg.{WProg}
-use Rattle.choice_tree.specs.Contexts.{Context, Setting, Site, scope_in}
+use Rattle.choice_tree.specs.Contexts.{Context, Setting, Site, scope_in, setting_with}
 use Rattle.choice_tree.specs.Growing.{grown, weighted_program}
 use Rattle.choice_tree.specs.StatementViews.{weighted_func, weighted_prog}
 use Rattle.choice_tree.specs.Templates.{Correction}
@@ -50,7 +50,7 @@ CallsFollowFromSlots =
 
 -- rules for a program with the types of its names
 abbrev pub setting_by : List Correction → List Routine → List Fact → Setting
-setting_by rules p T = record { rules = rules; program = p; slots = single (set_of T) }
+setting_by rules p T = setting_with rules p (single (set_of T))
 
 -- the weighted tree of a program that facts type is typed
 abbrev pub WeightedProgramsAreTyped : Type 0

@@ -4,7 +4,8 @@ use Rattle.choice_tree.specs.Choices.{member_of}
 use Rattle.choice_tree.specs.EditViews.{edit_of, pick_number, edits_of_each, picks_of_each}
 use Rattle.choice_tree.specs.declared.edit.Edit.{Edit}
 use Rattle.choice_tree.specs.Selections.{plain, edits, edited_picks}
-use Rattle.choice_tree.specs.WeightedTrees.{base_of, edit_by}
+use Rattle.choice_tree.specs.Rewriting.{edit_by}
+use Rattle.choice_tree.specs.WeightedTrees.{base_of}
 use Rattle.choice_tree.specs.WeightedViews.{weighted_of}
 use Rattle.choice_tree.specs.WeightedTrees.{children}
 use Rattle.choice_tree.specs.NodeViews.{node_of}
