@@ -6,6 +6,7 @@ pub mod FullyGrown
 pub mod LeastPrograms
 pub mod LeastSizes
 pub mod Members
+pub mod NoRules
 pub mod Nodes
 pub mod Programs
 pub mod Sizes

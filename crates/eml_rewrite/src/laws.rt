@@ -1,5 +1,5 @@
 //! Laws of weighted trees of programs.
-ghost use Rattle.std.specs.Prelude.{◌≡◌, ◌≤◌, ◌*◌, ℕ, All, List};
+ghost use Rattle.std.specs.Prelude.{◌≡◌, ◌≤◌, ◌*◌, ℕ, All, List, []};
 ghost use Rattle.mpy_tree.specs.Syntax.{Routine};
 ghost use Rattle.mpy_tree.specs.Shapes.{program_shape};
 ghost use Rattle.choice_tree.specs.declared.tree.WProg.{WProg};
@@ -10,7 +10,7 @@ ghost use Rattle.choice_tree.specs.Rewriting.{Rewrites};
 ghost use Rattle.choice_tree.specs.Selections.{MadeBySelections};
 ghost use Rattle.choice_tree.specs.StatementViews.{weighted_prog};
 ghost use Rattle.choice_tree.specs.Templates.{KeepPrimes};
-ghost use Rattle.choice_tree.specs.WeightedTrees.{size};
+ghost use Rattle.choice_tree.specs.WeightedTrees.{lifted, size};
 
 /// The selections that fit a tree that `rewrite` gives make exactly the rewritings of the program,
 /// with their costs and edits.
@@ -25,4 +25,11 @@ pub fn rewritten_trees_have_all_rewritings()
 pub fn rewritten_trees_have_small_costs()
     ensures { (g : Setting) (s : List Routine) (n : ℕ) → All (λ r. r.cost ≤ n) g.rules → all_costs
         (weighted_program g s) ≤ n * size (weighted_program g s) }
+{}
+
+/// The tree of the rewritings of a program by no rules is the program without picks, which `lift`
+/// gives.
+pub fn trees_by_no_rules_are_lifted()
+    ensures { (g : Setting) (s : List Routine) → g.rules ≡ [] → weighted_program g s ≡ lifted
+        (program_shape s) }
 {}

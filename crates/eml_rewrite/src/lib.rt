@@ -16,5 +16,8 @@ mod statements;
 mod written;
 
 pub use error::RewriteError;
-pub use laws::{rewritten_trees_have_all_rewritings, rewritten_trees_have_small_costs};
+pub use laws::{
+    rewritten_trees_have_all_rewritings, rewritten_trees_have_small_costs,
+    trees_by_no_rules_are_lifted,
+};
 pub use rewriting::rewrite;
