@@ -39,7 +39,7 @@ third_cause false true d x y z o h = cc
 third_cause false false true x y z o h = cc
 third_cause false false false x y z o h = refl
 
-no_cause : (c : Option Cause) (line : ℕ) (rest : Option MeaningFault)
+pub no_cause : (c : Option Cause) (line : ℕ) (rest : Option MeaningFault)
     → fault_or c line rest ≡ None → (c ≡ None) × (rest ≡ None)
 no_cause None line rest h = (refl, h)
 no_cause (Some c) line rest h = cc

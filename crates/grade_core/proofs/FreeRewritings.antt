@@ -1,5 +1,5 @@
 -- A rewriting that costs nothing is the submission itself.
-use Rattle.std.proofs.Common.{◌≡◌, ℕ, zero, suc, ◌+◌, ◌≤◌, Bool, true, false, ◌&&◌, List, [], ◌∷◌, ◌++◌, All, refl, sym, ap, subst, ◌∙◌, arith}
+use Rattle.std.proofs.Common.{◌≡◌, ℕ, zero, suc, ◌+◌, ◌≤◌, Bool, true, false, ◌&&◌, List, [], ◌∷◌, All, refl, sym, ap, subst, ◌∙◌, arith}
 use Rattle.std.specs.List.{sum_by}
 use Rattle.std.specs.Option.{option_map_or}
 use Rattle.std.proofs.lemmas.List.Sums.{sum_by-cons}
@@ -11,6 +11,7 @@ use Rattle.choice_tree.specs.Rewriting.{Edit, Rewrites, RewritesAll, kept, copie
 use Rattle.choice_tree.specs.Templates.{Correction}
 use Rattle.choice_tree.specs.Typing.{is_list_name}
 use Rattle.feedback_text.proofs.EditRules.{Costed, IsNamed, cost_at, costed}
+use Rattle.mpy_type_laws.proofs.Nothing.{nil_left, nil_right}
 
 -- CONTEXTS OUTSIDE OF ALTERNATIVES
 
@@ -69,14 +70,6 @@ mutual
 
 -- NO EDIT
 
-no_first : {A : Type 0} (xs ys : List A) → xs ++ ys ≡ [] → xs ≡ []
-no_first [] ys e = refl
-no_first (x ∷ xs) ys e = cc
-
-no_second : {A : Type 0} (xs ys : List A) → xs ++ ys ≡ [] → ys ≡ []
-no_second [] ys e = e
-no_second (x ∷ xs) ys e = cc
-
 off_and_on : {A : Type 0} (b : Bool) → b ≡ true → b ≡ false → A
 off_and_on b on off = cc
 
@@ -95,8 +88,8 @@ mutual
       → RewritesAll g k i line c ts ts' n es → es ≡ [] → is_copied c.sharing ≡ false → ts' ≡ ts
   all_unedited g none nothing off = refl
   all_unedited g {k = k} {i = i} {c = c} (each {t = t} {t' = t'} {ts = ts} {ts' = ts'} {es = es} {fs = fs} first rest) nothing off =
-      ap (λ x. tree_and x ts') (unedited g first (no_first es fs nothing) (off_below k i c.sharing off))
-      ∙ ap (tree_and t) (all_unedited g rest (no_second es fs nothing) off)
+      ap (λ x. tree_and x ts') (unedited g first (nil_left es fs nothing) (off_below k i c.sharing off))
+      ∙ ap (tree_and t) (all_unedited g rest (nil_right es fs nothing) off)
 
 -- NO COST
 

@@ -1,3 +1,4 @@
 pub mod OneAnswer
 pub mod Targets
 pub mod WholeFacts
+pub mod Nothing

@@ -17,6 +17,7 @@ use Rattle.mpy_types.proofs.SetLaws.{join_none}
 use Rattle.mpy_scopes.proofs.Places.{at_place}
 use Rattle.mpy_types.proofs.Targets.{stands_among}
 use Rattle.mpy_type_laws.proofs.Targets.{within_slots, least_within_slots}
+use Rattle.mpy_type_laws.proofs.Nothing.{none_both}
 
 one_of : (a b c d : Bool) (line : ℕ) → slot_fault (listed (record { int = a; bool = b; list = c; text = d })) line ≡ None → (t : Ty) × (record { int = a; bool = b; list = c; text = d } ≡ just t)
 one_of true false false false line e = (ty.Int, refl)
@@ -30,10 +31,6 @@ one_of true false false true line e = absurd (cc)
 one_of false true true d line e = absurd (cc)
 one_of false true false true line e = absurd (cc)
 one_of false false true true line e = absurd (cc)
-
-none_first : (a b : Option TypeError) → or_fault a b ≡ None → (a ≡ None) × (b ≡ None)
-none_first None b e = (refl, e)
-none_first (Some x) b e = absurd (cc)
 
 only_one : (t : Ty) → only (just t) ≡ Some t
 only_one ty.Int = refl
@@ -58,7 +55,7 @@ here_or_there false m t s w h e = e
 set_at : (F : FactSet) (ss : List Place) (j : ℕ) (y : Slot) → slots_fault F ss ≡ None → set_of (facts_at F ss) j y ≡ within_slots ss F j y
 set_at F [] j y e = refl
 set_at F (s ∷ ss) j y e =
-    let k = none_first (slot_fault (listed (F s.func s.slot)) s.line) (slots_fault F ss) e in
+    let k = none_both (slot_fault (listed (F s.func s.slot)) s.line) (slots_fault F ss) e in
     let u = one_of (F s.func s.slot).int (F s.func s.slot).bool (F s.func s.slot).list (F s.func s.slot).text s.line k.0 in
     let o : only (F s.func s.slot) ≡ Some u.0 = ap only u.1 ∙ only_one u.0 in
     ap (λ z. set_of (facts_with s z (facts_at F ss)) j y) o

@@ -1,8 +1,8 @@
 -- What facts that type a program say of its slots, of its functions and of its entry.
 use Rattle.std.proofs.Common.{◌≡◌, ◌<◌, ℕ, zero, suc, ◌+◌, Bool, true, false, ◌||◌, List}
 use Rattle.std.proofs.Common.{[], ◌∷◌, ◌++◌, length, map, get_or, Option, Some, None, if◌then◌else◌, IsTrue}
-use Rattle.std.proofs.Common.{IsSome, is_some, refl, sym, ap, ◌∙◌, subst, arith}
-use Rattle.std.specs.Prelude.{⊤, ◌==◌, All, nat_lt}
+use Rattle.std.proofs.Common.{IsSome, refl, sym, ap, ◌∙◌, subst, arith}
+use Rattle.std.specs.Prelude.{⊤, ◌==◌, All}
 use Rattle.std.specs.List.{filter, flat_map, list_any}
 use Rattle.std.proofs.lemmas.Bool.{and_from, both_ways, eqb-true, or_left, or_right}
 use Rattle.std.proofs.lemmas.Bool.{true_from_ne_false}
@@ -15,11 +15,11 @@ use Rattle.mpy_tree.specs.declared.typing.Ty.{Ty}
 use Rattle.mpy_tree.specs.declared.typing.Ty.TheVariants as ty
 use Rattle.mpy_tree.specs.declared.typing.TypeError.{TypeError}
 use Rattle.mpy_tree.specs.declared.typing.TypeSet.{TypeSet}
-use Rattle.mpy_tree.specs.Faults.{Place, earlier, entry_fault, listed, local_line, names_fault}
+use Rattle.mpy_tree.specs.Faults.{Place, entry_fault, listed, local_line, names_fault}
 use Rattle.mpy_tree.specs.Faults.{nodes_fault, or_fault, place, slot_fault, slots, slots_fault}
 use Rattle.mpy_tree.specs.Faults.{routine_slots, slots_from}
 use Rattle.mpy_tree.specs.Flows.{Keeps, entry_flows, flows, flows_from, given_flows}
-use Rattle.mpy_tree.specs.Leasts.{least, lesser}
+use Rattle.mpy_tree.specs.Leasts.{least}
 use Rattle.mpy_tree.specs.Locals.{is_among, locals, site_assigned, site_names}
 use Rattle.mpy_tree.specs.Names.{arity_lines, has_name_fault, has_twice, header_lines}
 use Rattle.mpy_tree.specs.Names.{is_builtin, lines_of, name_lines, name_lines_from}
@@ -28,70 +28,21 @@ use Rattle.mpy_tree.specs.Running.{found}
 use Rattle.mpy_tree.specs.SetTypes.{Callee, FactSet, callee, called, called_from, same_place}
 use Rattle.mpy_tree.specs.Sites.{sites}
 use Rattle.mpy_tree.specs.Syntax.{Routine}
-use Rattle.mpy_tree.specs.TypeSets.{IsWithin, join, just, only_of}
+use Rattle.mpy_tree.specs.TypeSets.{IsWithin, join, just}
 use Rattle.mpy_tree.specs.Typings.{AreTypes, IsOfSlot, set_of}
 use Rattle.mpy_tree.specs.Values.{same_bytes}
 use Rattle.mpy_scopes.proofs.Places.{at_place, place_same}
 use Rattle.mpy_types.proofs.Every.{Every, every_front, every_of, every_rest}
 use Rattle.typed_programs.proofs.OneType.{settled}
 use Rattle.sym_stmt.proofs.LocalNames.{apart, new_none}
-
-either_holds : (a b : Bool) (P : Type 0) → (a ≡ true → P) → (b ≡ true → P) → (a || b) ≡ true → P
-either_holds true b P f g h = f refl
-either_holds false b P f g h = g h
-
--- faults that aren't there
-none_both : (a b : Option TypeError) → or_fault a b ≡ None → (a ≡ None) × (b ≡ None)
-none_both None b e = (refl, e)
-none_both (Some x) b e = absurd cc
-
-either_some : (b : Bool) (x y : TypeError) → (if b then Some x else Some y) ≡ None → ⊥
-either_some true x y e = cc
-either_some false x y e = cc
-
-no_earlier : (o q : Option ℕ) → earlier o q ≡ None → o ≡ None
-no_earlier None q e = refl
-no_earlier (Some n) None e = absurd cc
-no_earlier (Some n) (Some a) e = absurd (either_some (nat_lt a n) _ _ e)
-
-lesser_some : (x : ℕ) (o : Option ℕ) → lesser (Some x) o ≡ None → ⊥
-lesser_some x None e = cc
-lesser_some x (Some y) e = cc
-
-no_least : (xs : List ℕ) → least xs ≡ None → xs ≡ []
-unfolding least
-no_least [] e = refl
-no_least (x ∷ xs) e = absurd (lesser_some x (least xs) e)
-
-nothing_before : {X : Type 0} (xs ys : List X) → xs ++ ys ≡ [] → xs ≡ []
-nothing_before [] ys e = refl
-nothing_before (x ∷ xs) ys e = absurd cc
-
-nothing_after : {X : Type 0} (xs ys : List X) → xs ++ ys ≡ [] → ys ≡ []
-nothing_after [] ys e = e
-nothing_after (x ∷ xs) ys e = absurd cc
+use Rattle.mpy_type_laws.proofs.Nothing.{nil_left, nil_right, none_both, none_least, not_earlier, one_type}
+use Rattle.typed_programs.proofs.Linked.{either_is}
 
 third_false : (a b c : Bool) (line : ℕ) → (if a || b || c then line ∷ [] else []) ≡ [] → c ≡ false
 third_false true b c line e = absurd cc
 third_false false true c line e = absurd cc
 third_false false false true line e = absurd cc
 third_false false false false line e = refl
-
--- a set that is at no fault has one type
-one_type : (a b c d : Bool) (line : ℕ)
-    → slot_fault (listed (record { int = a; bool = b; list = c; text = d })) line ≡ None
-    → is_some (only_of a b c d) ≡ true
-one_type true false false false line e = refl
-one_type false true false false line e = refl
-one_type false false true false line e = refl
-one_type false false false true line e = refl
-one_type false false false false line e = absurd cc
-one_type true true c d line e = absurd cc
-one_type true false true d line e = absurd cc
-one_type true false false true line e = absurd cc
-one_type false true true d line e = absurd cc
-one_type false true false true line e = absurd cc
-one_type false false true true line e = absurd cc
 
 module _ (F : FactSet) where
   -- each slot has one
@@ -110,7 +61,7 @@ module _ (F : FactSet) where
   of_slot [] j y h e = absurd cc
   of_slot (s ∷ ss) j y h e =
       let P = λ (n : ℕ) (z : Slot). IsSome (single F n z) → IsSome (single F j y) in
-      either_holds (same_place j y s.func s.slot)
+      either_is (same_place j y s.func s.slot)
       (list_any (λ t. same_place j y t.func t.slot) ss) (IsSome (single F j y))
       (λ m. at_place P j y s.func s.slot m (λ k. k) h.0) (of_slot ss j y h.1) e
 
@@ -196,7 +147,7 @@ local_typed : (F : FactSet) (i : ℕ) (line : List ℕ → ℕ) (xs : List (List
     → is_among xs x ≡ true → IsSome (single F i (slot.Local x))
 local_typed F i line [] x h e = absurd cc
 local_typed F i line (y ∷ xs) x h e =
-    either_holds (same_bytes x y) (is_among xs x) (IsSome (single F i (slot.Local x)))
+    either_is (same_bytes x y) (is_among xs x) (IsSome (single F i (slot.Local x)))
     (λ k. subst (λ z. IsSome (single F i (slot.Local z))) (sym ((bytes_eq-Decides x y).0 k)) h.0)
     (local_typed F i line xs x h.1) e
 
@@ -213,8 +164,8 @@ headers_typed F p before i (r ∷ rs) h e =
     let later = name_lines_from p (before ++ r.name ∷ []) rs in (
       record {
         differ = third_false (is_among before r.name) (is_builtin r.name) (has_twice r.params)
-            r.line (nothing_before (header_lines before r) lines
-            (nothing_before (header_lines before r ++ lines) later e));
+            r.line (nil_left (header_lines before r) lines
+            (nil_left (header_lines before r ++ lines) later e));
         params = λ k d less.
             local_typed F i (local_line r) (locals r) (get_or r.params k d)
             (every_front (HasType F) places end own)
@@ -222,7 +173,7 @@ headers_typed F p before i (r ∷ rs) h e =
         result = (every_rest (HasType F) places end own).0;
       },
       headers_typed F p (before ++ r.name ∷ []) (i + 1) rs rest
-          (nothing_after (header_lines before r ++ lines) later e),
+          (nil_right (header_lines before r ++ lines) later e),
     )
 
 -- the entry takes arguments of the given types
@@ -302,7 +253,7 @@ are_facts T p entry ts h =
     let three = none_both (slots_fault F (slots p)) (nodes_fault (single F) p) two.1 in
     let each = each_typed F (slots p) three.0 in
     let names =
-    no_least (name_lines p) (no_earlier (least (name_lines p)) (least (arity_lines p)) one.0) in
+    none_least (name_lines p) (not_earlier (least (name_lines p)) (least (arity_lines p)) one.0) in
     let headers = headers_typed F p [] 0 p each names in
     record {
       alone = alone_each T (slots p) T each (every_of (IsOfSlot p) T h.of_slots)

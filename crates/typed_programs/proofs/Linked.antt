@@ -1,5 +1,5 @@
 -- In a program that facts type each statement is typed, and the entry's arguments are for its parameters.
-use Rattle.std.proofs.Common.{◌≡◌, ℕ, zero, suc, ◌+◌, Bool, true, false, not, ◌||◌, List, [], ◌∷◌, ◌++◌, length, map, Option, Some, None, if◌then◌else◌, IsTrue, refl, subst, arith}
+use Rattle.std.proofs.Common.{◌≡◌, ℕ, zero, suc, ◌+◌, Bool, true, false, not, ◌||◌, List, [], ◌∷◌, length, map, Option, Some, None, if◌then◌else◌, IsTrue, refl, subst, arith}
 use Rattle.std.specs.Prelude.{⊤, is_some, slice_get, ◌==◌}
 use Rattle.std.specs.List.{All, flat_map}
 use Rattle.std.proofs.lemmas.Bool.{eqb-true}
@@ -14,14 +14,14 @@ use Rattle.mpy_tree.specs.declared.typing.TypeError.{TypeError}
 use Rattle.mpy_tree.specs.Syntax.{Routine}
 use Rattle.mpy_tree.specs.Values.{same_bytes}
 use Rattle.mpy_tree.specs.Running.{found}
-use Rattle.mpy_tree.specs.TypeSets.{just, only_of}
+use Rattle.mpy_tree.specs.TypeSets.{just}
 use Rattle.mpy_tree.specs.SetTypes.{FactSet, Callee, callee, called, called_from, same_place}
 use Rattle.mpy_tree.specs.Sites.{Site, line_of, sites}
 use Rattle.mpy_tree.specs.Flows.{Flow, Keeps, site_flows, all_site_flows, flows_from, given_flows, entry_flows, flows}
 use Rattle.mpy_tree.specs.Rules.{single, site_obeys}
-use Rattle.mpy_tree.specs.Leasts.{lesser, least}
+use Rattle.mpy_tree.specs.Leasts.{least}
 use Rattle.mpy_tree.specs.Names.{lines_of}
-use Rattle.mpy_tree.specs.Faults.{Place, slots, listed, slot_fault, slots_fault, broken_from, fault_on, nodes_fault, names_fault, entry_fault, or_fault}
+use Rattle.mpy_tree.specs.Faults.{Place, slots, listed, slot_fault, slots_fault, broken_from, nodes_fault, names_fault, entry_fault, or_fault}
 use Rattle.mpy_tree.specs.Typings.{AreTypes, set_of}
 use Rattle.mpy_tree.specs.Fitting.{fits_as, all_fit_as}
 use Rattle.mpy_scopes.proofs.Places.{at_place}
@@ -31,57 +31,17 @@ use Rattle.typed_programs.specs.Keeping.{is_for, are_for, AreFor, takes_call, Se
 use Rattle.typed_programs.proofs.FittingLists.{and_true, and_both}
 use Rattle.typed_programs.proofs.OneType.{settled}
 use Rattle.typed_programs.proofs.Statements.{IsFine, for_slot, every_left, every_right}
+use Rattle.mpy_type_laws.proofs.Nothing.{nil_left, nil_right, none_both, none_least, not_on, one_type}
 
 all_of : {A : Type 0} (P : A → Type 0) (xs : List A) → Every P xs → All P xs
 all_of P [] h = All-nil P
 all_of P (x ∷ xs) h = All-cons P x xs h.0 (all_of P xs h.1)
 
--- lists of lines
-nil_left : (xs ys : List ℕ) → xs ++ ys ≡ [] → xs ≡ []
-nil_left [] ys e = refl
-nil_left (x ∷ xs) ys e = absurd (cc)
-
-nil_right : (xs ys : List ℕ) → xs ++ ys ≡ [] → ys ≡ []
-nil_right [] ys e = e
-nil_right (x ∷ xs) ys e = absurd (cc)
-
 obeyed : (b : Bool) (line : ℕ) (rest : List ℕ) → (if not b then line ∷ rest else rest) ≡ [] → (b ≡ true) × (rest ≡ [])
 obeyed true line rest e = (refl, e)
 obeyed false line rest e = absurd (cc)
 
-no_fault : (o : Option ℕ) → fault_on o ≡ None → o ≡ None
-no_fault None e = refl
-no_fault (Some x) e = absurd (cc)
-
-lesser_some : (x : ℕ) (o : Option ℕ) → lesser (Some x) o ≡ None → ⊥
-lesser_some x None e = cc
-lesser_some x (Some y) e = cc
-
-no_least : (xs : List ℕ) → least xs ≡ None → xs ≡ []
-unfolding least
-no_least [] e = refl
-no_least (x ∷ xs) e = absurd (lesser_some x (least xs) e)
-
--- what has no fault has none of its parts
-none_both : (a b : Option TypeError) → or_fault a b ≡ None → (a ≡ None) × (b ≡ None)
-none_both None b e = (refl, e)
-none_both (Some x) b e = absurd (cc)
-
--- a set that is at no fault has one type
-one_type : (a b c d : Bool) (line : ℕ) → slot_fault (listed (record { int = a; bool = b; list = c; text = d })) line ≡ None → is_some (only_of a b c d) ≡ true
-one_type true false false false line e = refl
-one_type false true false false line e = refl
-one_type false false true false line e = refl
-one_type false false false true line e = refl
-one_type false false false false line e = absurd (cc)
-one_type true true c d line e = absurd (cc)
-one_type true false true d line e = absurd (cc)
-one_type true false false true line e = absurd (cc)
-one_type false true true d line e = absurd (cc)
-one_type false true false true line e = absurd (cc)
-one_type false false true true line e = absurd (cc)
-
-either_is : (a b : Bool) (P : Type 0) → (a ≡ true → P) → (b ≡ true → P) → (a || b) ≡ true → P
+pub either_is : (a b : Bool) (P : Type 0) → (a ≡ true → P) → (b ≡ true → P) → (a || b) ≡ true → P
 either_is true b P f g h = f refl
 either_is false b P f g h = g h
 
@@ -179,7 +139,7 @@ module _ (T : List Fact) (p : List Routine) (entry : List ℕ) (ts : List Ty) (h
       let k = none_both (names_fault p) (or_fault (entry_fault (found p entry) (length ts)) (or_fault (slots_fault F (slots p)) (nodes_fault (single F) p))) h.faultless in
       let m = none_both (entry_fault (found p entry) (length ts)) (or_fault (slots_fault F (slots p)) (nodes_fault (single F) p)) k.1 in
       let n = none_both (slots_fault F (slots p)) (nodes_fault (single F) p) m.1 in
-      fine_from F p 0 p (no_least (broken_from (single F) p 0 p) (no_fault (least (broken_from (single F) p 0 p)) n.1))
+      fine_from F p 0 p (none_least (broken_from (single F) p 0 p) (not_on (least (broken_from (single F) p 0 p)) n.1))
       (every_right (Settles F p) (entry_flows (called p entry) ts) (flows_from p 0 p) all_settled)
 
   pub entry_for : (l : Limits) (vs : List Value) → all_fit_as l ts vs ≡ true → IsTrue (takes_call (single F) l (called p entry) vs)

@@ -16,7 +16,7 @@ use Rattle.mpy_tree.specs.SetTypes.{Callee, builtin_gives, called}
 use Rattle.mpy_tree.specs.Trees as kind
 use Rattle.mpy_tree.specs.Trees.{Kind, Trees, node, no_trees, tree_and}
 use Rattle.choice_tree.specs.Heads.{HasParts}
-use Rattle.choice_tree.specs.Typing.{Scope, node_type, of_one, of_two, of_three, sliced}
+use Rattle.choice_tree.specs.Typing.{Scope, of_one, of_two, of_three, sliced}
 use Rattle.choice_tree.specs.Typing as trees
 use Rattle.choice_tree.proofs.Lists.{Each}
 use Rattle.choice_tree.proofs.Types.{both_true}
@@ -30,7 +30,7 @@ pub number_there : (o : Option Ty) → is_type ty.Int o ≡ true → IsSome o
 number_there None h = cc
 number_there (Some t) h = refl
 
-sequence_there : (o : Option Ty) → is_sequence o ≡ true → IsSome o
+pub sequence_there : (o : Option Ty) → is_sequence o ≡ true → IsSome o
 sequence_there None h = cc
 sequence_there (Some t) h = refl
 

@@ -12,7 +12,7 @@ use Rattle.mpy_tree.specs.Syntax.{Action, Block, Branches, MaybeBlock, Term, a_b
 use Rattle.mpy_tree.specs.Syntax.{arm_and, at, end, no_arms, no_block, no_term, step}
 use Rattle.mpy_tree.specs.Syntax as ast
 use Rattle.mpy_tree.specs.Trees as kind
-use Rattle.mpy_tree.specs.Trees.{Kind, Trees, no_trees, node, one, tree_and, two}
+use Rattle.mpy_tree.specs.Trees.{Kind, Trees, no_trees, node, one, two}
 use Rattle.choice_tree.specs.Contexts.{Context, Setting, Site, at_assign, at_for, at_if, at_return}
 use Rattle.choice_tree.specs.Contexts.{at_while, below, copies, elsewhere}
 use Rattle.choice_tree.specs.Growing.{grown, parts_grown}
@@ -60,7 +60,7 @@ same_there : (o q : Option Ty) → same_type o q ≡ true → IsSome o
 same_there None q h = cc
 same_there (Some t) q h = refl
 
-augment_there : (op : ArithOp) (o q : Option Ty) → augment_obeys op o q ≡ true → IsSome q
+pub augment_there : (op : ArithOp) (o q : Option Ty) → augment_obeys op o q ≡ true → IsSome q
 augment_there op None q h = cc
 augment_there op (Some t) None h = cc
 augment_there op (Some t) (Some u) h = refl

@@ -1,0 +1,58 @@
+-- Lists that are empty, least lines that there aren't, and faults that aren't there.
+use Rattle.std.proofs.Common.{◌≡◌, ℕ, Bool, true, false, List, [], ◌∷◌, ◌++◌, Option, Some, None}
+use Rattle.std.proofs.Common.{is_some, refl, if◌then◌else◌}
+use Rattle.std.specs.Prelude.{nat_lt}
+use Rattle.mpy_tree.specs.declared.typing.TypeError.{TypeError}
+use Rattle.mpy_tree.specs.Faults.{earlier, fault_on, listed, or_fault, slot_fault}
+use Rattle.mpy_tree.specs.Leasts.{least, lesser}
+use Rattle.mpy_tree.specs.TypeSets.{only_of}
+
+pub nil_left : {A : Type 0} (xs ys : List A) → xs ++ ys ≡ [] → xs ≡ []
+nil_left [] ys e = refl
+nil_left (x ∷ xs) ys e = absurd cc
+
+pub nil_right : {A : Type 0} (xs ys : List A) → xs ++ ys ≡ [] → ys ≡ []
+nil_right [] ys e = e
+nil_right (x ∷ xs) ys e = absurd cc
+
+pub lesser_some : (x : ℕ) (o : Option ℕ) → lesser (Some x) o ≡ None → ⊥
+lesser_some x None e = cc
+lesser_some x (Some y) e = cc
+
+pub none_least : (xs : List ℕ) → least xs ≡ None → xs ≡ []
+unfolding least
+none_least [] e = refl
+none_least (x ∷ xs) e = absurd (lesser_some x (least xs) e)
+
+pub none_both : (a b : Option TypeError) → or_fault a b ≡ None → (a ≡ None) × (b ≡ None)
+none_both None b e = (refl, e)
+none_both (Some x) b e = absurd cc
+
+pub not_on : (o : Option ℕ) → fault_on o ≡ None → o ≡ None
+not_on None e = refl
+not_on (Some line) e = absurd cc
+
+pub either_fault : (b : Bool) (x y : TypeError) → (if b then Some x else Some y) ≡ None → ⊥
+either_fault true x y e = cc
+either_fault false x y e = cc
+
+pub not_earlier : (o q : Option ℕ) → earlier o q ≡ None → o ≡ None
+not_earlier None q e = refl
+not_earlier (Some n) None e = absurd cc
+not_earlier (Some n) (Some a) e = absurd (either_fault (nat_lt a n) _ _ e)
+
+-- a set that is at no fault has one type
+pub one_type : (a b c d : Bool) (line : ℕ)
+    → slot_fault (listed (record { int = a; bool = b; list = c; text = d })) line ≡ None
+    → is_some (only_of a b c d) ≡ true
+one_type true false false false line e = refl
+one_type false true false false line e = refl
+one_type false false true false line e = refl
+one_type false false false true line e = refl
+one_type false false false false line e = absurd cc
+one_type true true c d line e = absurd cc
+one_type true false true d line e = absurd cc
+one_type true false false true line e = absurd cc
+one_type false true true d line e = absurd cc
+one_type false true false true line e = absurd cc
+one_type false false true true line e = absurd cc
