@@ -1,2 +1,3 @@
 pub mod MemberCounts
 pub mod Numbers
+pub mod Live

@@ -4,7 +4,7 @@
 mod laws;
 mod member_counts;
 
-pub use laws::{few_picks, selections_have_numbers};
+pub use laws::{few_picks, live_picks_fit, live_picks_suffice, selections_have_numbers};
 pub use member_counts::MemberCounts;
 use std::alloc::AllocError;
 

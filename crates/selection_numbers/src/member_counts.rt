@@ -1,6 +1,6 @@
 //! How many members the picks of a tree have, and the selection with a number.
-ghost use Rattle.std.specs.Prelude.{◌≡◌, ◌≤◌, ◌^◌, ◌++◌, ◌/◌, ◌%◌, [], suc, map, IfOk, OnOk};
-ghost use Rattle.std.specs.Prelude.{length, List, ℕ};
+ghost use Rattle.std.specs.Prelude.{◌≡◌, ◌≤◌, ◌^◌, ◌++◌, ◌/◌, ◌%◌, ◌<◌, [], suc, map, IfOk, OnOk};
+ghost use Rattle.std.specs.Prelude.{length, slice_get, List, Some, ℕ};
 ghost use Rattle.choice_tree.specs.NodeViews.{node_of};
 ghost use Rattle.choice_tree.specs.StatementViews.{weighted_prog};
 ghost use Rattle.choice_tree.specs.WeightedTrees.{children};
@@ -39,6 +39,14 @@ impl MemberCounts {
         ensures { result ≡ length self.now }
     {
         self.others.len()
+    }
+
+    /// How many members a pick has besides its base.
+    pub fn others(&self, pick: usize) -> usize
+        requires { pick < length self.now }
+        ensures { slice_get self.now pick ≡ Some (suc result) }
+    {
+        self.others[pick]
     }
 
     /// The selection with a number, counted from 0.
