@@ -16,3 +16,4 @@ pub mod OneCase
 pub mod SomeInput
 pub mod Elements
 pub mod TaskSpaceLaws
+mod WorkedBits

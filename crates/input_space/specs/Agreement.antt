@@ -3,7 +3,6 @@ use Rattle.std.specs.Prelude.{◌≡◌, ◌≢◌, true, ℕ, ◌≤◌, List}
 use Rattle.std.specs.List.{Contains}
 use Rattle.mpy_tree.specs.declared.value.Value.{Value}
 use Rattle.mpy_tree.specs.declared.outcome.Outcome.{Outcome}
-use Rattle.mpy_tree.specs.declared.outcome.Outcome.TheVariants as outcome
 use Rattle.mpy_tree.specs.Outcomes.{is_done, run_outcome}
 use Rattle.mpy_tree.specs.Syntax.{Routine}
 use Rattle.bounds_reader.specs.declared.bounds.Bounds.{Bounds}
@@ -32,18 +31,19 @@ pub record EndsSomewhere (b : Bounds) (r : List Routine) : Type 0 where
   pub is_input : IsInput b input
   pub done : is_done (ends_on b r input) ≡ true
 
--- an input on which a program doesn't give the value that is wanted
+-- an input on which a program doesn't end as is wanted
 pub record Failure : Type 0 where
   pub input : List Value
   pub gives : Outcome
-  pub wanted : Value
+  pub wanted : Outcome
 
--- the submission s doesn't give there what the reference r gives
+-- the reference r ends there with a value, and the submission s doesn't end so
 pub record IsFailure (b : Bounds) (r s : List Routine) (f : Failure) : Type 0 where
   pub is_input : IsInput b f.input
-  pub reference : ends_on b r f.input ≡ outcome.Value f.wanted
+  pub reference : ends_on b r f.input ≡ f.wanted
+  pub done : is_done f.wanted ≡ true
   pub submission : ends_on b s f.input ≡ f.gives
-  pub differ : f.gives ≢ outcome.Value f.wanted
+  pub differ : f.gives ≢ f.wanted
 
 -- a rewriting that agrees with r, of the least cost of those that do
 pub record IsBest {E : Type 0} (rewrites : List Routine → ℕ → E → Type 0) (b : Bounds)

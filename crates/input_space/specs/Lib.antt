@@ -5,6 +5,12 @@ pub mod Cases
 pub mod CaseLaws
 pub mod Counts
 pub mod Pieces
+pub mod ProperRules
 pub mod Tasks
 pub mod TaskParts
 pub mod TaskSpace
+pub mod ValueBits
+pub mod SelectionBits
+pub mod Statements
+pub mod Sessions
+pub mod TaskCoding

@@ -9,8 +9,9 @@ use Rattle.mpy_tree.specs.Sharing.{shared}
 use Rattle.mpy_tree.specs.Syntax.{Routine}
 use Rattle.mpy_tree.specs.TypeSets.{only}
 use Rattle.mpy_tree.specs.Typings.{IsTyping, set_of}
+use Rattle.mpy_round_trip.specs.Proper.{IsProper}
 use Rattle.bounds_reader.specs.declared.bounds.Bounds.{Bounds}
-use Rattle.choice_tree.specs.Contexts.{Setting}
+use Rattle.choice_tree.specs.Contexts.{Setting, setting_with}
 use Rattle.choice_tree.specs.Growing.{weighted_program}
 use Rattle.choice_tree.specs.Rewriting.{Edit, IsRewriting}
 use Rattle.choice_tree.specs.Selections.{choices}
@@ -20,6 +21,7 @@ use Rattle.eml_faults.specs.LimitFaults.{limit_fault}
 use Rattle.eml_faults.specs.MeaningFaults.{meaning_fault}
 use Rattle.input_space.specs.Agreement.{Agrees, EndsSomewhere, Failure, IsBest, IsFailure}
 use Rattle.input_space.specs.Inputs.{inputs, param_type}
+use Rattle.input_space.specs.ProperRules.{AreProperRules}
 
 -- the bounds, the two programs with the types of their names, and the rules
 pub record Task : Type 0 where
@@ -32,11 +34,7 @@ pub record Task : Type 0 where
 
 -- the rules, for the submission with the types of its names
 abbrev pub setting : Task → Setting
-setting k = record {
-  rules = k.rules;
-  program = k.submission;
-  slots = single (set_of k.submission_types);
-}
+setting k = setting_with k.rules k.submission (single (set_of k.submission_types))
 
 -- the weighted tree of the submission
 abbrev pub tree_of : Task → Weighted
@@ -88,8 +86,10 @@ line_in (Some r) = r.line
 abbrev pub entry_line : Bounds → List Routine → ℕ
 entry_line b p = line_in (found p b.entry)
 
--- a program that is typed for the entry, and in which no statement shares a list
+-- a program that a text can spell, that is typed for the entry, and in which no statement shares a
+-- list
 pub record IsReady (b : Bounds) (p : List Routine) (types : List Fact) : Type 0 where
+  pub proper : IsProper p
   pub typing : IsTyping types p b.entry (map param_type b.params)
   pub unshared : shared (single (set_of types)) p ≡ []
 
@@ -100,6 +100,7 @@ pub record IsSound (k : Task) : Type 0 where
   pub results :
       result_type k.bounds k.reference k.reference_types
       ≡ result_type k.bounds k.submission k.submission_types
+  pub proper_rules : AreProperRules k.rules
   pub no_limit_fault : limit_fault k.rules ≡ None
   pub no_meaning_fault : meaning_fault k.rules ≡ None
   pub small : IsTooLarge k → ⊥
