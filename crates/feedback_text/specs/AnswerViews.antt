@@ -6,6 +6,7 @@ use Rattle.choice_tree.specs.declared.selection.Choice.{Choice}
 use Rattle.choice_tree.specs.Choices.{member_of}
 use Rattle.choice_tree.specs.Selections.{Fits, edits, plain}
 use Rattle.choice_tree.specs.WeightedTrees.{Weighted}
+use Rattle.mpy_tree.specs.declared.outcome.Outcome.TheVariants as outcome
 use Rattle.input_space.specs.Agreement.{Failure}
 use Rattle.input_space.specs.Tasks.{Task, tree_of}
 use Rattle.feedback_text.specs.Answers.{Answer, Correct, Corrected, NoCorrection, EmptyReference}
@@ -14,7 +15,11 @@ use Rattle.feedback_text.specs.declared.answer.Answer as code
 use Rattle.feedback_text.specs.declared.answer.Failure as code_failure
 
 abbrev pub failure_of : code_failure.Failure → Failure
-failure_of f = record { input = f.case.values; gives = f.gives; wanted = f.wanted }
+failure_of f = record {
+  input = f.case.values;
+  gives = f.gives;
+  wanted = outcome.Value f.wanted;
+}
 
 -- the program and the edits of a selection
 pub record Makes (w : Weighted) (s : List Choice) (p : List Routine) (es : List Edit) : Type 0 where

@@ -24,7 +24,8 @@ outcome_text (outcome.Fault kind line) = codes "fault " ++ fault_text kind
 abbrev pub fails_text : List ℕ → Failure → List ℕ
 fails_text entry f =
     codes "fails " ++ entry ++ codes "(" ++ values_text f.input ++ codes "): gives "
-    ++ outcome_text f.gives ++ codes ", wanted " ++ value_text f.wanted ++ codes "\n"
+    ++ outcome_text f.gives ++ codes ", wanted " ++ outcome_text f.wanted
+    ++ codes "\n"
 
 -- what is put into the holes of the message of an edit by a rule
 abbrev pub value_in : Edit → Correction → Hole → List ℕ

@@ -38,7 +38,7 @@ stopped_by P Q more task_error.NoMemory h = tt
 
 -- a reference with a failure gives a value
 pub failure_wanted : (k : Task) (f : Failure) → IsFailureOf k f → HasWanted k
-failure_wanted k f fails = record { input = f.input; is_input = fails.is_input; done = ap is_done fails.reference }
+failure_wanted k f fails = record { input = f.input; is_input = fails.is_input; done = ap is_done fails.reference ∙ fails.done }
 
 -- a right answer, where memory was there
 pub given_told : (k : Task) (kept : List Case) (a : code.Answer) → IsRight k kept a → (a ≡ code.TheVariants.NoMemory → ⊥) → IsTold k a

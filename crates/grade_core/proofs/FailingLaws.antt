@@ -1,5 +1,5 @@
 -- The first kept case on which a submission fails.
-use Rattle.std.proofs.Common.{◌≡◌, ℕ, ◌<◌, List, Some, All, slice_get, sym, ap, subst, ◌∙◌}
+use Rattle.std.proofs.Common.{◌≡◌, ℕ, ◌<◌, List, Some, All, slice_get, refl, sym, ap, subst, ◌∙◌}
 use Rattle.std.specs.List.{Contains}
 use Rattle.std.proofs.lemmas.List.Elements.{All-contains}
 use Rattle.input_space.specs.declared.case.Case.{Case}
@@ -16,6 +16,7 @@ is_failure : (k : Task) (x : Case) (f : code.Failure) → Contains (wanted_input
 is_failure k x f c so = record {
   is_input = subst (λ (y : Case). IsInput k.bounds y.values) (sym so.case_is) (wanted_is_input k x c);
   reference = ap (λ (y : Case). ends_on k.bounds k.reference y.values) so.case_is ∙ so.wants;
+  done = refl;
   submission = ap (λ (y : Case). ends_on k.bounds k.submission y.values) so.case_is ∙ so.gives_is;
   differ = so.differ;
 }

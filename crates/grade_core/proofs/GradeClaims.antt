@@ -31,7 +31,7 @@ own_status EmptyReference = tt
 graded_answer : (k : Task) (a : Answer) → IsAnswer k a → IsGraded k (status_of a)
 graded_answer k Correct answer = (answer.0, answer.1.agrees)
 graded_answer k (Corrected cost fails edits p) answer = λ agrees.
-    answer.2.differ (sym answer.2.submission ∙ agrees fails.input answer.2.is_input (ap is_done answer.2.reference) ∙ answer.2.reference)
+    answer.2.differ (sym answer.2.submission ∙ agrees fails.input answer.2.is_input (ap is_done answer.2.reference ∙ answer.2.done) ∙ answer.2.reference)
 graded_answer k (NoCorrection fails) answer = answer.0
 graded_answer k EmptyReference answer = answer
 
