@@ -4,5 +4,6 @@ mod Decimals
 mod KnownLengths
 mod OneCommand
 pub mod OneOutcome
+mod PrintedPrograms
 mod ReadingLaws
 mod SampleLaws

@@ -3,6 +3,7 @@ pub mod Commands
 pub mod Decisions
 pub mod OneOutcome
 pub mod Outcomes
+pub mod PrintedPrograms
 pub mod Reports
 pub mod Requests
 pub mod Views

@@ -20,6 +20,7 @@ ghost use Rattle.grade_core.specs.Words.{GradeWords};
 ghost use Rattle.grade_top.specs.Claims.{IsUsage};
 ghost use Rattle.grade_top.specs.Commands.{file_command, files_of, line_of, sample_word};
 ghost use Rattle.grade_top.specs.Decisions.{run_step, sample_texts};
+ghost use Rattle.grade_top.specs.PrintedPrograms.{PrintsCorrection};
 ghost use Rattle.grade_top.specs.Reports.{run_text};
 ghost use Rattle.grade_top.specs.Words.{Asks, Command, Grade, Nothing, Run, RunWords, Sample};
 
@@ -34,7 +35,7 @@ mod words;
 
 pub use grade_io::{Status, status_number};
 use grade_io::{Shelf, Sink};
-pub use laws::{not_refused_and_decided, one_refusal, one_run, one_task};
+pub use laws::{corrections_are_spelled, not_refused_and_decided, one_refusal, one_run, one_task};
 use std::alloc::Global;
 
 /// Answers the words that follow the program's name.
@@ -71,6 +72,12 @@ pub fn grade_top<S: Shelf, K: Sink>(
         → NoFault (devices (S.seen shelf.old) (K.seen out.old))
         (devices (S.seen shelf.new) (K.seen out.new))
         → IsGraded k result }
+    // Where a correction is answered, it was written, and the text behind its line `program`
+    // spells the corrected program and no other, lines aside.
+    ensures printed { (g : GradeWords) → Asks (map string_bytes words.now.items) (Grade g)
+        → result ≡ Status.Corrected
+        → PrintsCorrection g (devices (S.seen shelf.old) (K.seen out.old))
+        (devices (S.seen shelf.new) (K.seen out.new)) }
     // A sample that nothing refuses is graded, unless a device failed or memory lacked.
     ensures sampled { (n : ℕ) (k : Task)
         → Asks (map string_bytes words.now.items) (Sample n)
@@ -112,6 +119,7 @@ pub fn grade_top<S: Shelf, K: Sink>(
         (devices (S.seen shelf.new) (K.seen out.new))
         → IsSaid (line_of c r) Status.Refused (K.seen out.old) (K.seen out.new) result }
 {
+    corrections_are_spelled();
     match words::read_words(words) {
         Some(command) => command::answer(alloc, &command, shelf, out),
         None => command::usage(out),

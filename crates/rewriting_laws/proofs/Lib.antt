@@ -13,5 +13,9 @@ pub mod TypedNodes
 pub mod TypedSites
 pub mod TypedFunctions
 pub mod Typed
+pub mod ProperNodes
+pub mod ProperNames
+pub mod ProperDrafts
+pub mod Proper
 pub mod Tasks
 mod WorkedExamples

@@ -1,38 +1,23 @@
 -- A program without a fault of names has no function of a builtin's name.
 use Rattle.std.proofs.Common.{◌≡◌, ℕ, Bool, true, false, ◌||◌, List, [], ◌∷◌, ◌++◌, Option, Some}
 use Rattle.std.proofs.Common.{None, if◌then◌else◌, refl, is_some}
-use Rattle.std.specs.Prelude.{⊤, nat_lt}
+use Rattle.std.specs.Prelude.{⊤}
 use Rattle.std.proofs.lemmas.Bool.{or_parts}
 use Rattle.mpy_tree.specs.declared.builtins.Builtin.{Builtin}
 use Rattle.mpy_tree.specs.declared.refusal.Cause.TheVariants as cause
-use Rattle.mpy_tree.specs.declared.typing.TypeError.{TypeError}
-use Rattle.mpy_tree.specs.declared.typing.TypeError.TheVariants.{Fault}
 use Rattle.mpy_tree.specs.Builtins.{builtin_of}
-use Rattle.mpy_tree.specs.Faults.{earlier, names_fault}
-use Rattle.mpy_tree.specs.Leasts.{least, lesser}
+use Rattle.mpy_tree.specs.Faults.{names_fault}
+use Rattle.mpy_tree.specs.Leasts.{least}
 use Rattle.mpy_tree.specs.Locals.{is_among, locals}
 use Rattle.mpy_tree.specs.Names.{arity_lines, has_name_fault, has_twice, header_lines, is_builtin}
 use Rattle.mpy_tree.specs.Names.{lines_of, name_lines, name_lines_from}
 use Rattle.mpy_tree.specs.Sites.{sites}
 use Rattle.mpy_tree.specs.Syntax.{Routine}
-use Rattle.rewriting_laws.proofs.Nothing.{nil_left, nil_right}
+use Rattle.mpy_type_laws.proofs.Nothing.{nil_left, nil_right, none_least, not_earlier}
 
 abbrev pub OwnNames : List Routine → Type 0
 OwnNames [] = ⊤
 OwnNames (r ∷ rs) = (builtin_of r.name ≡ None) × OwnNames rs
-
-not_less : (x : ℕ) (o : Option ℕ) → lesser (Some x) o ≡ None → ⊥
-not_less x None e = cc
-not_less x (Some y) e = cc
-
-pub none_least : (xs : List ℕ) → least xs ≡ None → xs ≡ []
-unfolding least
-none_least [] e = refl
-none_least (x ∷ xs) e = absurd (not_less x (least xs) e)
-
-either_fault : (b : Bool) (x y : TypeError) → (if b then Some x else Some y) ≡ None → ⊥
-either_fault true x y e = cc
-either_fault false x y e = cc
 
 unlisted : (b : Bool) (line : ℕ) → (if b then line ∷ [] else []) ≡ [] → b ≡ false
 unlisted false line h = refl
@@ -41,12 +26,6 @@ unlisted true line h = cc
 not_builtin : (o : Option Builtin) → is_some o ≡ false → o ≡ None
 not_builtin None h = refl
 not_builtin (Some b) h = cc
-
-not_earlier : (o q : Option ℕ) → earlier o q ≡ None → o ≡ None
-not_earlier None q e = refl
-not_earlier (Some n) None e = cc
-not_earlier (Some n) (Some a) e =
-    absurd (either_fault (nat_lt a n) (Fault cause.Arity a) (Fault cause.Name n) e)
 
 own_name : (f : List ℕ) (a c : Bool) (line : ℕ)
     → (if a || is_builtin f || c then line ∷ [] else []) ≡ [] → builtin_of f ≡ None

@@ -1,7 +1,7 @@
 -- The slots of programs whose functions have the same heads and assign to the same names, and what
 -- facts that type one tell of those of the other.
 use Rattle.std.proofs.Common.{◌≡◌, ◌<◌, ◌≤◌, ℕ, ◌+◌, ◌==◌, Bool, true, false, ◌&&◌, ◌||◌, List, []}
-use Rattle.std.proofs.Common.{◌∷◌, ◌++◌, map, Option, Some, None, if◌then◌else◌, refl, sym}
+use Rattle.std.proofs.Common.{◌∷◌, ◌++◌, map, Option, None, if◌then◌else◌, refl, sym}
 use Rattle.std.proofs.Common.{ap, ◌∙◌, arith}
 use Rattle.std.specs.Prelude.{⊤}
 use Rattle.std.specs.List.{All, list_any}
@@ -26,6 +26,7 @@ use Rattle.mpy_tree.specs.Typings.{IsOfSlot, set_of}
 use Rattle.mpy_tree.specs.Values.{same_bytes}
 use Rattle.mpy_scopes.proofs.Places.{at_place}
 use Rattle.rewriting_laws.proofs.Locals.{assigned_in, local_names}
+use Rattle.mpy_type_laws.proofs.Nothing.{none_both}
 
 pub record SameHead (r q : Routine) : Type 0 where
   pub line : q.line ≡ r.line
@@ -129,10 +130,6 @@ any_line [] l m h = cc
 any_line (a ∷ []) l m h = refl
 any_line (a ∷ b ∷ ts) l m h = cc
 
-pub no_fault : (a b : Option TypeError) → or_fault a b ≡ None → (a ≡ None) × (b ≡ None)
-no_fault None b h = (refl, h)
-no_fault (Some e) b h = cc
-
 pub neither : (a b : Option TypeError) → a ≡ None → b ≡ None → or_fault a b ≡ None
 neither a b h k = (λ i. or_fault (h i) b) ∙ k
 
@@ -149,21 +146,21 @@ module _ (F : FactSet) where
   faults_left [] ts h = refl
   faults_left (s ∷ ss) ts h =
       let own = slot_fault (listed (F s.func s.slot)) s.line in
-      let both = no_fault own (slots_fault F (ss ++ ts)) h in
+      let both = none_both own (slots_fault F (ss ++ ts)) h in
       neither own (slots_fault F ss) both.0 (faults_left ss ts both.1)
 
   faults_right : (ss ts : List Place) → slots_fault F (ss ++ ts) ≡ None → slots_fault F ts ≡ None
   faults_right [] ts h = h
   faults_right (s ∷ ss) ts h =
       let own = slot_fault (listed (F s.func s.slot)) s.line in
-      faults_right ss ts (no_fault own (slots_fault F (ss ++ ts)) h).1
+      faults_right ss ts (none_both own (slots_fault F (ss ++ ts)) h).1
 
   faults_both : (ss ts : List Place) → slots_fault F ss ≡ None → slots_fault F ts ≡ None
       → slots_fault F (ss ++ ts) ≡ None
   faults_both [] ts h k = k
   faults_both (s ∷ ss) ts h k =
       let own = slot_fault (listed (F s.func s.slot)) s.line in
-      let both = no_fault own (slots_fault F ss) h in
+      let both = none_both own (slots_fault F ss) h in
       neither own (slots_fault F (ss ++ ts)) both.0 (faults_both ss ts both.1 k)
 
   -- each slot of the functions from the number n on has one type
@@ -179,7 +176,7 @@ module _ (F : FactSet) where
   names_settled n r (z ∷ xs) h x k =
       let own = slot_fault (listed (F n (slot.Local z))) (local_line r z) in
       let rest = map (λ w. place n (slot.Local w) (local_line r w)) xs in
-      let both = no_fault own (slots_fault F rest) h in
+      let both = none_both own (slots_fault F rest) h in
       either_true (same_bytes x z) (is_among xs x) (IsSettled (F n (slot.Local x))) k
       (λ same line.
       any_line (listed (F n (slot.Local x))) (local_line r z) line
@@ -196,7 +193,7 @@ module _ (F : FactSet) where
       let names = map (λ z. place n (slot.Local z) (local_line r z)) (locals r) in
       let own = slot_fault (listed (F n slot.Result)) r.line in
       let last = faults_right names (place n slot.Result r.line ∷ []) h in
-      λ line. any_line (listed (F n slot.Result)) r.line line (no_fault own None last).0
+      λ line. any_line (listed (F n slot.Result)) r.line line (none_both own None last).0
 
   pub settled_from : (n : ℕ) (rs : List Routine) → slots_fault F (slots_from n rs) ≡ None
       → SettledFrom n rs

@@ -1,5 +1,5 @@
 -- The rules of a task call builtins alone, and its submission has no fault of names.
-use Rattle.std.proofs.Common.{◌≡◌, ℕ, Bool, true, false, List, [], ◌∷◌, ◌++◌, length, map, Option}
+use Rattle.std.proofs.Common.{◌≡◌, Bool, true, false, List, [], ◌∷◌, ◌++◌, length, map, Option}
 use Rattle.std.proofs.Common.{Some, None, if◌then◌else◌, refl}
 use Rattle.std.specs.List.{list_any}
 use Rattle.std.proofs.lemmas.List.Elements.{All-cons, All-nil}
@@ -10,8 +10,7 @@ use Rattle.mpy_tree.specs.Faults.{slots_fault}
 use Rattle.mpy_tree.specs.Rules.{single}
 use Rattle.mpy_tree.specs.Running.{found}
 use Rattle.choice_tree.specs.Templates.{Correction, Template}
-use Rattle.eml_faults.specs.declared.meanings.MeaningFault.{MeaningFault}
-use Rattle.eml_faults.specs.MeaningFaults.{call_cause, fault_or, is_miscall, is_misprimed, is_twice}
+use Rattle.eml_faults.specs.MeaningFaults.{call_cause, is_miscall, is_misprimed, is_twice}
 use Rattle.eml_faults.specs.MeaningFaults.{is_unbound, is_unknown_call, meaning_cause}
 use Rattle.eml_faults.specs.MeaningFaults.{meaning_fault_behind}
 use Rattle.eml_faults.specs.Sides.{nodes}
@@ -22,14 +21,10 @@ use Rattle.rewriting_laws.specs.RuleCalls.{CallBuiltinsAlone}
 use Rattle.rewriting_laws.specs.TaskLaws.{CandidatesAreTypedAndUnshared}
 use Rattle.rewriting_laws.proofs.FromTrees.{rewritings_alike}
 use Rattle.rewriting_laws.proofs.OwnNames.{own_names}
-use Rattle.rewriting_laws.proofs.Slots.{no_fault}
 use Rattle.rewriting_laws.proofs.Typed.{still_types}
 use Rattle.rewriting_laws.proofs.Unshared.{unshared}
-
-no_cause : (c : Option Cause) (line : ℕ) (rest : Option MeaningFault)
-    → fault_or c line rest ≡ None → (c ≡ None) × (rest ≡ None)
-no_cause None line rest h = (refl, h)
-no_cause (Some c) line rest h = cc
+use Rattle.mpy_type_laws.proofs.Nothing.{none_both}
+use Rattle.eml_faults.proofs.Faultless.{no_cause}
 
 not_first : (b : Bool) (c : Cause) (o : Option Cause) → (if b then Some c else o) ≡ None
     → (b ≡ false) × (o ≡ None)
@@ -68,7 +63,7 @@ candidates k p cost edits sound rewritten =
     let typing = sound.submission.typing in
     let F = typing.set in
     let names =
-    (no_fault (names_fault s)
+    (none_both (names_fault s)
     (or_fault (entry_fault (found s entry) (length ts))
     (or_fault (slots_fault F (slots s)) (nodes_fault (single F) s))) typing.faultless).0 in
     let types = are_types k.submission_types s entry ts typing in

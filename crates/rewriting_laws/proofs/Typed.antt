@@ -1,5 +1,5 @@
 -- Facts that type a program type every rewriting of it.
-use Rattle.std.proofs.Common.{◌≡◌, ℕ, List, [], ◌∷◌, length, Option, Some, None, refl, ap, ◌∙◌}
+use Rattle.std.proofs.Common.{◌≡◌, ℕ, List, [], ◌∷◌, length, None, refl, ap, ◌∙◌}
 use Rattle.std.proofs.Common.{subst, sym}
 use Rattle.mpy_tree.specs.declared.typing.Fact.{Fact}
 use Rattle.mpy_tree.specs.declared.typing.Ty.{Ty}
@@ -20,12 +20,13 @@ use Rattle.choice_tree.specs.Rewriting.{Edit, IsRewriting}
 use Rattle.choice_tree.specs.Templates.{Correction}
 use Rattle.typed_trees.specs.TypingLaws.{setting_by}
 use Rattle.rewriting_laws.proofs.FromTrees.{rewritings_alike}
-use Rattle.rewriting_laws.proofs.OwnNames.{OwnNames, no_name_lines, none_least, own_names}
+use Rattle.rewriting_laws.proofs.OwnNames.{OwnNames, no_name_lines, own_names}
 use Rattle.rewriting_laws.proofs.Slots.{SameHeads, alone, alone_alike, facts_stand, faultless_from}
-use Rattle.rewriting_laws.proofs.Slots.{neither, no_fault, settled_alike, settled_from}
+use Rattle.rewriting_laws.proofs.Slots.{neither, settled_alike, settled_from}
 use Rattle.rewriting_laws.proofs.TypedFunctions.{all_keep, entry_keeps, fine_from}
 use Rattle.rewriting_laws.proofs.TypedFunctions.{heads_alike, none_broken, none_miscounted}
 use Rattle.rewriting_laws.proofs.TypedFunctions.{none_named, same_entry_fault, same_entry_flows}
+use Rattle.mpy_type_laws.proofs.Nothing.{none_both, none_least, not_on}
 
 own_alike : (rs qs : List Routine) → SameHeads rs qs → OwnNames rs → OwnNames qs
 own_alike [] [] h own = tt
@@ -33,10 +34,6 @@ own_alike [] (q ∷ qs) h own = absurd h
 own_alike (r ∷ rs) [] h own = absurd h
 own_alike (r ∷ rs) (q ∷ qs) h own =
     (ap builtin_of h.0.name ∙ own.0, own_alike rs qs h.1 own.1)
-
-not_on : (o : Option ℕ) → fault_on o ≡ None → o ≡ None
-not_on None h = refl
-not_on (Some line) h = cc
 
 least_of_none : least [] ≡ None
 unfolding least
@@ -63,9 +60,9 @@ module _ (rules : List Correction) (T : List Fact) (s p : List Routine) (entry :
       let heads = heads_alike g 0 s p alike in
       let entered = entry_fault (found s entry) (length ts) in
       let typed = or_fault (slots_fault F (slots s)) (nodes_fault (single F) s) in
-      let names = no_fault (names_fault s) (or_fault entered typed) types.faultless in
-      let entries = no_fault entered typed names.1 in
-      let both = no_fault (slots_fault F (slots s)) (nodes_fault (single F) s) entries.1 in
+      let names = none_both (names_fault s) (or_fault entered typed) types.faultless in
+      let entries = none_both entered typed names.1 in
+      let both = none_both (slots_fault F (slots s)) (nodes_fault (single F) s) entries.1 in
       let own = own_alike s p heads (own_names s names.0) in
       let settled = settled_alike F 0 s p heads (settled_from F 0 s both.0) in
       let others = alone_alike F 0 s p heads (alone s T types.of_slots) in

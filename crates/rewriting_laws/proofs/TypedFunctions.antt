@@ -30,13 +30,14 @@ use Rattle.choice_tree.specs.Contexts.{Setting, scope_in}
 use Rattle.choice_tree.specs.Typing.{Scope}
 use Rattle.rewriting_laws.proofs.Alike.{AlikeFrom, AlikeSite, AlikeSites, nowhere, sites_alike}
 use Rattle.rewriting_laws.proofs.Alike.{there}
-use Rattle.rewriting_laws.proofs.Nothing.{nil_both, nil_left, nil_right}
+use Rattle.rewriting_laws.proofs.Nothing.{nil_both}
 use Rattle.rewriting_laws.proofs.OwnNames.{OwnNames}
 use Rattle.rewriting_laws.proofs.Slots.{AloneFrom, IsSettled, SameHead, SameHeads, SettledFrom}
 use Rattle.rewriting_laws.proofs.Slots.{is_slot, same_slots}
 use Rattle.rewriting_laws.proofs.TypedNodes.{IsFine, terms_fine}
 use Rattle.rewriting_laws.proofs.TypedSites.{flows_kept, same_assigned, same_changed, same_obeys}
 use Rattle.rewriting_laws.proofs.TypedSites.{site_typed}
+use Rattle.mpy_type_laws.proofs.Nothing.{nil_left, nil_right}
 
 -- statements that are alike, each with each
 flat_alike : {g : Setting} {σ : Scope} {A : Type 0} (f : Site → List A)

@@ -1,7 +1,7 @@
 -- The statements of a rewriting obey their rules, and what flows from them is of the types of their
 -- slots.
 use Rattle.std.proofs.Common.{◌≡◌, ℕ, true, ◌&&◌, List}
-use Rattle.std.proofs.Common.{Option, Some, None, refl, sym, ap, ◌∙◌, subst, IsSome, is_some}
+use Rattle.std.proofs.Common.{Option, Some, refl, sym, ap, ◌∙◌, subst, IsSome, is_some}
 use Rattle.std.proofs.lemmas.Bool.{and_parts}
 use Rattle.mpy_tree.specs.declared.operators.ArithOp.{ArithOp}
 use Rattle.mpy_tree.specs.declared.operators.ArithOp.TheVariants.{Add, Floor, Mul, Power, Rem, Sub}
@@ -25,13 +25,14 @@ use Rattle.choice_tree.specs.Typing.{Scope}
 use Rattle.choice_tree.proofs.ShapeTypes.{shape_type}
 use Rattle.choice_tree.proofs.Types.{type_kept}
 use Rattle.typed_programs.proofs.OneType.{some_type, types_are}
-use Rattle.typed_trees.proofs.PartTypes.{number_there}
+use Rattle.typed_trees.proofs.PartTypes.{number_there, sequence_there}
 use Rattle.rewriting_laws.proofs.Alike.{AlikeAct, AlikeFrom, AlikeSite, Part}
 use Rattle.rewriting_laws.proofs.Alike.{append, assign, augment, augment_at, both_ask, both_do}
 use Rattle.rewriting_laws.proofs.Alike.{branch, give, give_none, go_on, go_over, leave, pass, put}
 use Rattle.rewriting_laws.proofs.Alike.{place_in, repeat}
 use Rattle.rewriting_laws.proofs.Becoming.{Becomes}
 use Rattle.rewriting_laws.proofs.Types.{term_alike}
+use Rattle.typed_trees.proofs.TypedBodies.{augment_there}
 
 -- statements that are alike assign to the same names, and change the same ones
 pub same_assigned : {g : Setting} {σ : Scope} (s t : Site) → AlikeSite g σ s t
@@ -67,16 +68,6 @@ same_changed _ _ (both_do (branch xs l)) = refl
 same_changed _ _ (both_do (repeat e a)) = refl
 same_changed _ _ (both_do (go_over e a)) = refl
 same_changed _ _ (both_ask e) = refl
-
--- a rule that is obeyed asks for types
-augment_there : (op : ArithOp) (o q : Option Ty) → augment_obeys op o q ≡ true → IsSome q
-augment_there op None q h = cc
-augment_there op (Some t) None h = cc
-augment_there op (Some t) (Some u) h = refl
-
-sequence_there : (o : Option Ty) → is_sequence o ≡ true → IsSome o
-sequence_there None h = cc
-sequence_there (Some t) h = refl
 
 puts_there : (x i e : Option Ty) → is_type ty.List x && is_type ty.Int i && is_type ty.Int e ≡ true
     → IsSome i × IsSome e

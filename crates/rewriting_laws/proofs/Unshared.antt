@@ -23,11 +23,12 @@ use Rattle.rewriting_laws.proofs.Alike.{append, assign, augment, augment_at, bot
 use Rattle.rewriting_laws.proofs.Alike.{branch, give, give_none, go_on, go_over, leave, nowhere}
 use Rattle.rewriting_laws.proofs.Alike.{pass, put, repeat, sites_alike, terms_alike, there}
 use Rattle.rewriting_laws.proofs.Calling.{calls_none, none_called, still_none}
-use Rattle.rewriting_laws.proofs.Nothing.{Implies, and_less, nil_both, nil_left, nil_right}
+use Rattle.rewriting_laws.proofs.Nothing.{Implies, and_less, nil_both}
 use Rattle.rewriting_laws.proofs.Nothing.{none_both, none_left, none_right, off, on_none}
 use Rattle.rewriting_laws.proofs.Opening.{Fewer, fewer, if_list, open_at, shape_opens}
 use Rattle.rewriting_laws.proofs.OwnNames.{OwnNames}
 use Rattle.rewriting_laws.proofs.Types.{term_alike}
+use Rattle.mpy_type_laws.proofs.Nothing.{nil_left, nil_right}
 
 -- what is found at no statement isn't found at one that is alike
 nothing_alike : {g : Setting} {σ : Scope} {A : Type 0} (f h : Site → List A)

@@ -11,6 +11,7 @@ use Rattle.mpy_tree.specs.Syntax.{Routine, Term, a_term, at, end, no_term, no_te
 use Rattle.mpy_tree.specs.Syntax as ast
 use Rattle.mpy_tree.specs.Trees as kind
 use Rattle.mpy_tree.specs.Trees.{Tree}
+use Rattle.choice_tree.specs.Contexts.{setting_with}
 use Rattle.choice_tree.specs.declared.rules.Meta.{Meta}
 use Rattle.choice_tree.specs.declared.rules.Place.TheVariants as place
 use Rattle.choice_tree.specs.Growing.{weighted_program}
@@ -50,7 +51,7 @@ first p = if p == 0 then 1 else 0
 
 abbrev rewritten : Correction → List Routine → Tree
 rewritten r s =
-    plain first (weighted_program (record { rules = r ∷ []; program = s; slots = types }) s)
+    plain first (weighted_program (setting_with (r ∷ []) s types) s)
 
 -- def f(v): u = e
 abbrev assigning : Term → List Routine

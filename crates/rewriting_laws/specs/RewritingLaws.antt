@@ -9,7 +9,9 @@ use Rattle.mpy_tree.specs.Typings.{AreTypes}
 use Rattle.choice_tree.specs.Contexts.{Setting}
 use Rattle.choice_tree.specs.Rewriting.{Edit, IsRewriting}
 use Rattle.choice_tree.specs.Templates.{Correction}
+use Rattle.mpy_round_trip.specs.Proper.{IsProper}
 use Rattle.typed_trees.specs.TypingLaws.{setting_by}
+use Rattle.input_space.specs.ProperRules.{AreProperRules}
 use Rattle.rewriting_laws.specs.RuleCalls.{CallBuiltinsAlone}
 
 -- Facts that type a program type every rewriting of it by any rules: by them each node and each
@@ -30,3 +32,10 @@ RewritingsStayUnshared =
     → CallBuiltinsAlone g.rules → names_fault g.program ≡ None
     → shared g.slots g.program ≡ [] → IsRewriting g g.program p n es
     → shared g.slots p ≡ []
+
+-- A rewriting of a program that a text can spell, by rules that a text can spell, is one that a
+-- text can spell.
+abbrev pub RewritingsStayProper : Type 0
+RewritingsStayProper =
+    (g : Setting) (p : List Routine) (n : ℕ) (es : List Edit)
+    → AreProperRules g.rules → IsProper g.program → IsRewriting g g.program p n es → IsProper p

@@ -5,6 +5,7 @@ use Rattle.mpy_tree.specs.Sharing.{shared}
 use Rattle.mpy_tree.specs.Syntax.{Routine}
 use Rattle.mpy_tree.specs.Typings.{AreTypes, set_of}
 use Rattle.choice_tree.specs.Rewriting.{Edit}
+use Rattle.mpy_round_trip.specs.Proper.{IsProper}
 use Rattle.input_space.specs.Inputs.{param_type}
 use Rattle.input_space.specs.Tasks.{IsSound, Rewrites, Task}
 
@@ -18,3 +19,9 @@ abbrev pub CandidatesAreTypedAndUnshared : Type 0
 CandidatesAreTypedAndUnshared =
     (k : Task) (p : List Routine) (cost : ℕ) (edits : List Edit)
     → IsSound k → Rewrites k p cost edits → IsTypedAndUnshared k p
+
+-- and a text can spell it
+abbrev pub CandidatesAreProper : Type 0
+CandidatesAreProper =
+    (k : Task) (p : List Routine) (cost : ℕ) (edits : List Edit)
+    → IsSound k → Rewrites k p cost edits → IsProper p

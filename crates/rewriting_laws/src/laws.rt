@@ -1,5 +1,7 @@
 //! Laws of the rewritings of a program, and of those of a task's submission.
-ghost use Rattle.rewriting_laws.specs.RewritingLaws.{RewritingsStayTyped, RewritingsStayUnshared};
+ghost use Rattle.rewriting_laws.specs.RewritingLaws.{RewritingsStayProper, RewritingsStayTyped};
+ghost use Rattle.rewriting_laws.specs.RewritingLaws.{RewritingsStayUnshared};
+ghost use Rattle.rewriting_laws.specs.TaskLaws.{CandidatesAreProper};
 ghost use Rattle.rewriting_laws.specs.TaskLaws.{CandidatesAreTypedAndUnshared};
 
 /// Facts that type a program type every rewriting of it.
@@ -12,7 +14,17 @@ pub fn rewritings_stay_unshared()
     ensures { RewritingsStayUnshared }
 {}
 
-/// Both hold of each rewriting of the submission of a task.
+/// A rewriting of a proper program by proper rules is proper: a text can spell it.
+pub fn rewritings_stay_proper()
+    ensures { RewritingsStayProper }
+{}
+
+/// The first two hold of each rewriting of the submission of a task.
 pub fn candidates_are_typed_and_unshared()
     ensures { CandidatesAreTypedAndUnshared }
+{}
+
+/// Each rewriting of the submission of a task is proper.
+pub fn candidates_are_proper()
+    ensures { CandidatesAreProper }
 {}

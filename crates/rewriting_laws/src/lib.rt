@@ -5,5 +5,6 @@
 mod laws;
 
 pub use laws::{
-    candidates_are_typed_and_unshared, rewritings_stay_typed, rewritings_stay_unshared,
+    candidates_are_proper, candidates_are_typed_and_unshared, rewritings_stay_proper,
+    rewritings_stay_typed, rewritings_stay_unshared,
 };

@@ -119,7 +119,7 @@ by_number (Some ty.List) = refl
 by_number (Some ty.Text) = refl
 
 -- two types, each of which may be missing, are one or not
-one_or_not : (a b : Option Ty) → (a ≡ b) ⊎ (a ≡ b → ⊥)
+pub one_or_not : (a b : Option Ty) → (a ≡ b) ⊎ (a ≡ b → ⊥)
 one_or_not a b = elim (cases_lt (number a) (number b)) [
   | inl less ↦ inr (λ same. let numbers = ap number same in omega (arith, less, numbers))
   | inr more ↦ elim (cases_lt (number b) (number a)) [

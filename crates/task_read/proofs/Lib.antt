@@ -3,6 +3,9 @@ mod Judged
 mod LeastTypes
 pub mod OneAnswer
 pub mod OneStep
+mod ProperRules
+mod ProperSides
+mod ProperTerminals
 mod Ready
 pub mod Steps
 mod Stopping

@@ -1,7 +1,10 @@
 -- What task four texts spell, and whether they are refused, are one thing.
 use Rattle.std.specs.Prelude.{◌≡◌, ◌⊎◌, ℕ, List}
 use Rattle.mpy_tree.specs.declared.refusal.Refusal.{Refusal}
-use Rattle.input_space.specs.Tasks.{Task}
+use Rattle.choice_tree.specs.Templates.{Correction}
+use Rattle.eml_reader.specs.RuleFiles.{IsRules}
+use Rattle.input_space.specs.ProperRules.{AreProperRules}
+use Rattle.input_space.specs.Tasks.{IsSound, Task}
 use Rattle.task_read.specs.TaskSteps.{task_step}
 
 -- four texts spell one task at most
@@ -38,3 +41,15 @@ OneTaskRefusal =
     → (task_step bounds reference submission rules).refuses r
     → (task_step bounds reference submission rules).refuses other
     → r ≡ other
+
+-- the rules that a text spells are proper
+abbrev pub RulesAreProper : Type 0
+RulesAreProper =
+    (bytes : List ℕ) (rules : List Correction) → IsRules bytes rules → AreProperRules rules
+
+-- a task that texts spell is sound
+abbrev pub TasksAreSound : Type 0
+TasksAreSound =
+    (bounds reference submission rules : List ℕ) (k : Task)
+    → (task_step bounds reference submission rules).gives k
+    → IsSound k

@@ -8,6 +8,7 @@ use Rattle.bounds_reader.specs.declared.bounds.Bounds.{Bounds}
 use Rattle.choice_tree.specs.Templates.{Correction}
 use Rattle.eml_faults.specs.LimitFaults.{limit_fault}
 use Rattle.eml_faults.specs.MeaningFaults.{meaning_fault}
+use Rattle.input_space.specs.ProperRules.{AreProperRules}
 use Rattle.input_space.specs.Tasks.{IsReady, IsTooLarge, Task, entry_line, result_type}
 use Rattle.task_read.specs.Sources.{Typed, bounds_step, entry_at, program_step, refusal}
 use Rattle.task_read.specs.Sources.{rules_step}
@@ -55,5 +56,6 @@ task_step bounds reference submission rules = do
 pub record AreReady (k : Task) : Type 0 where
   pub reference : IsReady k.bounds k.reference k.reference_types
   pub submission : IsReady k.bounds k.submission k.submission_types
+  pub proper_rules : AreProperRules k.rules
   pub no_limit_fault : limit_fault k.rules ≡ None
   pub no_meaning_fault : meaning_fault k.rules ≡ None

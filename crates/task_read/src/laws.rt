@@ -2,7 +2,9 @@
 ghost use Rattle.task_read.specs.ProgramLaws.{NotTypedAndRefused, OneProgramRefusal};
 ghost use Rattle.task_read.specs.ProgramLaws.{OneTypedProgram, ReadOrRefused};
 ghost use Rattle.task_read.specs.TaskLaws.{NotTaskAndRefused, OneTask, OneTaskRefusal};
-ghost use Rattle.task_read.specs.TaskLaws.{TaskReadOrRefused};
+ghost use Rattle.task_read.specs.TaskLaws.{RulesAreProper, TaskReadOrRefused, TasksAreSound};
+
+use mpy_round_trip::what_is_read_is_proper;
 
 /// A text spells one typed program at most.
 pub fn one_typed_program()
@@ -43,3 +45,15 @@ pub fn not_task_and_refused()
 pub fn one_task_refusal()
     ensures holds { OneTaskRefusal }
 {}
+
+/// The rules that a text spells are proper.
+pub fn rules_are_proper()
+    ensures holds { RulesAreProper }
+{}
+
+/// A task that texts spell is sound.
+pub fn tasks_are_sound()
+    ensures holds { TasksAreSound }
+{
+    what_is_read_is_proper();
+}

@@ -16,7 +16,7 @@ pub use entry::entry_line;
 pub use error::TaskError;
 pub use laws::{
     not_task_and_refused, not_typed_and_refused, one_program_refusal, one_task, one_task_refusal,
-    one_typed_program, task_or_refused, typed_or_refused,
+    one_typed_program, rules_are_proper, task_or_refused, tasks_are_sound, typed_or_refused,
 };
 pub use program::read_program;
 pub use refusal::refusal_text;

@@ -21,6 +21,7 @@ use bounds_reader::Bounds;
 use choice_tree::{WProg, choices};
 use eml_rewrite::{RewriteError, rewrite};
 use input_space::{TaskParts, inputs_count};
+use mpy_round_trip::what_is_read_is_proper;
 use mpy_tree::{Cause, Source};
 use mpy_types::FactList;
 use std::alloc::Global;
@@ -46,6 +47,7 @@ pub(crate) fn read_parts(
     ensures refused { IfErr result (RefusesAs (parts_step bounds.now reference.now submission.now
         rules.now).refuses) }
 {
+    what_is_read_is_proper();
     let bounds = read_task_bounds(alloc, bounds)?;
     let (reference, reference_types) = read_program(alloc, &bounds, reference, Source::Reference)?;
     let (submission, submission_types) = read_program(

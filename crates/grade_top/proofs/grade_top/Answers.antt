@@ -1,12 +1,15 @@
 -- the words ask for the command that was read, or for nothing
+use Rattle.std.proofs.Common.{subst}
 use Rattle.grade_top.specs.Requests.{command_of}
 use Rattle.grade_top.specs.Words.{Grade, Nothing, Run, Sample}
 use Rattle.grade_io.specs.Devices.{devices}
+use Rattle.file_commands.specs.Ends.{Ends}
 use Rattle.file_commands.proofs.Claims.{read_failed}
 use Rattle.grade_core.proofs.GradeClaims.{empty, graded}
 use Rattle.grade_top.specs.Commands.{file_command}
 use Rattle.grade_top.proofs.Claims.{empty_sample, no_usage, ran, refused, sampled, usage_ends}
 use Rattle.grade_top.proofs.OneCommand.{asks_something, one_command}
+use Rattle.grade_top.proofs.PrintedPrograms.{prints_correction}
 use Rattle.grade_top.proofs.grade_top.Goals as goal
 
 pub answer-requires : goal.answer-requires
@@ -33,6 +36,14 @@ returns-in-Some-clause-read_failed g c = λ is.
 pub returns-in-Some-clause-graded : goal.returns-in-Some-clause-graded
 returns-in-Some-clause-graded g c = λ words ts k asks told given sure.
     graded words ts k _ _ c.answer.result (rw (one_command _ (command_of c.in-Some.command) (Grade words) (rw c.deref.ensures.value at c.in-Some.ensures.found) asks) at c.answer.ensures.ends) told given sure
+
+pub returns-in-Some-clause-printed : goal.returns-in-Some-clause-printed
+returns-in-Some-clause-printed g c = λ words asks is.
+    let before = devices (g.S.Shelf.seen c.args.shelf.now) (g.K.Sink.seen c.args.out.now) in
+    let after = devices (g.S.Shelf.seen c.answer.new.shelf) (g.K.Sink.seen c.answer.new.out) in
+    let ends : Ends (file_command (Grade words)) before after c.answer.result =
+    rw (one_command _ (command_of c.in-Some.command) (Grade words) (rw c.deref.ensures.value at c.in-Some.ensures.found) asks) at c.answer.ensures.ends in
+    prints_correction c.corrections_are_spelled.ensures.holds words before after (subst (Ends (file_command (Grade words)) before after) is ends)
 
 pub returns-in-Some-clause-sampled : goal.returns-in-Some-clause-sampled
 returns-in-Some-clause-sampled g c = λ n k asks given sure.

@@ -1,6 +1,7 @@
 -- each source that isn't read stops all, and those before it are read
 use Rattle.choice_tree.specs.RuleViews.{corrections_of}
 use Rattle.task_read.proofs.Stopping.{stopped_in}
+use Rattle.task_read.proofs.Ready.{are_ready}
 use Rattle.task_read.proofs.TaskReading.{at_reference, at_rules, at_submission, parts_given, typed}
 use Rattle.task_read.proofs.parts.read_parts.Goals as goal
 
@@ -27,3 +28,10 @@ returns-clause-read c =
     parts_given c.args.bounds.now c.args.reference.now c.args.submission.now c.args.rules.now c.in_ok-bounds.bounds
     (typed c.in_ok-reference.reference c.in_ok-reference.reference_types) (typed c.in_ok-submission.submission c.in_ok-submission.submission_types)
     (corrections_of c.in_ok-rules.rules) c.in_ok-bounds.ensures.read c.in_ok-reference.ensures.read c.in_ok-submission.ensures.read c.in_ok-rules.ensures.read
+
+pub returns-clause-ready : goal.returns-clause-ready
+returns-clause-ready c =
+    are_ready c.what_is_read_is_proper.ensures.holds
+    c.args.reference.now c.args.submission.now c.args.rules.now c.in_ok-bounds.bounds
+    (typed c.in_ok-reference.reference c.in_ok-reference.reference_types) (typed c.in_ok-submission.submission c.in_ok-submission.submission_types)
+    (corrections_of c.in_ok-rules.rules) c.in_ok-reference.ensures.read c.in_ok-submission.ensures.read c.in_ok-rules.ensures.read
