@@ -84,6 +84,6 @@ pub fn sym_node<L: Logic>(
         (weighted_of e.now)) }
 {
     let view = view_of(env);
-    let outcome = nodes::sym_node(alloc, g, e, &view, parts)?;
+    let outcome = nodes::node_in_view(alloc, g, e, &view, parts)?;
     Ok(outcome)
 }

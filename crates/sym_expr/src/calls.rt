@@ -28,7 +28,7 @@ use bit_words::logic::Logic;
 use choice_tree::WExpr;
 use mpy_tree::{Builtin, Name};
 use std::alloc::Global;
-use sym_nodes::nodes::sym_node;
+use sym_nodes::nodes::node_in_view;
 use sym_nodes::strict::any_fault;
 use sym_nodes::view::View;
 use sym_values::constant::zero_value;
@@ -138,7 +138,7 @@ pub fn node_outcome<L: Logic, C: Functions<L>>(
             Ok(given)
         }
         None => {
-            let made = sym_node(alloc, g, e, view, &parts)?;
+            let made = node_in_view(alloc, g, e, view, &parts)?;
             Ok(made)
         }
     }

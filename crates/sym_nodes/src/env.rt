@@ -1,6 +1,6 @@
 //! What the names and the picks of an expression are as bits.
 
-ghost use Rattle.std.specs.Prelude.{◌≡◌, ◌<◌, ◌++◌, ◌∷◌, [], List, length, Some, IfSome, OnOk};
+ghost use Rattle.std.specs.Prelude.{◌≡◌, ◌<◌, ◌++◌, ◌∷◌, [], List, length, Some, IfOk, OnOk};
 ghost use Rattle.std.specs.Prelude.{OnErr, slice_get};
 
 use bit_words::NoMemory;
@@ -61,6 +61,17 @@ impl<B: Copy> Picks<B> {
         ensures { slice_get self.now i ≡ Some result.now }
     {
         &self.members[i]
+    }
+
+    /// Equal picks.
+    pub fn copy(&self) -> Result<Self, NoMemory>
+        ensures { IfOk result (λ r. r ≡ self.now) }
+    {
+        let mut copies = Vec::new(*self.members.allocator());
+        for member in &self.members {
+            copies.push(member.copy()?)?;
+        }
+        Ok(Picks { members: copies })
     }
 
     /// Adds a pick at the end. Where memory is wanting the picks stay as they were.

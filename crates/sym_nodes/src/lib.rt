@@ -21,5 +21,5 @@ pub mod view;
 
 pub use env::{Env, Picks};
 pub use locals::local;
-pub use nodes::sym_node;
+pub use nodes::node_in_view;
 pub use view::View;

@@ -119,7 +119,7 @@ fn head_outcome<L: Logic>(
 
 /// The outcome of a node from those of its parts, which stand in the order in which they are
 /// written; of a pick, from those of its base and of its other members.
-pub fn sym_node<L: Logic>(
+pub fn node_in_view<L: Logic>(
     alloc: Global,
     g: &mut L,
     e: &WExpr,

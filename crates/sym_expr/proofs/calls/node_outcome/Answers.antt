@@ -39,8 +39,8 @@ returns-in_ok-given-in-Some-clause-value g c vs s m calls line a k p all =
     c.args.parts.items given.given call
     (λ rs h. given.ensures.value vs m calls line rs a p h) all
 
-pub sym_node-requires-clause-typed : goal.sym_node-requires-clause-typed
-sym_node-requires-clause-typed g c =
+pub node_in_view-requires-clause-typed : goal.node_in_view-requires-clause-typed
+node_in_view-requires-clause-typed g c =
     let env = env_of c.args.view.now in
     let called = g.C.Functions.signatures c.args.functions.now in
     let w = weighted_of c.args.e.now in

@@ -14,7 +14,7 @@ use Rattle.sym_nodes.specs.Plain.{AllReadAsPlain}
 use Rattle.sym_nodes.specs.Views.{env_of}
 use Rattle.sym_nodes.proofs.Members.{node_plain, pick_plain}
 use Rattle.sym_nodes.proofs.TreeTypes.{node_root, pick_root, pick_there}
-use Rattle.sym_nodes.proofs.nodes.sym_node.Goals as goal
+use Rattle.sym_nodes.proofs.nodes.node_in_view.Goals as goal
 
 pub head_outcome-requires : goal.head_outcome-requires
 head_outcome-requires g c =
