@@ -21,10 +21,10 @@ mod runs;
 #[cfg(test)]
 mod samples;
 #[cfg(test)]
+mod shared_lists;
+#[cfg(test)]
 mod slow;
 #[cfg(test)]
 mod stores;
-#[cfg(test)]
-mod typed_programs;
 #[cfg(test)]
 mod words;
