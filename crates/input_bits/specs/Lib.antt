@@ -1,0 +1,4 @@
+pub mod Layout
+pub mod Alphabets
+pub mod Known
+pub mod Cases
