@@ -1,0 +1,4 @@
+pub mod Widths
+pub mod MemberWords
+pub mod Chosen
+pub mod Decoding
