@@ -4,7 +4,6 @@ use Rattle.std.proofs.lemmas.Option.{slice_get_read}
 use Rattle.std.proofs.lemmas.Simd.{map-map}
 use Rattle.choice_tree.specs.Choices.{member_of}
 use Rattle.choice_tree.specs.EditViews.{pick_number}
-use Rattle.choice_tree.specs.declared.selection.Choice.{Choice}
 use Rattle.known_values.proofs.Items.{item_known}
 use Rattle.selection_numbers.specs.Live.{entries}
 use Rattle.pick_bits.proofs.Chosen.{choice_at}

@@ -1,4 +1,4 @@
-use Rattle.std.proofs.Common.{◌≡◌, ◌∙◌, ◌+◌, ◌++◌, ◌∷◌, [], ℕ, map, take, ap, subst, sym, arith}
+use Rattle.std.proofs.Common.{◌≡◌, ◌∙◌, ◌+◌, ◌++◌, ◌∷◌, [], ℕ, map, take, ap, subst, sym}
 use Rattle.bit_words.specs.Later.{AddsVariables, adds_trans, owned_later, values_from}
 use Rattle.sym_values.specs.Later.{words_later}
 use Rattle.sym_values.specs.Owned.{owns_one_more}
