@@ -24,7 +24,8 @@ first_member p zero s h = h
 first_member p (suc i) s h = ap (λ b. if b then suc i else member_of s p) (eq-eqb p p refl)
 
 -- and of another
-other_member : (p q i : ℕ) (s : List Choice) → (p == q) ≡ false → member_of (and_member p i s) q ≡ member_of s q
+other_member : (p q i : ℕ) (s : List Choice) → (p == q) ≡ false
+    → member_of (and_member p i s) q ≡ member_of s q
 other_member p q zero s e = refl
 other_member p q (suc i) s e = ap (λ b. if b then suc i else member_of s q) e
 
@@ -34,7 +35,8 @@ none_before (i ∷ is) p q h =
     other_member p q i (chosen_from (suc p) is) (ne_eqb p q (λ (e : p ≡ q). omega (arith, e, h)))
     ∙ none_before is (suc p) q (omega (arith, h))
 
-member_from : (is : List ℕ) (p k q : ℕ) → q ≡ p + k → member_of (chosen_from p is) q ≡ slice_index_or is k 0
+member_from : (is : List ℕ) (p k q : ℕ) → q ≡ p + k
+    → member_of (chosen_from p is) q ≡ slice_index_or is k 0
 member_from [] p k q e = refl
 member_from (i ∷ is) p zero q e =
     let same : q ≡ p = omega (arith, e) in
@@ -42,24 +44,29 @@ member_from (i ∷ is) p zero q e =
     ∙ first_member p i (chosen_from (suc p) is) (none_before is (suc p) p (omega arith))
 member_from (i ∷ is) p (suc k) q e =
     let apart : (p == q) ≡ false = ne_eqb p q (λ (same : p ≡ q). omega (arith, same, e)) in
-    other_member p q i (chosen_from (suc p) is) apart ∙ member_from is (suc p) k q (omega (arith, e))
+    other_member p q i (chosen_from (suc p) is) apart
+    ∙ member_from is (suc p) k q (omega (arith, e))
 
 -- what is left of the members
-left_of : (w : Weighted) (is : List ℕ) → live_selection (member_of (chosen_from 0 is)) w ≡ selection_by w is
+left_of : (w : Weighted) (is : List ℕ)
+    → live_selection (member_of (chosen_from 0 is)) w ≡ selection_by w is
 left_of w is =
     let whole : (p : ℕ) → member_of (chosen_from 0 is) p ≡ slice_index_or is p 0 =
     λ p. member_from is 0 p p (omega arith) in
     ap (λ (m : ℕ → ℕ). live_selection m w) (λ i p. whole p i)
 
-one_selected : (w : Weighted) (o : Option (List ℕ)) (all s : List Choice) → Some all ≡ option_map (chosen_from 0) o
+one_selected : (w : Weighted) (o : Option (List ℕ)) (all s : List Choice)
+    → Some all ≡ option_map (chosen_from 0) o
     → s ≡ live_selection (member_of all) w → Some s ≡ option_map (selection_by w) o
 one_selected w None all s e live = absurd cc
 one_selected w (Some is) all s e live =
     let same : all ≡ chosen_from 0 is = same_Some all (chosen_from 0 is) e in
     ap Some (live ∙ ap (λ c. live_selection (member_of c) w) same ∙ left_of w is)
 
-pub selected : (w : Weighted) (ns : List ℕ) (vs : List Bool) (start : ℕ) (all s : List Choice) → ns ≡ member_counts w
-    → Some all ≡ option_map (chosen_from 0) (members_at ns vs start) → s ≡ live_selection (member_of all) w
+pub selected : (w : Weighted) (ns : List ℕ) (vs : List Bool) (start : ℕ) (all s : List Choice)
+    → ns ≡ member_counts w
+    → Some all ≡ option_map (chosen_from 0) (members_at ns vs start)
+    → s ≡ live_selection (member_of all) w
     → Some s ≡ selection_at w vs start
 selected w ns vs start all s counts e live =
     one_selected w (members_at ns vs start) all s e live

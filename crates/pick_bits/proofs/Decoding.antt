@@ -1,5 +1,6 @@
 -- Members that truth values spell, pick by pick.
-use Rattle.std.proofs.Common.{◌≡◌, ◌∙◌, ℕ, zero, suc, ◌+◌, ◌<◌, ◌≤◌, Bool, true, false, List, [], ◌∷◌, ◌++◌}
+use Rattle.std.proofs.Common.{◌≡◌, ◌∙◌, ℕ, zero, suc, ◌+◌, ◌<◌, ◌≤◌, Bool, true, false, List, []}
+use Rattle.std.proofs.Common.{◌∷◌, ◌++◌}
 use Rattle.std.proofs.Common.{append_assoc, Some, None, refl, sym, ap}
 use Rattle.std.specs.Prelude.{Option, option_map, if◌then◌else◌, nat_lt}
 use Rattle.std.proofs.lemmas.Bool.{le-ltb, lt-ltb}
@@ -29,7 +30,8 @@ put_first : (p i : ℕ) (s : List Choice) → and_member p i s ≡ and_member p 
 put_first p zero s = refl
 put_first p (suc i) s = refl
 
-put_more : (now more : List Choice) (p k : ℕ) (o : Option (List ℕ)) → more ≡ now ++ and_member p k []
+put_more : (now more : List Choice) (p k : ℕ) (o : Option (List ℕ))
+    → more ≡ now ++ and_member p k []
     → option_map (λ is. now ++ chosen_from p is) (option_map (λ rest. k ∷ rest) o)
     ≡ option_map (λ is. more ++ chosen_from (suc p) is) o
 put_more now more p k None e = refl
@@ -42,7 +44,8 @@ put_more now more p k (Some is) e =
 module _ (vs : List Bool) (left rest : List ℕ) (n place k : ℕ) (next : left ≡ n ∷ rest)
     (spelled : k ≡ nat_of (values_from vs place (member_bits n))) where
   read_first : (o : Option ℕ) → member n k ≡ o
-      → members_at left vs place ≡ (o >>= λ i. option_map (λ is. i ∷ is) (members_at rest vs (place + member_bits n)))
+      → members_at left vs place
+      ≡ (o >>= λ i. option_map (λ is. i ∷ is) (members_at rest vs (place + member_bits n)))
   read_first o e =
       ap (λ ns. members_at ns vs place) next
       ∙ ap (λ q. q >>= λ i. option_map (λ is. i ∷ is) (members_at rest vs (place + member_bits n)))
@@ -52,12 +55,14 @@ module _ (vs : List Bool) (left rest : List ℕ) (n place k : ℕ) (next : left 
   pub none_left : n ≤ k → members_at left vs place ≡ None
   none_left h = read_first None (no_member n k h)
 
-  pub one_less : (p q after : ℕ) (now more : List Choice) → k < n → q ≡ suc p → after ≡ place + member_bits n
+  pub one_less : (p q after : ℕ) (now more : List Choice) → k < n → q ≡ suc p
+      → after ≡ place + member_bits n
       → more ≡ now ++ and_member p k []
       → option_map (λ is. now ++ chosen_from p is) (members_at left vs place)
       ≡ option_map (λ is. more ++ chosen_from q is) (members_at rest vs after)
   one_less p q after now more h step at put =
       ap (option_map (λ is. now ++ chosen_from p is)) (read_first (Some k) (is_member n k h))
       ∙ put_more now more p k (members_at rest vs (place + member_bits n)) put
-      ∙ ap (λ r. option_map (λ is. more ++ chosen_from r is) (members_at rest vs (place + member_bits n))) (sym step)
+      ∙ ap (λ r. option_map (λ is. more ++ chosen_from r is)
+      (members_at rest vs (place + member_bits n))) (sym step)
       ∙ ap (λ a. option_map (λ is. more ++ chosen_from q is) (members_at rest vs a)) (sym at)

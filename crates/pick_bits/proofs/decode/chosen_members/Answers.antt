@@ -29,9 +29,12 @@ returns-then-member-members c =
     let next = drop_next c.args.counts.now i n c.in_ok-members.ensures.many in
     let word = c.natural-member.ensures.value in
     let vs = c.args.truths.now in
-    let none = none_left vs (drop i c.args.counts.now) (drop (i + 1) c.args.counts.now) n c.loop-pick.place c.natural-member.result next
+    let none =
+    none_left vs (drop i c.args.counts.now) (drop (i + 1) c.args.counts.now) n c.loop-pick.place
+    c.natural-member.result next
     (rw c.member_bits-width.ensures.value at word) (omega arith) in
-    sym (c.loop-pick.invariant.whole ∙ ap (option_map (λ is. c.loop-pick.chosen.items ++ chosen_from i is)) none)
+    sym (c.loop-pick.invariant.whole
+    ∙ ap (option_map (λ is. c.loop-pick.chosen.items ++ chosen_from i is)) none)
 
 pub loop-pick-preserved : goal.loop-pick-preserved
 loop-pick-preserved c =
@@ -45,13 +48,18 @@ loop-pick-preserved c =
     let put = c.in_ok-push_member.ensures in
     record {
       place = omega arith;
-      whole = before.whole ∙ one_less c.args.truths.now (drop i c.args.counts.now) (drop (i + 1) c.args.counts.now) n c.loop-pick.place c.natural-member.result next (rw width at word)
-          i (i + 1) _ c.loop-pick.chosen.items c.push_member.new.chosen.items (omega arith) (omega arith) (ap (λ k. c.loop-pick.place + k) width) put;
+      whole = before.whole
+          ∙ one_less c.args.truths.now (drop i c.args.counts.now) (drop (i + 1) c.args.counts.now)
+          n c.loop-pick.place c.natural-member.result next (rw width at word)
+          i (i + 1) _ c.loop-pick.chosen.items c.push_member.new.chosen.items (omega arith)
+          (omega arith) (ap (λ k. c.loop-pick.place + k) width) put;
     }
 
 pub overflow_add-place : goal.overflow_add-place
 overflow_add-place c =
-    let next = drop_next c.args.counts.now c.loop-pick.pick c.in_ok-members.members c.in_ok-members.ensures.many in
+    let next =
+    drop_next c.args.counts.now c.loop-pick.pick c.in_ok-members.members
+    c.in_ok-members.ensures.many in
     let many = ap all_member_bits next in
     let width = c.member_bits-width.ensures.value in
     let place = c.loop-pick.invariant.place in

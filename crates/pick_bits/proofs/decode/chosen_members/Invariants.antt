@@ -11,5 +11,6 @@ invariant-loop-pick l =
     record {
       place : l.place + all_member_bits left ≡ l.start + all_member_bits l.counts;
       whole : option_map (chosen_from 0) (members_at l.counts l.truths l.start)
-          ≡ option_map (λ is. l.chosen.items ++ chosen_from l.pick is) (members_at left l.truths l.place);
+          ≡ option_map (λ is. l.chosen.items ++ chosen_from l.pick is)
+          (members_at left l.truths l.place);
     }

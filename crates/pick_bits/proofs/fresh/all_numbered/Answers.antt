@@ -22,7 +22,8 @@ less_number-requires g c =
     let w = c.index-numbers-pick.result in
     let there = slice_get_read ws _ i w refl (omega arith) c.index-numbers-pick.is in
     let own : OwnsAll v.owns c.loop-pick.g w =
-    owned_later (extends_keeps c.loop-pick.invariant.extends) (owns_one (λ u. u) ws i w c.requires.owned there) in
+    owned_later (extends_keeps c.loop-pick.invariant.extends)
+    (owns_one (λ u. u) ws i w c.requires.owned there) in
     rw c.as_slice.ensures own
 
 pub loop-pick-preserved : goal.loop-pick-preserved
@@ -47,7 +48,8 @@ loop-pick-preserved g c =
           let test = rw c.as_slice.ensures at (c.in_ok-one.ensures.value vs) in
           let number = nat_later (extends_keeps before.extends) own vs in
           let now = one_tested _ _ _ _ _ _ n (c.in_ok-within.ensures.value vs) so_far test number in
-          tested_more first ns ws i n w _ _ _ c.in_ok-members.ensures.many there now (before.value vs);
+          tested_more first ns ws i n w _ _ _ c.in_ok-members.ensures.many there now
+          (before.value vs);
     }
 
 pub returns-clause-value : goal.returns-clause-value

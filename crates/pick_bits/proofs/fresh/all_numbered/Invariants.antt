@@ -12,5 +12,6 @@ invariant-loop-pick g l =
       owned : logic.owns l.g l.within;
       value : (vs : List Bool) → all_numbered l.counts (map (map (logic.reads l.fn.g vs)) l.numbers)
           ≡ (logic.reads l.g vs l.within
-          && all_numbered (drop l.pick l.counts) (map (map (logic.reads l.fn.g vs)) (drop l.pick l.numbers)));
+          && all_numbered (drop l.pick l.counts)
+          (map (map (logic.reads l.fn.g vs)) (drop l.pick l.numbers)));
     }

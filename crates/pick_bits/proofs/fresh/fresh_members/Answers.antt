@@ -12,7 +12,8 @@ pub all_numbered-requires-clause-many : goal.all_numbered-requires-clause-many
 all_numbered-requires-clause-many g c =
     let v = g.V.Logic in
     let made = c.in_ok-members.ensures.value [] in
-    ap length c.deref.ensures.value ∙ sym (length-map c.in_ok-members.members.items (map (v.reads c.fresh_numbers.new.g [])))
+    ap length c.deref.ensures.value
+    ∙ sym (length-map c.in_ok-members.members.items (map (v.reads c.fresh_numbers.new.g [])))
     ∙ ap length made ∙ length-member_words c.args.counts.now [] (v.count c.args.g.now)
 
 pub returns-clause-many : goal.returns-clause-many
@@ -27,8 +28,10 @@ returns-clause-within g c vs =
     let v = g.V.Logic in
     let ns = c.args.counts.now in
     c.in_ok-within.ensures.value vs
-    ∙ ap (λ ws. all_numbered ns (map (map (v.reads c.fresh_numbers.new.g vs)) ws)) c.deref.ensures.value
-    ∙ ap (all_numbered ns) (c.in_ok-members.ensures.value vs) ∙ sym (some_members ns vs (v.count c.args.g.now))
+    ∙ ap (λ ws. all_numbered ns (map (map (v.reads c.fresh_numbers.new.g vs)) ws))
+    c.deref.ensures.value
+    ∙ ap (all_numbered ns) (c.in_ok-members.ensures.value vs)
+    ∙ sym (some_members ns vs (v.count c.args.g.now))
 
 pub returns-clause-members : goal.returns-clause-members
 returns-clause-members g c vs is e =

@@ -13,5 +13,6 @@ invariant-loop-pick g l =
     record {
       adds : AddsVariables v.owns v.reads v.count (all_member_bits made) l.fn.g l.g;
       owned : OwnsAll v.owns l.g (joined l.numbers.items);
-      value : (vs : List Bool) → map (map (v.reads l.g vs)) l.numbers.items ≡ member_words made vs (v.count l.fn.g);
+      value : (vs : List Bool)
+          → map (map (v.reads l.g vs)) l.numbers.items ≡ member_words made vs (v.count l.fn.g);
     }
