@@ -136,6 +136,11 @@ def raced(race, formula):
     return min(it.solving for it in ours), min(it.checking for it in ours), ours[0], least
 
 
+def times(ours, other, whole):
+    """How many times another's time ours is, where the other's whole time is told from that of reading the file."""
+    return '%.1f' % (ours / other) if whole > 0.002 else '-'
+
+
 def show_against_others(race, formulas):
     head(('formula', 'gates', 'clauses logged', 'ms a clause', 'minisat: conflicts', 'ms a conflict', 'ratio a conflict',
           'ratio of the whole', 'cadical: conflicts', 'ratio a conflict', 'hints', 'checking to solving'))
@@ -149,9 +154,9 @@ def show_against_others(race, formulas):
                 continue
             seconds, conflicts = least[name]
             one = seconds / max(conflicts, 1)
-            cells += [thousands(conflicts)] + [milliseconds(one, 1)] * (name == 'minisat') + ['%.1f' % (each / one)]
+            cells += [thousands(conflicts)] + [milliseconds(one, 1)] * (name == 'minisat') + [times(each, one, seconds)]
             if name == 'minisat':
-                cells.append('%.1f' % (solving / seconds) if ended.answer != 'spent' else 'spent')
+                cells.append(times(solving, seconds, seconds) if ended.answer != 'spent' else 'spent')
         row(cells + [thousands(ended.hints), '%.2f' % (checking / solving)])
 
 
