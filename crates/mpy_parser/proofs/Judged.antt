@@ -24,7 +24,8 @@ use Rattle.mpy_parser.proofs.LinesSpelled.{spelled_by, not_spelled_by}
 use Rattle.mpy_parser.proofs.Fine.{fine_lines, same_indents}
 use Rattle.mpy_parser.proofs.Nests.{nests}
 use Rattle.mpy_parser.proofs.OneAnswer.{has_lines, has_no_long_line}
-use Rattle.mpy_parser.proofs.Steps.{item_refused, none_least}
+use Rattle.mpy_parser.proofs.Steps.{item_refused}
+use Rattle.mpy_tree.proofs.Leasts.{none_least}
 
 -- a cause and a line, and no want of memory
 abbrev IsFault : LexError → Type 0

@@ -7,7 +7,6 @@ use Rattle.mpy_tree.specs.Syntax.{Routine}
 use Rattle.mpy_tree.specs.View.{routines_of}
 use Rattle.mpy_lexer.specs.declared.forms.Form.TheVariants.{Program}
 use Rattle.mpy_lexer.specs.declared.line.Line.{Line}
-use Rattle.mpy_tree.specs.Leasts.{least, lesser}
 use Rattle.mpy_lexer.specs.Lexing.{lex}
 use Rattle.mpy_parser.specs.declared.read_error.ReadError.{ReadError}
 use Rattle.mpy_parser.specs.declared.read_error.ReadError.TheVariants as read_error
@@ -30,15 +29,6 @@ laws = record {
 pub item_refused : (bytes : List ℕ) (ls : List Line) (line : ℕ) → lex Program bytes ≡ Ok ls → indent_fault [] ls ≡ None → IsFirstUnspelled ls line → IsRefused bytes cause.Syntax line
 item_refused bytes ls line e f u = subst (IsRefused bytes cause.Syntax) (sym u.line_is)
     (by_item u.before u.first u.rest u.items (e ∙ ap Ok u.cut) (ap (indent_fault []) (sym u.cut) ∙ f) u.spelled u.unspelled)
-
-no_lesser : (n : ℕ) (o : Option ℕ) → lesser (Some n) o ≡ None → ⊥
-no_lesser n None h = let z : Some n ≡ None = h in cc
-no_lesser n (Some m) h = let z : Some _ ≡ None = h in cc
-
-pub none_least : (ns : List ℕ) → least ns ≡ None → ns ≡ []
-unfolding least
-none_least [] h = refl
-none_least (n ∷ ns) h = absurd (no_lesser n (least ns) h)
 
 -- a text that spells a program is read as it
 pub given_by : (bytes : List ℕ) (r : Result Prog ReadError) → ((p : Prog) → r ≡ Ok p → IsProgram bytes (routines_of p)) → ((e : ReadError) → r ≡ Err e → IsAnswered bytes e) → (rs : List Routine) → IsProgram bytes rs → IsGiven rs r

@@ -16,7 +16,7 @@ use Rattle.mpy_tree.specs.Sharing.{some_name, changed_on, changes, on_line_if, h
 use Rattle.mpy_tree.specs.Syntax.{at, Action, Block, end, step, MaybeBlock, no_block, a_block, arm, Branches, no_arms, arm_and}
 use Rattle.mpy_tree.specs.Syntax as ast
 use Rattle.mpy_tree.specs.Syntax.{Routine}
-use Rattle.mpy_tree.proofs.Leasts.{lesser_of_nil}
+use Rattle.mpy_tree.proofs.Leasts.{lesser_of_nil, none_least}
 use Rattle.mpy_scopes.proofs.Soonest.{lesser_assoc, least_append}
 
 pub parts_more : {A : Type 0} (g : A → List ℕ) (xs ys : List A) → least (flat_map g (xs ++ ys)) ≡ lesser (least (flat_map g xs)) (least (flat_map g ys))
@@ -99,11 +99,6 @@ pub some_least : (xs : List ℕ) → has_line xs ≡ is_some (least xs)
 unfolding least
 some_least [] = refl
 some_least (x ∷ xs) = some_sooner x (least xs)
-
-none_least : (xs : List ℕ) → least xs ≡ None → xs ≡ []
-unfolding least
-none_least [] e = refl
-none_least (x ∷ xs) e = let h : is_some (lesser (Some x) (least xs)) ≡ false = ap is_some e in let k : true ≡ false = some_sooner x (least xs) ∙ h in absurd (cc)
 
 -- the answer for a least line
 pub nothing_shared : (xs : List ℕ) → None ≡ least xs → xs ≡ []

@@ -6,6 +6,16 @@ pub lesser-none : (a : Option ℕ) → lesser a None ≡ a
 lesser-none None = refl
 lesser-none (Some a) = refl
 
+pub lesser_some : (x : ℕ) (o : Option ℕ) → lesser (Some x) o ≡ None → ⊥
+lesser_some x None e = cc
+lesser_some x (Some y) e = cc
+
+-- where there is no least one, there is none
+pub none_least : (xs : List ℕ) → least xs ≡ None → xs ≡ []
+unfolding least
+none_least [] e = refl
+none_least (x ∷ xs) e = absurd (lesser_some x (least xs) e)
+
 pub lesser_assoc : (a b c : Option ℕ) → lesser (lesser a b) c ≡ lesser a (lesser b c)
 lesser_assoc None b c = refl
 lesser_assoc (Some a) None c = refl

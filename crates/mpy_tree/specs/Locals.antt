@@ -1,6 +1,6 @@
 -- The locals of a function: its parameters, and each name that it assigns by `=`, by `op=` on a
 -- name, or by `for`.
-use Rattle.std.specs.Prelude.{ℕ, Bool, List, [], ◌∷◌, ◌++◌, if◌then◌else◌}
+use Rattle.std.specs.Prelude.{ℕ, Bool, List, [], ◌∷◌, ◌++◌, Option, position, if◌then◌else◌}
 use Rattle.std.specs.List.{list_any, filter, flat_map}
 use Rattle.mpy_tree.specs.Syntax.{Term, Action, Routine}
 use Rattle.mpy_tree.specs.Syntax as ast
@@ -9,6 +9,10 @@ use Rattle.mpy_tree.specs.Values.{same_bytes}
 
 abbrev pub is_among : List (List ℕ) → List ℕ → Bool
 is_among xs x = list_any (same_bytes x) xs
+
+-- where a name stands first among names, if it does
+abbrev pub place_of : List (List ℕ) → List ℕ → Option ℕ
+place_of names x = position (λ y. same_bytes x y) names
 
 -- names, and then those of others that aren't among them yet, each once
 abbrev pub and_new : List (List ℕ) → List (List ℕ) → List (List ℕ)

@@ -1,6 +1,7 @@
 //! Names, and lists of them.
 ghost use Rattle.std.specs.Prelude.{◌≡◌, ◌↔◌, ◌++◌, ◌∷◌, [], ℕ, List, IsTrue, IfOk, OnOk, nat_eq};
 ghost use Rattle.std.specs.Cmp.Lexicographic.{pointwise};
+ghost use Rattle.mpy_tree.specs.Locals.{place_of};
 ghost use Rattle.mpy_tree.specs.NameLengths.{is_long};
 
 use crate::NoMemory;
@@ -112,6 +113,13 @@ impl Names {
         ensures { result.now ≡ self.now }
     {
         self.items.as_slice()
+    }
+
+    /// Where a name stands first, if it does.
+    pub fn place(&self, x: &Name) -> Option<usize>
+        ensures { result ≡ place_of self.now x.now }
+    {
+        self.items.iter().position(|name| x.is(name))
     }
 
     /// The names, given back.

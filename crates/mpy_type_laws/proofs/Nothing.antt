@@ -1,10 +1,9 @@
--- Lists that are empty, least lines that there aren't, and faults that aren't there.
+-- Lists that are empty, and faults that aren't there.
 use Rattle.std.proofs.Common.{◌≡◌, ℕ, Bool, true, false, List, [], ◌∷◌, ◌++◌, Option, Some, None}
 use Rattle.std.proofs.Common.{is_some, refl, if◌then◌else◌}
 use Rattle.std.specs.Prelude.{nat_lt}
 use Rattle.mpy_tree.specs.declared.typing.TypeError.{TypeError}
 use Rattle.mpy_tree.specs.Faults.{earlier, fault_on, listed, or_fault, slot_fault}
-use Rattle.mpy_tree.specs.Leasts.{least, lesser}
 use Rattle.mpy_tree.specs.TypeSets.{only_of}
 
 pub nil_left : {A : Type 0} (xs ys : List A) → xs ++ ys ≡ [] → xs ≡ []
@@ -14,15 +13,6 @@ nil_left (x ∷ xs) ys e = absurd cc
 pub nil_right : {A : Type 0} (xs ys : List A) → xs ++ ys ≡ [] → ys ≡ []
 nil_right [] ys e = e
 nil_right (x ∷ xs) ys e = absurd cc
-
-pub lesser_some : (x : ℕ) (o : Option ℕ) → lesser (Some x) o ≡ None → ⊥
-lesser_some x None e = cc
-lesser_some x (Some y) e = cc
-
-pub none_least : (xs : List ℕ) → least xs ≡ None → xs ≡ []
-unfolding least
-none_least [] e = refl
-none_least (x ∷ xs) e = absurd (lesser_some x (least xs) e)
 
 pub none_both : (a b : Option TypeError) → or_fault a b ≡ None → (a ≡ None) × (b ≡ None)
 none_both None b e = (refl, e)

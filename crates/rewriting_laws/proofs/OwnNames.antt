@@ -13,7 +13,8 @@ use Rattle.mpy_tree.specs.Names.{arity_lines, has_name_fault, has_twice, header_
 use Rattle.mpy_tree.specs.Names.{lines_of, name_lines, name_lines_from}
 use Rattle.mpy_tree.specs.Sites.{sites}
 use Rattle.mpy_tree.specs.Syntax.{Routine}
-use Rattle.mpy_type_laws.proofs.Nothing.{nil_left, nil_right, none_least, not_earlier}
+use Rattle.mpy_tree.proofs.Leasts.{none_least}
+use Rattle.mpy_type_laws.proofs.Nothing.{nil_left, nil_right, not_earlier}
 
 abbrev pub OwnNames : List Routine → Type 0
 OwnNames [] = ⊤

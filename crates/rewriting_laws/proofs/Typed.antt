@@ -26,7 +26,8 @@ use Rattle.rewriting_laws.proofs.Slots.{neither, settled_alike, settled_from}
 use Rattle.rewriting_laws.proofs.TypedFunctions.{all_keep, entry_keeps, fine_from}
 use Rattle.rewriting_laws.proofs.TypedFunctions.{heads_alike, none_broken, none_miscounted}
 use Rattle.rewriting_laws.proofs.TypedFunctions.{none_named, same_entry_fault, same_entry_flows}
-use Rattle.mpy_type_laws.proofs.Nothing.{none_both, none_least, not_on}
+use Rattle.mpy_tree.proofs.Leasts.{none_least}
+use Rattle.mpy_type_laws.proofs.Nothing.{none_both, not_on}
 
 own_alike : (rs qs : List Routine) → SameHeads rs qs → OwnNames rs → OwnNames qs
 own_alike [] [] h own = tt

@@ -17,7 +17,8 @@ use Rattle.sym_values.specs.declared.value.SymValue.{SymValue}
 use Rattle.sym_values.specs.Forms.{form_for, form_of, forms_of}
 use Rattle.sym_values.specs.Reading.{Reading, map_bits, read, spelled, sure}
 use Rattle.sym_nodes.specs.declared.env.Env.{Env}
-use Rattle.sym_nodes.specs.Environments.{IsEnvIn, LocalReads, StateReads, place_of, slot_type, type_at}
+use Rattle.sym_nodes.specs.Environments.{IsEnvIn, LocalReads, StateReads, slot_type, type_at}
+use Rattle.mpy_tree.specs.Locals.{place_of}
 use Rattle.sym_nodes.specs.Operands.{ty_of}
 use Rattle.sym_nodes.specs.Plain.{type_of}
 use Rattle.sym_nodes.proofs.Typed.{type_is}

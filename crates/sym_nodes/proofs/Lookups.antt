@@ -5,10 +5,11 @@ use Rattle.std.proofs.lemmas.Option.{slice_get-get_or}
 use Rattle.std.proofs.lemmas.Slice.Eq.{bytes_eq-Decides}
 use Rattle.mpy_tree.specs.declared.typing.Ty.{Ty}
 use Rattle.mpy_tree.specs.declared.value.Value.{Value}
+use Rattle.mpy_tree.specs.Locals.{place_of}
 use Rattle.mpy_tree.specs.Values.{same_bytes, set_or_fault}
 use Rattle.sym_values.specs.declared.value.SymValue.{SymValue}
 use Rattle.sym_values.specs.Reading.{IsOutcome, Reading}
-use Rattle.sym_nodes.specs.Environments.{LocalReads, place_of, type_at}
+use Rattle.sym_nodes.specs.Environments.{LocalReads, type_at}
 use Rattle.sym_nodes.specs.Operands.{ty_of}
 
 -- at its place stands the name

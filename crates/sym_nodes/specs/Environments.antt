@@ -1,12 +1,13 @@
 -- The names of an expression, and the picks, as bits: their types, and what they read as.
 use Rattle.std.specs.Prelude.{◌≡◌, ◌<◌, ℕ, Bool, true, false, List, [], length, map, Option, Some}
 use Rattle.std.specs.Prelude.{None}
-use Rattle.std.specs.Prelude.{position, slice_get, option_map}
+use Rattle.std.specs.Prelude.{slice_get, option_map}
 use Rattle.mpy_tree.specs.declared.typing.Ty.{Ty}
 use Rattle.mpy_tree.specs.declared.typing.Slot.{Slot}
 use Rattle.mpy_tree.specs.declared.typing.Slot.TheVariants as slot
 use Rattle.mpy_tree.specs.declared.value.Value.{Value}
-use Rattle.mpy_tree.specs.Values.{State, same_bytes}
+use Rattle.mpy_tree.specs.Locals.{place_of}
+use Rattle.mpy_tree.specs.Values.{State}
 use Rattle.bit_words.specs.Logic.{OwnsAll}
 use Rattle.bit_words.specs.Words.{nat_of}
 use Rattle.sym_values.specs.declared.value.SymValue.{SymValue}
@@ -17,10 +18,6 @@ use Rattle.choice_tree.specs.WeightedTrees.{Weighted, Weighteds, Others, plainly
 use Rattle.choice_tree.specs.WeightedTrees.{no_weighted, weighted_and, no_others, other_and}
 use Rattle.sym_nodes.specs.declared.env.Env.{Env}
 use Rattle.sym_nodes.specs.Operands.{ty_of}
-
--- where a name stands among the names
-abbrev pub place_of : List (List ℕ) → List ℕ → Option ℕ
-place_of names x = position (λ y. same_bytes x y) names
 
 -- the type of the value at a place
 abbrev pub type_at : {B : Type 0} → List (SymValue B) → Option ℕ → Option Ty

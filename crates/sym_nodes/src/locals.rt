@@ -2,27 +2,21 @@
 
 ghost use Rattle.std.specs.Prelude.{◌≡◌, ◌<◌, Bool, List, Some, IfOk, IfSome, IsSome, slice_get};
 ghost use Rattle.std.specs.declared.result.Result.{Result};
+ghost use Rattle.mpy_tree.specs.Locals.{place_of};
 ghost use Rattle.mpy_tree.specs.Values.{State, set_or_fault};
 ghost use Rattle.mpy_tree.specs.declared.typing.Ty.{Ty};
 ghost use Rattle.bit_words.specs.Logic.{Extends};
 ghost use Rattle.sym_values.specs.Forms.{form_for};
 ghost use Rattle.sym_values.specs.Reading.{OutcomeReads};
 ghost use Rattle.sym_values.specs.Results.{IsOutcomeIn};
-ghost use Rattle.sym_nodes.specs.Environments.{IsEnvIn, StateReads, place_of, type_at};
+ghost use Rattle.sym_nodes.specs.Environments.{IsEnvIn, StateReads, type_at};
 ghost use Rattle.sym_nodes.specs.Views.{env_of};
 
 use crate::view::View;
 use bit_words::NoMemory;
 use bit_words::logic::Logic;
-use mpy_tree::{Name, Names};
+use mpy_tree::Name;
 use sym_values::SymOutcome;
-
-/// Where a name stands among the names, if it does.
-fn place(names: &Names, x: &Name) -> Option<usize>
-    ensures { result ≡ place_of names.now x.now }
-{
-    names.items().iter().position(|name| x.is(name))
-}
 
 /// The value of a local, or Unset.
 pub fn local<L: Logic>(
@@ -40,7 +34,7 @@ pub fn local<L: Logic>(
         → StateReads (L.reads g.now vs) (env_of view.now) s
         → OutcomeReads (L.reads g.now vs) r (set_or_fault (s x.now))) }
 {
-    match place(view.names, x) {
+    match view.names.place(x) {
         Some(i) => {
             let held = view.values.at(i);
             let mark = view.set.at(i);

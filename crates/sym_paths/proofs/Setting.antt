@@ -20,7 +20,7 @@ use Rattle.sym_values.specs.Forms.{Form, bits_of, form_of, form_for, forms_of, v
 use Rattle.sym_values.specs.Reading.{Reading, spelled, sure}
 use Rattle.sym_paths.specs.Paths.{Way, Arrival, arrival, gone_way, reached, state_in, set_to}
 use Rattle.sym_paths.specs.Paths.{are_proper}
-use Rattle.sym_paths.specs.Places.{place_of}
+use Rattle.mpy_tree.specs.Locals.{place_of}
 use Rattle.sym_paths.specs.Slots.{type_among, type_at}
 use Rattle.sym_paths.proofs.Arrivals.{the_arrival, same_arrival}
 

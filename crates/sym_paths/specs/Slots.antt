@@ -3,7 +3,7 @@ use Rattle.std.specs.Prelude.{ℕ, List, map, Option, Some, None, slice_get}
 use Rattle.mpy_tree.specs.declared.typing.Ty.{Ty}
 use Rattle.sym_values.specs.Forms.{Form, form_for}
 use Rattle.sym_paths.specs.declared.slots.Slots.{Slots}
-use Rattle.sym_paths.specs.Places.{place_of}
+use Rattle.mpy_tree.specs.Locals.{place_of}
 
 -- the forms of the locals' values, in their order
 abbrev pub slot_forms : Slots → List Form

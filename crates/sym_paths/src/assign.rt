@@ -8,22 +8,14 @@ ghost use Rattle.sym_values.specs.Forms.{form_for};
 ghost use Rattle.sym_values.specs.Reading.{read, sure};
 ghost use Rattle.sym_values.specs.Results.{IsValueIn};
 ghost use Rattle.sym_paths.specs.Paths.{way, gone_way, reached, HoldsPath};
-ghost use Rattle.sym_paths.specs.Places.{place_of};
 ghost use Rattle.sym_paths.specs.Slots.{slot_forms, type_among};
 
 use crate::path::Path;
 use crate::slots::Slots;
 use bit_words::bits::Bits;
 use bit_words::logic::Logic;
-use mpy_tree::{Name, Names};
+use mpy_tree::Name;
 use sym_values::SymValue;
-
-/// Where a name stands first among the names, if it does.
-pub fn place(names: &Names, x: &Name) -> Option<usize>
-    ensures { result ≡ place_of names.now x.now }
-{
-    names.items().iter().position(|name| x.is(name))
-}
 
 // Bits with another one at a place.
 fn replaced<B: Copy>(bits: Bits<B>, i: usize, bit: B) -> Bits<B>
@@ -56,7 +48,7 @@ pub fn assign<L: Logic>(
         → gone_way slots.now.names (way (L.reads g.now vs) path ∷ []) ≡ None
         → gone_way slots.now.names (way (L.reads g.now vs) result ∷ []) ≡ None }
 {
-    match place(&slots.names, x) {
+    match slots.names.place(x) {
         None => unreachable!(),
         Some(i) => {
             let yes = g.constant(true);

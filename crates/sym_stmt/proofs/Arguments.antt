@@ -24,7 +24,8 @@ use Rattle.sym_values.specs.Reading.{read, sure}
 use Rattle.sym_nodes.specs.Operands.{IsTypedIn, ty_of}
 use Rattle.sym_paths.specs.declared.slots.Slots.{Slots}
 use Rattle.sym_paths.specs.Paths.{ReadAs}
-use Rattle.sym_paths.specs.Places.{Begins, place_of}
+use Rattle.mpy_tree.specs.Locals.{place_of}
+use Rattle.sym_paths.specs.Places.{Begins}
 use Rattle.sym_paths.specs.Slots.{slot_forms, type_among, type_at}
 use Rattle.sym_stmt.specs.FactSlots.{AreSlotsOf}
 

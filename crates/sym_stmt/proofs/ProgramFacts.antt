@@ -35,7 +35,8 @@ use Rattle.mpy_scopes.proofs.Places.{at_place, place_same}
 use Rattle.mpy_types.proofs.Every.{Every, every_front, every_of, every_rest}
 use Rattle.typed_programs.proofs.OneType.{settled}
 use Rattle.sym_stmt.proofs.LocalNames.{apart, new_none}
-use Rattle.mpy_type_laws.proofs.Nothing.{nil_left, nil_right, none_both, none_least, not_earlier, one_type}
+use Rattle.mpy_tree.proofs.Leasts.{none_least}
+use Rattle.mpy_type_laws.proofs.Nothing.{nil_left, nil_right, none_both, not_earlier, one_type}
 use Rattle.typed_programs.proofs.Linked.{either_is}
 
 third_false : (a b c : Bool) (line : ℕ) → (if a || b || c then line ∷ [] else []) ≡ [] → c ≡ false

@@ -31,7 +31,8 @@ use Rattle.typed_programs.specs.Keeping.{is_for, are_for, AreFor, takes_call, Se
 use Rattle.typed_programs.proofs.FittingLists.{and_true, and_both}
 use Rattle.typed_programs.proofs.OneType.{settled}
 use Rattle.typed_programs.proofs.Statements.{IsFine, for_slot, every_left, every_right}
-use Rattle.mpy_type_laws.proofs.Nothing.{nil_left, nil_right, none_both, none_least, not_on, one_type}
+use Rattle.mpy_tree.proofs.Leasts.{none_least}
+use Rattle.mpy_type_laws.proofs.Nothing.{nil_left, nil_right, none_both, not_on, one_type}
 
 all_of : {A : Type 0} (P : A → Type 0) (xs : List A) → Every P xs → All P xs
 all_of P [] h = All-nil P

@@ -6,7 +6,8 @@ use Rattle.mpy_parser.specs.Programs.{AreItems, IsFirstUnspelled, by_columns, by
 use Rattle.mpy_parser.specs.Views.{lines_of}
 use Rattle.mpy_parser.proofs.Fine.{same_indents}
 use Rattle.mpy_parser.proofs.OneAnswer.{has_lines, has_no_long_line}
-use Rattle.mpy_parser.proofs.Steps.{item_refused, none_least}
+use Rattle.mpy_parser.proofs.Steps.{item_refused}
+use Rattle.mpy_tree.proofs.Leasts.{none_least}
 use Rattle.mpy_parser.proofs.programs.parse.Goals as goal
 
 pub returns-in-Some-clause-refused : goal.returns-in-Some-clause-refused

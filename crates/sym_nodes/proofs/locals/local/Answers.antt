@@ -1,4 +1,5 @@
 use Rattle.std.proofs.Common.{◌∙◌, ap, arith, sym, subst}
+use Rattle.mpy_tree.specs.Locals.{place_of}
 use Rattle.mpy_tree.specs.Values.{set_or_fault}
 use Rattle.sym_values.specs.declared.value.SymValue.{SymValue}
 use Rattle.sym_values.specs.Forms.{bits_of, form_for, form_of}
@@ -6,7 +7,6 @@ use Rattle.sym_values.specs.Owned.{owns_one}
 use Rattle.bit_words.specs.Logic.{OwnsAll}
 use Rattle.bit_words.proofs.Kept.{owns_read}
 use Rattle.sym_values.specs.Reading.{IsOutcome, read}
-use Rattle.sym_nodes.specs.Environments.{place_of}
 use Rattle.sym_nodes.specs.Views.{env_of}
 use Rattle.sym_nodes.proofs.Lookups.{found_at, found_below, local_is, type_there}
 use Rattle.sym_nodes.proofs.locals.local.Goals as goal
