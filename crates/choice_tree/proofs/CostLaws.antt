@@ -1,16 +1,15 @@
 -- A selection costs no more than all members together.
-use Rattle.std.proofs.Common.{◌≡◌, ℕ, zero, suc, ◌+◌, ◌<◌, ◌≤◌, List, [], ◌∷◌, map}
-use Rattle.std.proofs.Common.{length, get_or, slice_get, Option, Some, None, refl, ap, sym}
+use Rattle.std.proofs.Common.{◌≡◌, ℕ, zero, suc, ◌+◌, ◌<◌, ◌≤◌, List, [], ◌∷◌, ◌∙◌}
+use Rattle.std.proofs.Common.{length, get_or, slice_get, Option, Some, None, option_map, refl, ap, sym}
 use Rattle.std.proofs.Common.{arith}
-use Rattle.choice_tree.specs.declared.tree.Other.{Other}
 use Rattle.choice_tree.specs.WeightedTrees.{Weighted, Weighteds, Others, plainly, pick, no_weighted}
 use Rattle.choice_tree.specs.WeightedTrees.{weighted_and, no_others, other_and}
-use Rattle.choice_tree.specs.WeightedViews.{weighted_of, member_seen, members}
+use Rattle.choice_tree.specs.WeightedViews.{Member, members}
 use Rattle.choice_tree.specs.Selections.{cost, costs, other_costs, other_at, chosen}
 use Rattle.choice_tree.specs.Costs.{all_costs, all_costs_in, all_other_costs}
 use Rattle.choice_tree.specs.declared.node.Pick.{Pick}
 use Rattle.choice_tree.specs.NodeViews.{own_pick, pick_of}
-use Rattle.choice_tree.proofs.Opening.{member_is}
+use Rattle.choice_tree.specs.PickViews.{others_seen}
 
 pub chosen_within : (i base n : ℕ) (xs : List ℕ) (most : ℕ) → base ≤ most
     → ((k d : ℕ) → k < length xs → get_or xs k d ≤ most) → chosen i base xs ≤ most
@@ -42,32 +41,39 @@ mutual
       other_within m os k d (omega arith) in omega arith
 
 -- the cost of a pick, by the member that is chosen
-abbrev pub cost_by : (ℕ → ℕ) → Weighted → Option Other → ℕ
+abbrev pub cost_by : (ℕ → ℕ) → Weighted → Option Member → ℕ
 cost_by m base None = cost m base
-cost_by m base (Some o) = o.cost + cost m (weighted_of o.tree)
+cost_by m base (Some o) = o.cost + cost m o.tree
 
-chosen_in : (m : ℕ → ℕ) (base : Weighted) (os : List Other) (i : ℕ) (o : Option Other)
-    → o ≡ slice_get os i
-    → cost_by m base o ≡ chosen (suc i) (cost m base) (other_costs m (members (map member_seen os)))
+chosen_in : (m : ℕ → ℕ) (base : Weighted) (ms : List Member) (i : ℕ) (o : Option Member)
+    → o ≡ slice_get ms i
+    → cost_by m base o ≡ chosen (suc i) (cost m base) (other_costs m (members ms))
 chosen_in m base [] i o h = rw h refl
-chosen_in m base (x ∷ os) zero o h =
-    rw h (ap (λ y. y.cost + cost m y.tree) (sym (member_is x)))
-chosen_in m base (x ∷ os) (suc i) o h = chosen_in m base os i o h
+chosen_in m base (x ∷ ms) zero o h = rw h refl
+chosen_in m base (x ∷ ms) (suc i) o h = chosen_in m base ms i o h
 
-pub chosen_cost : (m : ℕ → ℕ) (base : Weighted) (os : List Other) (k : ℕ) (o : Option Other)
-    → o ≡ other_at k os
-    → cost_by m base o ≡ chosen k (cost m base) (other_costs m (members (map member_seen os)))
-chosen_cost m base os zero o h = rw h refl
-chosen_cost m base os (suc i) o h = chosen_in m base os i o h
+pub chosen_cost : (m : ℕ → ℕ) (base : Weighted) (ms : List Member) (k : ℕ) (o : Option Member)
+    → o ≡ other_at k ms
+    → cost_by m base o ≡ chosen k (cost m base) (other_costs m (members ms))
+chosen_cost m base ms zero o h = rw h refl
+chosen_cost m base ms (suc i) o h = chosen_in m base ms i o h
+
+-- that of a member whose parts were read
+pub cost_read : (m : ℕ → ℕ) (base : Weighted) (o : Option Member) (c : ℕ) (x : Weighted)
+    → Some c ≡ option_map (λ y. y.cost) o → Some x ≡ option_map (λ y. y.tree) o
+    → cost_by m base o ≡ c + cost m x
+cost_read m base None c x h k = cc
+cost_read m base (Some y) c x h k =
+    let a : c ≡ y.cost = cc in
+    let b : x ≡ y.tree = cc in
+    rw (a, b) refl
 
 -- the cost of a node that is a pick
-pub pick_cost : (m : ℕ → ℕ) (w : Weighted) (p : Pick) (o : Option Other)
-    → Some (pick_of p) ≡ own_pick w → o ≡ other_at (m p.number) p.others.now
-    → cost m w ≡ cost_by m (weighted_of p.base.now) o
+pub pick_cost : (m : ℕ → ℕ) (w : Weighted) (p : Pick) (o : Option Member)
+    → Some (pick_of p) ≡ own_pick w → o ≡ other_at (m (pick_of p).number) (others_seen p)
+    → cost m w ≡ cost_by m (pick_of p).base o
 pick_cost m (plainly k ws) p o h e = cc
 pick_cost m (pick number base os) p o h e =
     let same : pick_of p ≡ record { number = number; base = base; others = os } = cc in
-    let n : p.number ≡ number = ap (λ q. q.number) same in
-    let b : weighted_of p.base.now ≡ base = ap (λ q. q.base) same in
-    let a : members (map member_seen p.others.now) ≡ os = ap (λ q. q.others) same in
-    rw (← n, ← b, ← a) (sym (chosen_cost m (weighted_of p.base.now) p.others.now (m p.number) o e))
+    ap (λ q. chosen (m q.number) (cost m q.base) (other_costs m q.others)) (sym same)
+    ∙ sym (chosen_cost m (pick_of p).base (others_seen p) (m (pick_of p).number) o e)

@@ -1,5 +1,5 @@
 -- The number of choices, stopped at 10^12, from those of the children.
-use Rattle.std.proofs.Common.{◌≡◌, ℕ, zero, suc, ◌+◌, ◌*◌, ◌≤◌, List, [], ◌∷◌, map, drop}
+use Rattle.std.proofs.Common.{◌≡◌, ℕ, zero, suc, ◌+◌, ◌*◌, ◌≤◌, List, [], ◌∷◌, drop}
 use Rattle.std.proofs.Common.{length, slice_get, Some, None, refl, sym, ap, ◌∙◌, arith, ◌⊎◌, inl}
 use Rattle.std.proofs.Common.{inr}
 use Rattle.std.proofs.Math.Nat.{mul_assoc, mul_comm, mul-one, one-mul, one-le-mul}
@@ -7,11 +7,12 @@ use Rattle.choice_tree.specs.declared.node.Pick.{Pick}
 use Rattle.choice_tree.specs.WeightedTrees.{Weighted, Weighteds, Others, plainly, pick, no_weighted}
 use Rattle.choice_tree.specs.WeightedTrees.{weighted_and, no_others, other_and, children, listed}
 use Rattle.choice_tree.specs.WeightedTrees.{other_trees}
-use Rattle.choice_tree.specs.WeightedViews.{members, member_seen}
+use Rattle.choice_tree.specs.WeightedViews.{members}
 use Rattle.choice_tree.specs.Selections.{choices, choices_in, choices_in_others, count_others}
 use Rattle.choice_tree.specs.Selections.{stopped}
 use Rattle.choice_tree.specs.Costs.{product_of}
 use Rattle.choice_tree.specs.NodeViews.{own_pick, pick_of}
+use Rattle.choice_tree.specs.PickViews.{others_seen}
 use Rattle.choice_tree.proofs.Walking.{next_of}
 use Rattle.choice_tree.proofs.FittingLaws.{counted}
 
@@ -86,16 +87,16 @@ parts_choices (plainly k ws) h = one-mul (product_of choices (listed ws)) ∙ in
 parts_choices (pick number base os) h = cc
 
 pub pick_choices : (w : Weighted) (q : Pick) → Some (pick_of q) ≡ own_pick w
-    → stopped (stopped (suc (length q.others.now)) * product_of choices (children w))
+    → stopped (stopped (suc (length (others_seen q))) * product_of choices (children w))
     ≡ stopped (choices w)
 pick_choices (plainly k ws) q h = cc
 pick_choices (pick number base os) q h =
     let same : pick_of q ≡ record { number = number; base = base; others = os } = cc in
-    let a : members (map member_seen q.others.now) ≡ os = ap (λ r. r.others) same in
-    let c : length q.others.now ≡ count_others os =
-    sym (counted q.others.now) ∙ ap count_others a in
+    let a : members (others_seen q) ≡ os = ap (λ r. r.others) same in
+    let c : length (others_seen q) ≡ count_others os =
+    sym (counted (others_seen q)) ∙ ap count_others a in
     let ws = base ∷ other_trees os in
-    stop_left (suc (length q.others.now)) (product_of choices ws) (some_product ws)
+    stop_left (suc (length (others_seen q))) (product_of choices ws) (some_product ws)
     ∙ ap stopped (λ i. suc (c i) * (choices base * in_others os i))
 
 pub next_choices : (a i j : ℕ) (xs : List Weighted) (x : Weighted) → 1 ≤ a → j ≡ suc i

@@ -1,21 +1,20 @@
 -- The edits of a node, from those of its children.
 use Rattle.std.proofs.Common.{◌≡◌, ℕ, zero, suc, List, [], ◌∷◌, ◌++◌, map, drop, slice_get, Some}
-use Rattle.std.proofs.Common.{None, Option, Result, Ok, Err, IfOk, OnOk, refl, sym, ap, ◌∙◌}
+use Rattle.std.proofs.Common.{None, Option, option_map, Result, Ok, Err, IfOk, OnOk, refl, sym, ap, ◌∙◌}
 use Rattle.std.proofs.Common.{append_assoc}
 use Rattle.std.specs.Prelude.{flat_map}
 use Rattle.std.proofs.lemmas.List.{append-nil}
 use Rattle.choice_tree.specs.declared.node.Pick.{Pick}
-use Rattle.choice_tree.specs.declared.tree.Other.{Other}
 use Rattle.choice_tree.specs.Contexts.{line_below}
 use Rattle.choice_tree.specs.EditViews.{parts_line, edits_of_each, picks_of_each}
 use Rattle.choice_tree.specs.Rewriting.{Edit, edit_by}
 use Rattle.choice_tree.specs.WeightedTrees.{Weighted, Weighteds, plainly, pick, no_weighted}
 use Rattle.choice_tree.specs.WeightedTrees.{weighted_and, children, listed, base_of}
-use Rattle.choice_tree.specs.WeightedViews.{weighted_of, members, member_seen}
+use Rattle.choice_tree.specs.WeightedViews.{Member, members}
 use Rattle.choice_tree.specs.Selections.{plain, edits, edits_in, other_edits, edited_picks}
 use Rattle.choice_tree.specs.Selections.{picks_in, other_picks, other_at, chosen}
 use Rattle.choice_tree.specs.NodeViews.{own_pick, pick_of}
-use Rattle.choice_tree.proofs.Opening.{member_is}
+use Rattle.choice_tree.specs.PickViews.{others_seen}
 use Rattle.choice_tree.proofs.Walking.{next_of, no_next}
 
 pub on_ok : {A E P Q : Type 0} (r : Result A E) → (P → Q) → OnOk r P → OnOk r Q
@@ -73,72 +72,80 @@ parts_picks m (plainly k ws) h = each_picks m ws
 parts_picks m (pick number base os) h = cc
 
 -- the edits of a pick, and the picks of these, by the member that is chosen
-abbrev pub edits_by : (ℕ → ℕ) → ℕ → Weighted → Option Other → List Edit
+abbrev pub edits_by : (ℕ → ℕ) → ℕ → Weighted → Option Member → List Edit
 edits_by m line base None = edits m base line
 edits_by m line base (Some o) =
-    edit_by line o.rule (base_of base) (plain m (weighted_of o.tree))
-    ∷ edits m (weighted_of o.tree) line
+    edit_by line o.rule (base_of base) (plain m o.tree) ∷ edits m o.tree line
 
-abbrev pub picks_by : (ℕ → ℕ) → ℕ → Weighted → Option Other → List ℕ
+abbrev pub picks_by : (ℕ → ℕ) → ℕ → Weighted → Option Member → List ℕ
 picks_by m number base None = edited_picks m base
-picks_by m number base (Some o) = number ∷ edited_picks m (weighted_of o.tree)
+picks_by m number base (Some o) = number ∷ edited_picks m o.tree
 
-edits_at : (m : ℕ → ℕ) (line : ℕ) (base : Weighted) (os : List Other) (i : ℕ) (o : Option Other)
-    → o ≡ slice_get os i
-    → chosen (suc i) (edits m base line)
-    (other_edits m (members (map member_seen os)) line (base_of base)) ≡ edits_by m line base o
+-- those by a member whose parts were read
+pub edits_read : (m : ℕ → ℕ) (line : ℕ) (base : Weighted) (o : Option Member) (rule : ℕ)
+    (x : Weighted) → Some rule ≡ option_map (λ y. y.rule) o → Some x ≡ option_map (λ y. y.tree) o
+    → edits_by m line base o ≡ edit_by line rule (base_of base) (plain m x) ∷ edits m x line
+edits_read m line base None rule x h k = cc
+edits_read m line base (Some y) rule x h k =
+    let a : rule ≡ y.rule = cc in
+    let b : x ≡ y.tree = cc in
+    rw (a, b) refl
+
+pub picks_read : (m : ℕ → ℕ) (number : ℕ) (base : Weighted) (o : Option Member) (x : Weighted)
+    → Some x ≡ option_map (λ y. y.tree) o
+    → picks_by m number base o ≡ number ∷ edited_picks m x
+picks_read m number base None x k = cc
+picks_read m number base (Some y) x k = let b : x ≡ y.tree = cc in rw b refl
+
+edits_at : (m : ℕ → ℕ) (line : ℕ) (base : Weighted) (ms : List Member) (i : ℕ)
+    (o : Option Member) → o ≡ slice_get ms i
+    → chosen (suc i) (edits m base line) (other_edits m (members ms) line (base_of base))
+    ≡ edits_by m line base o
 edits_at m line base [] i o h = rw h refl
-edits_at m line base (x ∷ os) zero o h =
-    rw h (ap (λ y. edit_by line y.rule (base_of base) (plain m y.tree) ∷ edits m y.tree line)
-    (member_is x))
-edits_at m line base (x ∷ os) (suc i) o h = edits_at m line base os i o h
+edits_at m line base (x ∷ ms) zero o h = rw h refl
+edits_at m line base (x ∷ ms) (suc i) o h = edits_at m line base ms i o h
 
-edits_chosen : (m : ℕ → ℕ) (line : ℕ) (base : Weighted) (os : List Other) (k : ℕ)
-    (o : Option Other) → o ≡ other_at k os
-    → chosen k (edits m base line)
-    (other_edits m (members (map member_seen os)) line (base_of base)) ≡ edits_by m line base o
-edits_chosen m line base os zero o h = rw h refl
-edits_chosen m line base os (suc i) o h = edits_at m line base os i o h
+edits_chosen : (m : ℕ → ℕ) (line : ℕ) (base : Weighted) (ms : List Member) (k : ℕ)
+    (o : Option Member) → o ≡ other_at k ms
+    → chosen k (edits m base line) (other_edits m (members ms) line (base_of base))
+    ≡ edits_by m line base o
+edits_chosen m line base ms zero o h = rw h refl
+edits_chosen m line base ms (suc i) o h = edits_at m line base ms i o h
 
-pub pick_edits : (m : ℕ → ℕ) (line : ℕ) (w : Weighted) (p : Pick) (o : Option Other)
-    → Some (pick_of p) ≡ own_pick w → o ≡ other_at (m p.number) p.others.now
-    → edits_by m line (weighted_of p.base.now) o ≡ edits m w line
+pub pick_edits : (m : ℕ → ℕ) (line : ℕ) (w : Weighted) (p : Pick) (o : Option Member)
+    → Some (pick_of p) ≡ own_pick w → o ≡ other_at (m (pick_of p).number) (others_seen p)
+    → edits_by m line (pick_of p).base o ≡ edits m w line
 pick_edits m line (plainly k ws) p o h e = cc
 pick_edits m line (pick number base os) p o h e =
     let same : pick_of p ≡ record { number = number; base = base; others = os } = cc in
-    let n : p.number ≡ number = ap (λ q. q.number) same in
-    let b : weighted_of p.base.now ≡ base = ap (λ q. q.base) same in
-    let a : members (map member_seen p.others.now) ≡ os = ap (λ q. q.others) same in
-    rw (← n, ← b, ← a)
-    (sym (edits_chosen m line (weighted_of p.base.now) p.others.now (m p.number) o e))
+    sym (edits_chosen m line (pick_of p).base (others_seen p) (m (pick_of p).number) o e)
+    ∙ ap (λ q. chosen (m q.number) (edits m q.base line)
+    (other_edits m q.others line (base_of q.base))) same
 
-picks_at : (m : ℕ → ℕ) (number : ℕ) (base : Weighted) (os : List Other) (i : ℕ)
-    (o : Option Other) → o ≡ slice_get os i
-    → chosen (suc i) (edited_picks m base) (other_picks m (members (map member_seen os)) number)
+picks_at : (m : ℕ → ℕ) (number : ℕ) (base : Weighted) (ms : List Member) (i : ℕ)
+    (o : Option Member) → o ≡ slice_get ms i
+    → chosen (suc i) (edited_picks m base) (other_picks m (members ms) number)
     ≡ picks_by m number base o
 picks_at m number base [] i o h = rw h refl
-picks_at m number base (x ∷ os) zero o h =
-    rw h (ap (λ y. number ∷ edited_picks m y.tree) (member_is x))
-picks_at m number base (x ∷ os) (suc i) o h = picks_at m number base os i o h
+picks_at m number base (x ∷ ms) zero o h = rw h refl
+picks_at m number base (x ∷ ms) (suc i) o h = picks_at m number base ms i o h
 
-picks_chosen : (m : ℕ → ℕ) (number : ℕ) (base : Weighted) (os : List Other) (k : ℕ)
-    (o : Option Other) → o ≡ other_at k os
-    → chosen k (edited_picks m base) (other_picks m (members (map member_seen os)) number)
+picks_chosen : (m : ℕ → ℕ) (number : ℕ) (base : Weighted) (ms : List Member) (k : ℕ)
+    (o : Option Member) → o ≡ other_at k ms
+    → chosen k (edited_picks m base) (other_picks m (members ms) number)
     ≡ picks_by m number base o
-picks_chosen m number base os zero o h = rw h refl
-picks_chosen m number base os (suc i) o h = picks_at m number base os i o h
+picks_chosen m number base ms zero o h = rw h refl
+picks_chosen m number base ms (suc i) o h = picks_at m number base ms i o h
 
-pub pick_picks : (m : ℕ → ℕ) (w : Weighted) (p : Pick) (o : Option Other)
-    → Some (pick_of p) ≡ own_pick w → o ≡ other_at (m p.number) p.others.now
-    → picks_by m p.number (weighted_of p.base.now) o ≡ edited_picks m w
+pub pick_picks : (m : ℕ → ℕ) (w : Weighted) (p : Pick) (o : Option Member)
+    → Some (pick_of p) ≡ own_pick w → o ≡ other_at (m (pick_of p).number) (others_seen p)
+    → picks_by m (pick_of p).number (pick_of p).base o ≡ edited_picks m w
 pick_picks m (plainly k ws) p o h e = cc
 pick_picks m (pick number base os) p o h e =
     let same : pick_of p ≡ record { number = number; base = base; others = os } = cc in
-    let n : p.number ≡ number = ap (λ q. q.number) same in
-    let b : weighted_of p.base.now ≡ base = ap (λ q. q.base) same in
-    let a : members (map member_seen p.others.now) ≡ os = ap (λ q. q.others) same in
-    rw (← n, ← b, ← a)
-    (sym (picks_chosen m p.number (weighted_of p.base.now) p.others.now (m p.number) o e))
+    sym (picks_chosen m (pick_of p).number (pick_of p).base (others_seen p)
+    (m (pick_of p).number) o e)
+    ∙ ap (λ q. chosen (m q.number) (edited_picks m q.base) (other_picks m q.others q.number)) same
 
 -- with no pick named each pick is its base
 mutual

@@ -1,17 +1,17 @@
 -- Which members a tree has, by its children.
 use Rattle.std.proofs.Common.{◌≡◌, ℕ, suc, Bool, true, false, ◌||◌, ◌&&◌, ◌==◌, nat_le, List, []}
-use Rattle.std.proofs.Common.{◌∷◌, map, drop, length, slice_get, Some, None, refl, sym, ap, ◌∙◌}
+use Rattle.std.proofs.Common.{◌∷◌, drop, length, slice_get, Some, None, refl, sym, ap, ◌∙◌}
 use Rattle.choice_tree.specs.declared.node.Pick.{Pick}
-use Rattle.choice_tree.specs.declared.tree.Other.{Other}
 use Rattle.choice_tree.specs.WeightedTrees.{Weighted, Weighteds, Others, plainly, pick, no_weighted}
 use Rattle.choice_tree.specs.WeightedTrees.{weighted_and, no_others, other_and, children, listed}
 use Rattle.choice_tree.specs.WeightedTrees.{other_trees}
-use Rattle.choice_tree.specs.WeightedViews.{members, member_seen}
+use Rattle.choice_tree.specs.WeightedViews.{Member, members}
 use Rattle.choice_tree.specs.Selections.{has_member, any_has_member, other_has_member, any_of}
 use Rattle.choice_tree.specs.Selections.{fits_from}
 use Rattle.std.proofs.lemmas.Bool.{leb-true, le-leb}
 use Rattle.choice_tree.specs.Selections.{count_others}
 use Rattle.choice_tree.specs.NodeViews.{own_pick, pick_of}
+use Rattle.choice_tree.specs.PickViews.{others_seen}
 use Rattle.choice_tree.specs.declared.selection.Choice.{Choice}
 use Rattle.choice_tree.specs.Choices.{Rises, NamesBy}
 use Rattle.choice_tree.proofs.Walking.{next_of, no_next}
@@ -48,20 +48,20 @@ or_nested : (a b c : Bool) → a || (b || c) ≡ (a || b) || c
 or_nested true b c = refl
 or_nested false b c = refl
 
-pub counted : (os : List Other) → count_others (members (map member_seen os)) ≡ length os
+pub counted : (ms : List Member) → count_others (members ms) ≡ length ms
 counted [] = refl
-counted (o ∷ os) = ap suc (counted os)
+counted (m ∷ ms) = ap suc (counted ms)
 
 pub pick_has : (p i : ℕ) (w : Weighted) (q : Pick) → Some (pick_of q) ≡ own_pick w
-    → (((q.number == p) && nat_le i (length q.others.now))
+    → ((((pick_of q).number == p) && nat_le i (length (others_seen q)))
     || any_of (λ w. has_member w p i) (children w)) ≡ has_member w p i
 pick_has p i (plainly k ws) q h = cc
 pick_has p i (pick number base os) q h =
     let same : pick_of q ≡ record { number = number; base = base; others = os } = cc in
-    let n : q.number ≡ number = ap (λ r. r.number) same in
-    let a : members (map member_seen q.others.now) ≡ os = ap (λ r. r.others) same in
-    let c : length q.others.now ≡ count_others os =
-    sym (counted q.others.now) ∙ ap count_others a in
+    let n : (pick_of q).number ≡ number = ap (λ r. r.number) same in
+    let a : members (others_seen q) ≡ os = ap (λ r. r.others) same in
+    let c : length (others_seen q) ≡ count_others os =
+    sym (counted (others_seen q)) ∙ ap count_others a in
     rw (n, c, any_others p i os)
     (or_nested ((number == p) && nat_le i (count_others os)) (has_member base p i)
     (other_has_member os p i))

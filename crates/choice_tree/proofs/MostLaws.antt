@@ -1,17 +1,14 @@
 -- The greatest cost, from those of the children.
-use Rattle.std.proofs.Common.{◌≡◌, ℕ, zero, suc, ◌+◌, ◌≤◌, ◌<◌, max, List, [], ◌∷◌, map, drop}
-use Rattle.std.proofs.Common.{length}
-use Rattle.std.proofs.Common.{get_or, Some, None, refl, ap, arith}
+use Rattle.std.proofs.Common.{◌≡◌, ℕ, zero, suc, ◌+◌, ◌≤◌, max, List, [], ◌∷◌, drop, slice_get}
+use Rattle.std.proofs.Common.{Some, None, option_map, refl, sym, ap, arith}
 use Rattle.choice_tree.specs.declared.node.Pick.{Pick}
-use Rattle.choice_tree.specs.declared.tree.Other.{Other}
 use Rattle.choice_tree.specs.WeightedTrees.{Weighted, Weighteds, plainly, pick, no_weighted}
 use Rattle.choice_tree.specs.WeightedTrees.{weighted_and, children, listed, nodes, nodes_in_others}
-use Rattle.choice_tree.specs.WeightedViews.{weighted_of, members, member_seen}
+use Rattle.choice_tree.specs.WeightedViews.{Member, members}
 use Rattle.choice_tree.specs.Selections.{most_cost, most_costs, other_most_cost}
 use Rattle.choice_tree.specs.Costs.{sum_of, all_costs, all_costs_in, all_other_costs}
 use Rattle.choice_tree.specs.WeightedTrees.{Others, no_others, other_and}
 use Rattle.choice_tree.specs.NodeViews.{own_pick, pick_of}
-use Rattle.choice_tree.proofs.Opening.{member_is}
 
 most_sum : (ws : Weighteds) → most_costs ws ≡ sum_of most_cost (listed ws)
 most_sum no_weighted = refl
@@ -23,46 +20,32 @@ most_of_parts (plainly k ws) h = most_sum ws
 most_of_parts (pick number base os) h = cc
 
 pub most_of_pick : (w : Weighted) (p : Pick) → Some (pick_of p) ≡ own_pick w
-    → most_cost w ≡ max (most_cost (weighted_of p.base.now))
-    (other_most_cost (members (map member_seen p.others.now)))
+    → most_cost w ≡ max (most_cost (pick_of p).base) (other_most_cost (pick_of p).others)
 most_of_pick (plainly k ws) p h = cc
 most_of_pick (pick number base os) p h =
     let same : pick_of p ≡ record { number = number; base = base; others = os } = cc in
-    let b : weighted_of p.base.now ≡ base = ap (λ q. q.base) same in
-    let a : members (map member_seen p.others.now) ≡ os = ap (λ q. q.others) same in
-    rw (b, a) refl
+    ap (λ q. max (most_cost q.base) (other_most_cost q.others)) (sym same)
 
 -- a pick has more nodes than its base and its other members
 pub inside_pick : (w : Weighted) (p : Pick) → Some (pick_of p) ≡ own_pick w
-    → nodes w ≡ suc (nodes (weighted_of p.base.now)
-    + nodes_in_others (members (map member_seen p.others.now)))
+    → nodes w ≡ suc (nodes (pick_of p).base + nodes_in_others (pick_of p).others)
 inside_pick (plainly k ws) p h = cc
 inside_pick (pick number base os) p h =
     let same : pick_of p ≡ record { number = number; base = base; others = os } = cc in
-    let b : weighted_of p.base.now ≡ base = ap (λ q. q.base) same in
-    let a : members (map member_seen p.others.now) ≡ os = ap (λ q. q.others) same in
-    rw (b, a) refl
+    ap (λ q. suc (nodes q.base + nodes_in_others q.others)) (sym same)
 
 -- the member at a place, and those behind it
-pub most_next : (os : List Other) (i j : ℕ) (d : Other) → i < length os → j ≡ suc i
-    → d ≡ get_or os i d
-    → other_most_cost (members (map member_seen (drop i os)))
-    ≡ max (d.cost + most_cost (weighted_of d.tree))
-    (other_most_cost (members (map member_seen (drop j os))))
-most_next [] i j d h e g = absurd (omega arith)
-most_next (o ∷ os) zero j d h e g =
-    let same : d ≡ o = g in
-    rw (e, same, member_is o) refl
-most_next (o ∷ os) (suc i) j d h e g = rw e (most_next os i (suc i) d (omega arith) refl g)
-
-pub member_smaller : (os : List Other) (i : ℕ) (d : Other) → i < length os → d ≡ get_or os i d
-    → nodes (weighted_of d.tree) ≤ nodes_in_others (members (map member_seen os))
-member_smaller [] i d h g = absurd (omega arith)
-member_smaller (o ∷ os) zero d h g =
-    let same : d ≡ o = g in
-    rw (same, member_is o) (omega arith)
-member_smaller (o ∷ os) (suc i) d h g =
-    let r = member_smaller os i d (omega arith) g in omega (arith, r)
+pub most_next : (ms : List Member) (i j c : ℕ) (x : Weighted) → j ≡ suc i
+    → Some c ≡ option_map (λ m. m.cost) (slice_get ms i)
+    → Some x ≡ option_map (λ m. m.tree) (slice_get ms i)
+    → other_most_cost (members (drop i ms))
+    ≡ max (c + most_cost x) (other_most_cost (members (drop j ms)))
+most_next [] i j c x e h k = cc
+most_next (m ∷ ms) zero j c x e h k =
+    let a : c ≡ m.cost = cc in
+    let b : x ≡ m.tree = cc in
+    rw (e, a, b) refl
+most_next (m ∷ ms) (suc i) j c x e h k = rw e (most_next ms i (suc i) c x refl h k)
 
 mutual
   pub most_within : (w : Weighted) → most_cost w ≤ all_costs w

@@ -1,11 +1,11 @@
 -- The element at a place of a list of trees.
-use Rattle.std.proofs.Common.{◌≡◌, ℕ, zero, suc, ◌-◌, ◌≤◌, List, [], ◌∷◌, map, length, slice_get}
-use Rattle.std.proofs.Common.{Option, Some, None, option_map, sym, ap, ◌∙◌, arith}
+use Rattle.std.proofs.Common.{◌≡◌, ℕ, zero, suc, ◌-◌, ◌<◌, ◌≤◌, List, [], ◌∷◌, map, length}
+use Rattle.std.proofs.Common.{get_or, slice_get, Option, Some, None, option_map, sym, ap, ◌∙◌, arith}
 use Rattle.choice_tree.specs.declared.tree.Other.{Other}
 use Rattle.choice_tree.specs.WeightedTrees.{Weighted, Weighteds, listed, other_trees}
 use Rattle.choice_tree.specs.WeightedViews.{weighted_of, weighteds, members, member_seen}
 use Rattle.choice_tree.specs.StatementViews.{arms_before}
-use Rattle.choice_tree.proofs.Opening.{tree_of_member}
+use Rattle.choice_tree.proofs.Opening.{member_is, tree_of_member}
 
 pub listed_at : {X : Type 0} (f : X → Weighted) (xs : List X) (i : ℕ) (o : Option X)
     → o ≡ slice_get xs i → option_map f o ≡ slice_get (listed (weighteds (map f xs))) i
@@ -20,6 +20,17 @@ tree_at [] i o h = ap (option_map (λ x. weighted_of x.tree)) h
 tree_at (x ∷ xs) zero o h =
     ap (option_map (λ x. weighted_of x.tree)) h ∙ ap Some (sym (tree_of_member x))
 tree_at (x ∷ xs) (suc i) o h = tree_at xs i o h
+
+-- a member of a pick, as it is seen
+pub seen_at : (xs : List Other) (i : ℕ) (d : Other) → i < length (map member_seen xs)
+    → Some (record {
+      rule = (get_or xs i d).rule;
+      cost = (get_or xs i d).cost;
+      tree = weighted_of (get_or xs i d).tree;
+    }) ≡ slice_get (map member_seen xs) i
+seen_at [] i d h = absurd (omega arith)
+seen_at (x ∷ xs) zero d h = ap Some (sym (member_is x))
+seen_at (x ∷ xs) (suc i) d h = seen_at xs i d (omega arith)
 
 -- an arm, and what stands behind the arms
 pub arm_there : {X : Type 0} (f : X → Weighted) (xs : List X) (ws : Weighteds) (i : ℕ) (x : X)

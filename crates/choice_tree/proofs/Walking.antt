@@ -1,17 +1,16 @@
 -- A walk over the children of a node.
-use Rattle.std.proofs.Common.{◌≡◌, ℕ, zero, suc, ◌+◌, ◌<◌, ◌≤◌, List, [], ◌∷◌, map, drop, length}
+use Rattle.std.proofs.Common.{◌≡◌, ℕ, zero, suc, ◌+◌, ◌<◌, ◌≤◌, List, [], ◌∷◌, drop, length}
 use Rattle.std.proofs.Common.{slice_get}
-use Rattle.std.proofs.Common.{Some, None, refl, sym, ap, arith}
+use Rattle.std.proofs.Common.{Some, None, option_map, refl, ap, ◌∙◌, arith}
 use Rattle.choice_tree.specs.WeightedTrees.{Weighted, Weighteds, Others, plainly, pick, no_weighted}
 use Rattle.choice_tree.specs.WeightedTrees.{weighted_and, no_others, other_and, children, listed}
 use Rattle.choice_tree.specs.WeightedTrees.{other_trees, nodes, nodes_in, nodes_in_others}
-use Rattle.choice_tree.specs.Selections.{cost, costs, other_at}
+use Rattle.choice_tree.specs.Selections.{cost, costs}
 use Rattle.choice_tree.specs.Costs.{sum_of}
 use Rattle.choice_tree.specs.declared.node.Pick.{Pick}
-use Rattle.choice_tree.specs.declared.tree.Other.{Other}
 use Rattle.choice_tree.specs.NodeViews.{own_pick, pick_of}
-use Rattle.choice_tree.specs.WeightedViews.{weighted_of, members, member_seen}
-use Rattle.choice_tree.proofs.Opening.{tree_of_member}
+use Rattle.choice_tree.specs.PickViews.{others_seen}
+use Rattle.choice_tree.specs.WeightedViews.{Member, members}
 
 -- the child at a place, and those behind it
 pub next_of : {X : Type 0} (xs : List X) (i : ℕ) (x : X) → Some x ≡ slice_get xs i
@@ -66,34 +65,24 @@ parts_cost m (plainly k ws) h = costs_sum m ws
 parts_cost m (pick number base os) h = cc
 
 -- the base of a pick, and the tree of a member, are children
-pub base_smaller : (w : Weighted) (p : Pick) → Some (pick_of p) ≡ own_pick w
-    → nodes (weighted_of p.base.now) < nodes w
-base_smaller (plainly k ws) p h = cc
-base_smaller (pick number base os) p h =
+pub base_smaller : (w x : Weighted) (p : Pick) → Some (pick_of p) ≡ own_pick w
+    → x ≡ (pick_of p).base → nodes x < nodes w
+base_smaller (plainly k ws) x p h e = cc
+base_smaller (pick number base os) x p h e =
     let same : pick_of p ≡ record { number = number; base = base; others = os } = cc in
-    let b : weighted_of p.base.now ≡ base = ap (λ q. q.base) same in
+    let b : x ≡ base = e ∙ ap (λ q. q.base) same in
     rw b (omega arith)
 
-tree_in : (os : List Other) (i : ℕ) (o : Other) → Some o ≡ slice_get os i
-    → nodes (weighted_of o.tree) ≤ nodes_in_others (members (map member_seen os))
-tree_in [] i o h = cc
-tree_in (x ∷ os) zero o h =
-    let e : o ≡ x = cc in
-    let t : nodes (weighted_of x.tree) ≡ nodes (member_seen x).tree =
-    ap nodes (sym (tree_of_member x)) in
-    rw e (omega (arith, t))
-tree_in (x ∷ os) (suc i) o h = let r = tree_in os i o h in omega arith
+pub member_smaller : (ms : List Member) (i : ℕ) (x : Weighted)
+    → Some x ≡ option_map (λ m. m.tree) (slice_get ms i) → nodes x ≤ nodes_in_others (members ms)
+member_smaller [] i x h = cc
+member_smaller (m ∷ ms) zero x h = let e : x ≡ m.tree = cc in rw e (omega arith)
+member_smaller (m ∷ ms) (suc i) x h = let r = member_smaller ms i x h in omega arith
 
-tree_chosen : (os : List Other) (k : ℕ) (o : Other) → Some o ≡ other_at k os
-    → nodes (weighted_of o.tree) ≤ nodes_in_others (members (map member_seen os))
-tree_chosen os zero o h = cc
-tree_chosen os (suc i) o h = tree_in os i o h
-
-pub other_smaller : (w : Weighted) (p : Pick) (k : ℕ) (o : Other)
-    → Some (pick_of p) ≡ own_pick w → Some o ≡ other_at k p.others.now
-    → nodes (weighted_of o.tree) < nodes w
-other_smaller (plainly k ws) p i o h e = cc
-other_smaller (pick number base os) p i o h e =
+pub other_smaller : (w x : Weighted) (p : Pick) (i : ℕ) → Some (pick_of p) ≡ own_pick w
+    → Some x ≡ option_map (λ m. m.tree) (slice_get (others_seen p) i) → nodes x < nodes w
+other_smaller (plainly k ws) x p i h e = cc
+other_smaller (pick number base os) x p i h e =
     let same : pick_of p ≡ record { number = number; base = base; others = os } = cc in
-    let a : members (map member_seen p.others.now) ≡ os = ap (λ q. q.others) same in
-    let r = rw a at (tree_chosen p.others.now i o e) in omega (arith, r)
+    let a : members (others_seen p) ≡ os = ap (λ q. q.others) same in
+    let r = rw a at (member_smaller (others_seen p) i x e) in omega (arith, r)

@@ -7,6 +7,7 @@ pub mod Growing
 pub mod Heads
 pub mod Matching
 pub mod NodeViews
+pub mod PickViews
 pub mod Rewriting
 pub mod RuleViews
 pub mod Selections

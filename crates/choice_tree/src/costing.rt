@@ -26,11 +26,9 @@ fn capped_cost(node: Node<'_>, s: &Selection) -> u32
 {
     match node.pick() {
         None => parts_cost(node, s),
-        Some(pick) => match pick.other(s) {
-            None => capped_cost(Node::Expr(pick.base), s),
-            Some(other) => other
-                .cost
-                .saturating_add(capped_cost(Node::Expr(&other.tree), s)),
+        Some(pick) => match pick.chosen(s) {
+            None => capped_cost(pick.base(), s),
+            Some(i) => pick.cost(i).saturating_add(capped_cost(pick.tree(i), s)),
         },
     }
 }

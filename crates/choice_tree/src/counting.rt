@@ -1,10 +1,10 @@
 //! The greatest cost of a tree, and the number of its choices.
-ghost use Rattle.std.specs.Prelude.{◌≡◌, ◌<◌, ◌≤◌, ◌^◌, ◌+◌, ◌*◌, suc, max, map, length};
+ghost use Rattle.std.specs.Prelude.{◌≡◌, ◌<◌, ◌≤◌, ◌^◌, ◌+◌, ◌*◌, suc, max, length};
 ghost use Rattle.choice_tree.specs.Selections.{most_cost, other_most_cost, choices, stopped};
 ghost use Rattle.choice_tree.specs.Costs.{capped, all_costs, sum_of, product_of};
 ghost use Rattle.choice_tree.specs.WeightedTrees.{children};
-ghost use Rattle.choice_tree.specs.NodeViews.{node_of};
-ghost use Rattle.choice_tree.specs.WeightedViews.{weighted_of, members, member_seen};
+ghost use Rattle.choice_tree.specs.NodeViews.{node_of, pick_of};
+ghost use Rattle.choice_tree.specs.PickViews.{others_seen};
 ghost use Rattle.choice_tree.specs.StatementViews.{weighted_prog};
 
 use crate::node::{Node, Pick};
@@ -34,11 +34,9 @@ fn stopped_choices(node: Node<'_>) -> u64
 
 // How many members a pick has, the base among them.
 fn members_of(pick: Pick<'_>) -> u64
-    ensures { result ≡ stopped (suc (length pick.entry.others.now)) }
+    ensures { result ≡ stopped (suc (length (others_seen pick.entry))) }
 {
-    (pick.others.len() as u64)
-        .saturating_add(1)
-        .min(MOST_CHOICES)
+    (pick.len() as u64).saturating_add(1).min(MOST_CHOICES)
 }
 
 // A number of choices, and those of all children.
@@ -99,14 +97,12 @@ fn parts_most(node: Node<'_>) -> u32
 // The greatest of the members of a pick.
 #[cycle(most_cost)]
 fn pick_most(pick: Pick<'_>) -> u32
-    ensures { result ≡ capped (max (most_cost (weighted_of pick.entry.base.now))
-        (other_most_cost (members (map member_seen pick.entry.others.now)))) }
+    ensures { result ≡ capped (max (most_cost (pick_of pick.entry).base)
+        (other_most_cost (pick_of pick.entry).others)) }
 {
-    let mut most = capped_most(Node::Expr(pick.base));
-    for other in pick.others {
-        let cost = other
-            .cost
-            .saturating_add(capped_most(Node::Expr(&other.tree)));
+    let mut most = capped_most(pick.base());
+    for i in 0..pick.len() {
+        let cost = pick.cost(i).saturating_add(capped_most(pick.tree(i)));
         most = most.max(cost);
     }
     most

@@ -47,19 +47,19 @@ fn push_edits(
 {
     match node.pick() {
         None => push_parts(alloc, node, node.line_below(line), s, out),
-        Some(pick) => match pick.other(s) {
-            None => push_edits(alloc, Node::Expr(pick.base), line, s, out),
-            Some(other) => {
-                let old = base_expr(alloc, pick.base)?;
-                let new = plain_expr(alloc, &other.tree, s)?;
+        Some(pick) => match pick.chosen(s) {
+            None => push_edits(alloc, pick.base(), line, s, out),
+            Some(i) => {
+                let old = base_expr(alloc, pick.base_as_expr())?;
+                let new = plain_expr(alloc, pick.tree_as_expr(i), s)?;
                 out.push(Edit {
-                    pick: pick.number,
+                    pick: pick.number(),
                     line,
-                    rule: other.rule,
+                    rule: pick.rule(i),
                     old,
                     new,
                 })?;
-                push_edits(alloc, Node::Expr(&other.tree), line, s, out)
+                push_edits(alloc, pick.tree(i), line, s, out)
             }
         },
     }

@@ -2,7 +2,8 @@
 ghost use Rattle.std.specs.Prelude.{◌≡◌, ◌↔◌, true, ◌==◌, ◌&&◌, nat_le, length};
 ghost use Rattle.choice_tree.specs.Selections.{Fits, fits_from, has_member, any_of};
 ghost use Rattle.choice_tree.specs.WeightedTrees.{children};
-ghost use Rattle.choice_tree.specs.NodeViews.{node_of};
+ghost use Rattle.choice_tree.specs.NodeViews.{node_of, pick_of};
+ghost use Rattle.choice_tree.specs.PickViews.{others_seen};
 ghost use Rattle.choice_tree.specs.StatementViews.{weighted_prog};
 
 use crate::node::{Node, Pick};
@@ -53,10 +54,10 @@ fn has_member(node: Node<'_>, choice: Choice) -> bool
 
 // Whether the pick itself has this number and this member.
 fn own_member(pick: Pick<'_>, choice: Choice) -> bool
-    ensures { result ≡ (pick.entry.number == choice.pick) && nat_le choice.member (length
-        pick.entry.others.now) }
+    ensures { result ≡ ((pick_of pick.entry).number == choice.pick) && nat_le choice.member
+        (length (others_seen pick.entry)) }
 {
-    pick.number == choice.pick && choice.member as usize <= pick.others.len()
+    pick.number() == choice.pick && choice.member as usize <= pick.len()
 }
 
 // The same of a child.

@@ -1,11 +1,12 @@
 //! Nodes of weighted programs, of whatever sort: a walk sees its children, and no sort of them.
 ghost use Rattle.std.specs.Prelude.{◌≡◌, ◌≤◌, ◌<◌, ◌^◌, IsSome, ◌∷◌, [], ℕ, map, slice_get};
-ghost use Rattle.std.specs.Prelude.{option_map};
+ghost use Rattle.std.specs.Prelude.{option_map, length, suc, Some, None, IfSome, IfNone};
 ghost use Rattle.choice_tree.specs.WeightedTrees.{children, listed, other_trees, no_weighted};
 ghost use Rattle.choice_tree.specs.Choices.{member_of};
 ghost use Rattle.choice_tree.specs.Selections.{other_at};
 ghost use Rattle.choice_tree.specs.EditViews.{parts_line};
 ghost use Rattle.choice_tree.specs.NodeViews.{node_of, expr_of, pick_of, own_pick};
+ghost use Rattle.choice_tree.specs.PickViews.{others_seen};
 ghost use Rattle.choice_tree.specs.WeightedViews.{weighted_of, weighteds, end_and, members};
 ghost use Rattle.choice_tree.specs.WeightedViews.{member_seen};
 ghost use Rattle.choice_tree.specs.StatementViews.{weighted_act, weighted_arm, weighted_body};
@@ -29,21 +30,86 @@ pub enum Node<'a> {
 /// A pick: its number, its base, and its members besides the base.
 #[derive(Clone, Copy, Drop)]
 pub struct Pick<'a> {
-    pub number: u32,
-    pub base: &'a WExpr,
-    pub others: &'a [Other],
+    number: u32,
+    base: &'a WExpr,
+    others: &'a [Other],
 }
 
 impl<'a> Pick<'a> {
-    /// The member besides the base that a selection chooses, if it chooses one.
-    pub fn other(self, s: &Selection) -> Option<&'a Other>
-        ensures { option_map (λ r. r.now) result ≡ other_at (member_of s.now self.entry.number)
-            self.entry.others.now }
+    /// Its number.
+    pub fn number(self) -> u32
+        ensures { result ≡ (pick_of self.entry).number }
     {
-        match s.member(self.number) {
-            0 => None,
-            member => at(self.others, member as u128 - 1),
+        self.number
+    }
+
+    /// Its base.
+    pub fn base(self) -> Node<'a>
+        ensures { node_of result ≡ (pick_of self.entry).base }
+    {
+        Node::Expr(self.base)
+    }
+
+    /// How many members it has besides its base.
+    pub fn len(self) -> usize
+        ensures { result ≡ length (others_seen self.entry) }
+    {
+        self.others.len()
+    }
+
+    /// The rule of a member besides the base.
+    pub fn rule(self, i: usize) -> u32
+        requires { i < length (others_seen self) }
+        ensures { Some result ≡ option_map (λ m. m.rule) (slice_get (others_seen self.entry) i) }
+    {
+        self.others[i].rule
+    }
+
+    /// The cost of a member besides the base, without that of its tree.
+    pub fn cost(self, i: usize) -> u32
+        requires { i < length (others_seen self) }
+        ensures { Some result ≡ option_map (λ m. m.cost) (slice_get (others_seen self.entry) i) }
+    {
+        self.others[i].cost
+    }
+
+    /// The tree of a member besides the base.
+    pub fn tree(self, i: usize) -> Node<'a>
+        requires { i < length (others_seen self) }
+        ensures { Some (node_of result) ≡ option_map (λ m. m.tree) (slice_get (others_seen
+            self.entry) i) }
+    {
+        Node::Expr(self.tree_as_expr(i))
+    }
+
+    /// Which member besides the base a selection chooses, if it chooses one.
+    pub fn chosen(self, s: &Selection) -> Option<usize>
+        ensures is { IfSome result (λ i. member_of s.now (pick_of self.entry).number ≡ suc i) }
+        ensures within { IfSome result (λ i. i < length (others_seen self.entry)) }
+        ensures none { IfNone result (None ≡ other_at (member_of s.now (pick_of self.entry).number)
+            (others_seen self.entry)) }
+    {
+        let member = s.member(self.number) as usize;
+        if member == 0 || member > self.others.len() {
+            None
+        } else {
+            Some(member - 1)
         }
+    }
+
+    // The same trees where expressions are made of them.
+    pub(crate) fn base_as_expr(self) -> &'a WExpr
+        ensures { expr_of result ≡ (pick_of self.entry).base }
+    {
+        self.base
+    }
+
+    pub(crate) fn tree_as_expr(self, i: usize) -> &'a WExpr
+        requires { i < length (others_seen self) }
+        ensures { Some (expr_of result) ≡ option_map (λ m. m.tree) (slice_get (others_seen
+            self.entry) i) }
+    {
+        &self.others[i].tree
     }
 }
 

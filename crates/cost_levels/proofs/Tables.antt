@@ -1,6 +1,6 @@
 -- Tables that grow row by row.
 use Rattle.std.proofs.Common.{◌≡◌, ℕ, zero, suc, ◌<◌, ◌≤◌, ◌^◌, List, [], ◌∷◌, ◌++◌, length}
-use Rattle.std.proofs.Common.{map, slice_get, Some, None, refl, sym, ap, ◌∙◌, subst, arith}
+use Rattle.std.proofs.Common.{take, slice_get, Option, Some, None, option_map, refl, sym, ap, ◌∙◌, subst, arith}
 use Rattle.std.proofs.Common.{append_assoc, length-append}
 use Rattle.std.proofs.lemmas.List.{append-nil}
 use Rattle.std.proofs.lemmas.Option.{slice_get_within}
@@ -8,7 +8,7 @@ use Rattle.choice_tree.specs.declared.node.Pick.{Pick}
 use Rattle.choice_tree.specs.NodeViews.{own_pick, pick_of}
 use Rattle.choice_tree.specs.WeightedTrees.{Weighted, Weighteds, plainly, pick, no_weighted}
 use Rattle.choice_tree.specs.WeightedTrees.{weighted_and, children, listed}
-use Rattle.choice_tree.specs.WeightedViews.{Member, weighted_of, members, member_seen}
+use Rattle.choice_tree.specs.WeightedViews.{Member, members}
 use Rattle.cost_levels.specs.declared.rows.Row.{Row}
 use Rattle.cost_levels.specs.declared.rows.Way.{Way}
 use Rattle.cost_levels.specs.Plans.{Plan, Ways, done, at_pick, no_ways, way_and, planned}
@@ -68,6 +68,26 @@ shows_within (at_pick number base ws) rows entry h =
     let is = r.is in
     omega (arith, below, is)
 
+-- a member, by its cost and its tree
+pub member_read : (o : Option Member) (c : ℕ) (x : Weighted) → Some c ≡ option_map (λ m. m.cost) o
+    → Some x ≡ option_map (λ m. m.tree) o
+    → (rule : ℕ) × (Some (record { rule = rule; cost = c; tree = x }) ≡ o)
+member_read None c x h k = cc
+member_read (Some m) c x h k =
+    let cost : c ≡ m.cost = cc in
+    let tree : x ≡ m.tree = cc in
+    (m.rule, λ i. Some (record { rule = m.rule; cost = cost i; tree = tree i }))
+
+take_next : {X : Type 0} (xs : List X) (i : ℕ) (x : X) → Some x ≡ slice_get xs i
+    → take (suc i) xs ≡ take i xs ++ x ∷ []
+take_next [] i x h = cc
+take_next (y ∷ xs) zero x h = let e : y ≡ x = cc in ap (λ z. z ∷ []) e
+take_next (y ∷ xs) (suc i) x h = ap (λ zs. y ∷ zs) (take_next xs i x h)
+
+pub take_more : {X : Type 0} (xs : List X) (i j : ℕ) (x : X) → j ≡ suc i
+    → Some x ≡ slice_get xs i → take j xs ≡ take i xs ++ x ∷ []
+take_more xs i j x e h = ap (λ n. take n xs) e ∙ take_next xs i x h
+
 -- one member more
 pub ways_push : (ms : List Member) (m : Member) (p : Plan) (rows : List Row) (most : ℕ)
     (vs : List Way) (v : Way) → ShowWays rows most vs (ways_by (members ms) p) → v.cost ≡ m.cost
@@ -112,8 +132,8 @@ parts_planned (plainly k ws) p h = each_planned ws p
 parts_planned (pick number base os) p h = cc
 
 pub pick_planned : (w : Weighted) (p : Plan) (q : Pick) → Some (pick_of q) ≡ own_pick w
-    → at_pick q.number (planned (weighted_of q.base.now) p)
-    (ways_by (members (map member_seen q.others.now)) p) ≡ planned w p
+    → at_pick (pick_of q).number (planned (pick_of q).base p) (ways_by (pick_of q).others p)
+    ≡ planned w p
 pick_planned (plainly k ws) p q h = cc
 pick_planned (pick number base os) p q h =
     let same : pick_of q ≡ record { number = number; base = base; others = os } = cc in

@@ -1,8 +1,7 @@
 //! The picks of a tree as rows of a table.
-ghost use Rattle.std.specs.Prelude.{◌≡◌, ◌≤◌, ◌<◌, ◌^◌, IfOk, OnOk, length, map};
-ghost use Rattle.choice_tree.specs.NodeViews.{node_of};
+ghost use Rattle.std.specs.Prelude.{◌≡◌, ◌≤◌, ◌<◌, ◌^◌, IfOk, OnOk, length};
+ghost use Rattle.choice_tree.specs.NodeViews.{node_of, pick_of};
 ghost use Rattle.choice_tree.specs.WeightedTrees.{children};
-ghost use Rattle.choice_tree.specs.WeightedViews.{weighted_of, members, member_seen};
 ghost use Rattle.cost_levels.specs.Plans.{Plan, Ways, at_pick, planned, planned_each, ways_by};
 ghost use Rattle.cost_levels.specs.Rows.{Grows, Shows, ShowWays};
 
@@ -92,22 +91,21 @@ fn push_pick(
 ) -> Result<usize, NoMemory>
     ensures grown { OnOk result (Grows rows.old.items rows.new.items) }
     ensures shown { IfOk result (λ e. (p : Plan) → Shows rows.old.items after p
-        → Shows rows.new.items e (at_pick pick.entry.number
-        (planned (weighted_of pick.entry.base.now) p)
-        (ways_by (members (map member_seen pick.entry.others.now)) p))) }
+        → Shows rows.new.items e (at_pick (pick_of pick.entry).number
+        (planned (pick_of pick.entry).base p) (ways_by (pick_of pick.entry).others p))) }
 {
-    let base = push_node(alloc, Node::Expr(pick.base), after, rows)?;
+    let base = push_node(alloc, pick.base(), after, rows)?;
     let mut others = Vec::new(alloc);
-    for other in pick.others {
-        let next = push_node(alloc, Node::Expr(&other.tree), after, rows)?;
+    for i in 0..pick.len() {
+        let next = push_node(alloc, pick.tree(i), after, rows)?;
         others.push(Way {
-            cost: other.cost,
+            cost: pick.cost(i),
             next,
         })?;
     }
     push_row(
         Row {
-            number: pick.number,
+            number: pick.number(),
             base,
             others,
         },

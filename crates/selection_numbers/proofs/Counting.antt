@@ -1,13 +1,14 @@
 -- The picks of a numbered tree, by the numbers of their members.
 use Rattle.std.proofs.Common.{◌≡◌, ℕ, suc, ◌+◌, ◌*◌, Bool, true, false, ◌||◌, ◌&&◌, List, []}
 use Rattle.std.proofs.Common.{◌∷◌, ◌++◌, length, refl, sym, ap, ◌∙◌, arith, length-append}
-use Rattle.std.proofs.Common.{map, Some, None}
+use Rattle.std.proofs.Common.{Some, None}
 use Rattle.std.specs.Prelude.{◌==◌, nat_lt, nat_le}
 use Rattle.std.proofs.lemmas.Bool.Decides.{nat_tests}
 use Rattle.std.proofs.Math.Nat.{mul_assoc}
 use Rattle.choice_tree.specs.declared.node.Pick.{Pick}
 use Rattle.choice_tree.specs.NodeViews.{own_pick, pick_of}
-use Rattle.choice_tree.specs.WeightedViews.{members, member_seen}
+use Rattle.choice_tree.specs.PickViews.{others_seen}
+use Rattle.choice_tree.specs.WeightedViews.{members}
 use Rattle.choice_tree.proofs.FittingLaws.{counted}
 use Rattle.choice_tree.specs.WeightedTrees.{Weighted, Weighteds, Others, plainly, pick, no_weighted}
 use Rattle.choice_tree.specs.WeightedTrees.{weighted_and, no_others, other_and, numbered}
@@ -160,11 +161,11 @@ parts_counts (plainly k ws) h = each_counts ws
 parts_counts (pick number base os) h = cc
 
 pub pick_counts : (w : Weighted) (q : Pick) → Some (pick_of q) ≡ own_pick w
-    → suc (length q.others.now) ∷ counts_of_each (children w) ≡ member_counts w
+    → suc (length (others_seen q)) ∷ counts_of_each (children w) ≡ member_counts w
 pick_counts (plainly k ws) q h = cc
 pick_counts (pick number base os) q h =
     let same : pick_of q ≡ record { number = number; base = base; others = os } = cc in
-    let a : members (map member_seen q.others.now) ≡ os = ap (λ r. r.others) same in
-    let c : length q.others.now ≡ count_others os =
-    sym (counted q.others.now) ∙ ap count_others a in
+    let a : members (others_seen q) ≡ os = ap (λ r. r.others) same in
+    let c : length (others_seen q) ≡ count_others os =
+    sym (counted (others_seen q)) ∙ ap count_others a in
     (λ i. suc (c i) ∷ (member_counts base ++ other_counts os i))

@@ -96,7 +96,7 @@ fn push_counts(node: Node<'_>, out: &mut Vec<usize>) -> Result<(), NoMemory>
     match node.pick() {
         None => push_parts(node, out),
         Some(pick) => {
-            out.push(pick.others.len())?;
+            out.push(pick.len())?;
             push_parts(node, out)
         }
     }

@@ -1,16 +1,15 @@
 -- The cost of a pick, member by member.
 use Rattle.std.proofs.Common.{◌≡◌, ◌∙◌, ℕ, zero, suc, ◌+◌, Bool, true, false, cond, eqb, List, []}
-use Rattle.std.proofs.Common.{◌∷◌, map, take, length, Some, slice_get, refl, sym, ap, subst, arith}
+use Rattle.std.proofs.Common.{◌∷◌, take, length, Some, option_map, slice_get, refl, sym, ap, subst}
+use Rattle.std.proofs.Common.{arith}
 use Rattle.std.proofs.lemmas.Bool.Decides.{nat_tests}
 use Rattle.choice_tree.specs.declared.node.Pick.{Pick}
-use Rattle.choice_tree.specs.declared.tree.Other.{Other}
 use Rattle.choice_tree.specs.WeightedTrees.{Weighted, Weighteds, plainly, pick, no_weighted}
 use Rattle.choice_tree.specs.WeightedTrees.{weighted_and, children, listed, nodes, nodes_in_others}
 use Rattle.choice_tree.specs.WeightedTrees.{picks_in}
-use Rattle.choice_tree.specs.WeightedViews.{weighted_of, members, member_seen}
+use Rattle.choice_tree.specs.WeightedViews.{Member, members}
 use Rattle.choice_tree.specs.Selections.{cost, other_costs, chosen}
 use Rattle.choice_tree.specs.NodeViews.{own_pick, pick_of}
-use Rattle.choice_tree.proofs.Opening.{member_is, tree_of_member}
 use Rattle.sym_nodes.specs.Environments.{OthersHavePicks, HasPicks}
 use Rattle.sym_cost.specs.declared.notation.Notation.{Notation}
 use Rattle.sym_cost.specs.Notations.{HasRoom, Spells}
@@ -24,26 +23,28 @@ pick_is (pick number base os) p h =
     let same : pick_of p ≡ record { number = number; base = base; others = os } = cc in
     sym (ap (λ q. pick q.number q.base q.others) same)
 
-pub pick_nodes : (p : Pick) → nodes (tree_of_pick p) ≡ suc (nodes (weighted_of p.base.now) +
-    nodes_in_others (members (map member_seen p.others.now)))
+pub pick_nodes : (p : Pick)
+    → nodes (tree_of_pick p) ≡ suc (nodes (pick_of p).base + nodes_in_others (pick_of p).others)
 pick_nodes p = refl
 
 -- the costs of the members besides the base
-abbrev pub member_costs : (ℕ → ℕ) → List Other → List ℕ
-member_costs m os = other_costs m (members (map member_seen os))
+abbrev pub member_costs : (ℕ → ℕ) → List Member → List ℕ
+member_costs m os = other_costs m (members os)
 
-pub length_costs : (m : ℕ → ℕ) (os : List Other) → length (member_costs m os) ≡ length os
+pub length_costs : (m : ℕ → ℕ) (os : List Member) → length (member_costs m os) ≡ length os
 length_costs m [] = refl
 length_costs m (o ∷ os) = ap suc (length_costs m os)
 
-pub cost_at : (m : ℕ → ℕ) (os : List Other) (i : ℕ) (o : Other) → slice_get os i ≡ Some o
-    → slice_get (member_costs m os) i ≡ Some (o.cost + cost m (weighted_of o.tree))
-cost_at m [] i o e = absurd cc
-cost_at m (x ∷ os) zero o e =
-    let same : x ≡ o = cc in
-    ap (λ y. Some (y.cost + cost m y.tree)) (member_is x)
-    ∙ ap (λ (y : Other). Some (y.cost + cost m (weighted_of y.tree))) same
-cost_at m (x ∷ os) (suc i) o e = cost_at m os i o e
+pub cost_at : (m : ℕ → ℕ) (os : List Member) (i c : ℕ) (x : Weighted)
+    → Some c ≡ option_map (λ o. o.cost) (slice_get os i)
+    → Some x ≡ option_map (λ o. o.tree) (slice_get os i)
+    → slice_get (member_costs m os) i ≡ Some (c + cost m x)
+cost_at m [] i c x h k = absurd cc
+cost_at m (o ∷ os) zero c x h k =
+    let a : o.cost ≡ c = cc in
+    let b : o.tree ≡ x = cc in
+    (λ i. Some (a i + cost m (b i)))
+cost_at m (o ∷ os) (suc i) c x h k = cost_at m os i c x h k
 
 -- the member that is chosen, of one more
 got_more : (xs : List ℕ) (i k x base : ℕ) → slice_get xs i ≡ Some x
@@ -94,15 +95,14 @@ chosen_spelled form false bits first second whole a b e room f g h =
     (HasRoom form) e room)))
 
 -- a member besides the base: its picks
-pub other_picks : {B : Type 0} (picks : List (List B)) (os : List Other) (i : ℕ) (o : Other)
-    → OthersHavePicks picks (members (map member_seen os)) → slice_get os i ≡ Some o
-    → HasPicks picks (weighted_of o.tree)
-other_picks picks [] i o h e = absurd cc
-other_picks picks (x ∷ os) zero o h e =
-    let same : x ≡ o = cc in
-    subst (λ (y : Other). HasPicks picks (weighted_of y.tree)) same (subst (HasPicks picks)
-    (tree_of_member x) h.0)
-other_picks picks (x ∷ os) (suc i) o h e = other_picks picks os i o h.1 e
+pub other_picks : {B : Type 0} (picks : List (List B)) (os : List Member) (i : ℕ) (x : Weighted)
+    → OthersHavePicks picks (members os) → Some x ≡ option_map (λ o. o.tree) (slice_get os i)
+    → HasPicks picks x
+other_picks picks [] i x h e = absurd cc
+other_picks picks (o ∷ os) zero x h e =
+    let same : o.tree ≡ x = cc in
+    subst (HasPicks picks) same h.0
+other_picks picks (o ∷ os) (suc i) x h e = other_picks picks os i x h.1 e
 
 -- a tree without picks
 part_free : (ws : Weighteds) (x : Weighted) (i : ℕ) → picks_in ws ≡ 0

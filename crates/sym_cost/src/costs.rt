@@ -3,11 +3,10 @@
 ghost use Rattle.std.specs.Prelude.{◌≡◌, ◌+◌, ◌<◌, ◌≤◌, ℕ, Bool, List, None, length, map};
 ghost use Rattle.std.specs.Prelude.{pos, IfOk};
 ghost use Rattle.choice_tree.specs.Costs.{sum_of};
-ghost use Rattle.choice_tree.specs.NodeViews.{node_of};
+ghost use Rattle.choice_tree.specs.NodeViews.{node_of, pick_of};
 ghost use Rattle.choice_tree.specs.Selections.{cost, most_cost};
 ghost use Rattle.choice_tree.specs.StatementViews.{weighted_prog};
 ghost use Rattle.choice_tree.specs.WeightedTrees.{children};
-ghost use Rattle.choice_tree.specs.WeightedViews.{weighted_of, members, member_seen};
 ghost use Rattle.bit_words.specs.Logic.{Extends, OwnsAll};
 ghost use Rattle.bit_words.specs.Results.{IsWordIn};
 ghost use Rattle.bit_words.specs.Words.{int_read};
@@ -22,7 +21,7 @@ use bit_words::NoMemory;
 use bit_words::bits::Bits;
 use bit_words::logic::Logic;
 use bit_words::word::Word;
-use choice_tree::{Node, Other, Pick, WProg};
+use choice_tree::{Node, Pick, WProg};
 use std::alloc::Global;
 use sym_nodes::Picks;
 
@@ -154,9 +153,9 @@ fn pick_cost<L: Logic>(
     notation: Notation,
 ) -> Result<Word<L::Bit>, NoMemory>
     requires owned { OwnsAll L.owns g.old (joined picks.now) }
-    requires numbered { pick.number < length picks.now }
-    requires base { HasPicks picks.now (weighted_of pick.base.now) }
-    requires others { OthersHavePicks picks.now (members (map member_seen pick.others.now)) }
+    requires numbered { (pick_of pick).number < length picks.now }
+    requires base { HasPicks picks.now (pick_of pick).base }
+    requires others { OthersHavePicks picks.now (pick_of pick).others }
     ensures extends { Extends L.owns L.reads L.count g.old g.new }
     ensures made { IfOk result (λ r. IsWordIn L.owns g.new (width_of notation) r) }
     ensures value { IfOk result (λ r. (vs : List Bool) (m : ℕ → ℕ)
@@ -164,13 +163,12 @@ fn pick_cost<L: Logic>(
         → HasRoom notation (cost m (tree_of_pick pick.entry))
         → Spells notation (map (L.reads g.new vs) r) (cost m (tree_of_pick pick.entry))) }
 {
-    let bits = picks.at(pick.number as usize);
+    let bits = picks.at(pick.number() as usize);
     let named = bits.as_slice();
-    let others = pick.others;
-    let base = node_cost(alloc, g, Node::Expr(pick.base), picks, notation)?;
+    let base = node_cost(alloc, g, pick.base(), picks, notation)?;
     let mut chosen = written(alloc, g, notation, base)?;
-    for i in 0..others.len() {
-        let member = other_cost(alloc, g, &others[i], picks, notation)?;
+    for i in 0..pick.len() {
+        let member = other_cost(alloc, g, pick.cost(i), pick.tree(i), picks, notation)?;
         chosen = member_or(alloc, g, named, i + 1, &member, &chosen)?;
     }
     Ok(chosen)
@@ -182,22 +180,22 @@ fn pick_cost<L: Logic>(
 fn other_cost<L: Logic>(
     alloc: Global,
     g: &mut L,
-    other: &Other,
+    own: u32,
+    node: Node<'_>,
     picks: &Picks<L::Bit>,
     notation: Notation,
 ) -> Result<Word<L::Bit>, NoMemory>
     requires owned { OwnsAll L.owns g.old (joined picks.now) }
-    requires numbered { HasPicks picks.now (weighted_of other.now.tree) }
+    requires numbered { HasPicks picks.now (node_of node) }
     ensures extends { Extends L.owns L.reads L.count g.old g.new }
     ensures made { IfOk result (λ r. IsWordIn L.owns g.new (width_of notation) r) }
     ensures value { IfOk result (λ r. (vs : List Bool) (m : ℕ → ℕ)
         → PicksRead (L.reads g.old vs) picks.now m
-        → HasRoom notation (other.now.cost + cost m (weighted_of other.now.tree))
-        → Spells notation (map (L.reads g.new vs) r)
-        (other.now.cost + cost m (weighted_of other.now.tree))) }
+        → HasRoom notation (own + cost m (node_of node.entry))
+        → Spells notation (map (L.reads g.new vs) r) (own + cost m (node_of node.entry))) }
 {
-    let tree = node_cost(alloc, g, Node::Expr(&other.tree), picks, notation)?;
+    let tree = node_cost(alloc, g, node, picks, notation)?;
     let inner = written(alloc, g, notation, tree)?;
-    let cost = raised(alloc, g, notation, other.cost, &inner)?;
+    let cost = raised(alloc, g, notation, own, &inner)?;
     Ok(cost)
 }

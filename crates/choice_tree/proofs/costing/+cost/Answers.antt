@@ -1,21 +1,27 @@
-use Rattle.std.proofs.Common.{◌≡◌, ◌+◌, arith, ap, ◌∙◌, sym, Some, None, drop}
+use Rattle.std.proofs.Common.{◌≡◌, ◌+◌, arith, ap, ◌∙◌, sym, Some, None, drop, slice_get}
 use Rattle.choice_tree.specs.Choices.{member_of}
-use Rattle.choice_tree.specs.Selections.{cost}
+use Rattle.choice_tree.specs.Selections.{cost, other_at}
 use Rattle.choice_tree.specs.Costs.{capped, sum_of}
 use Rattle.choice_tree.specs.WeightedTrees.{children}
-use Rattle.choice_tree.specs.NodeViews.{node_of}
-use Rattle.choice_tree.proofs.CostLaws.{pick_cost}
-use Rattle.choice_tree.proofs.Walking.{child_smaller, other_smaller, is_place}
+use Rattle.choice_tree.specs.NodeViews.{node_of, pick_of}
+use Rattle.choice_tree.specs.PickViews.{others_seen}
+use Rattle.choice_tree.proofs.CostLaws.{cost_read, pick_cost}
+use Rattle.choice_tree.proofs.Walking.{base_smaller, child_smaller, other_smaller, is_place}
 use Rattle.choice_tree.proofs.Walking.{sum_next, no_next, parts_cost}
 use Rattle.choice_tree.proofs.costing.+cost.Goals as goal
 
-pub capped_cost-capped_cost-requires-in-Some-other :
-    goal.capped_cost-capped_cost-requires-in-Some-other
-capped_cost-capped_cost-requires-in-Some-other t c =
+pub capped_cost-capped_cost-requires : goal.capped_cost-capped_cost-requires
+capped_cost-capped_cost-requires t c =
     let less =
-    other_smaller (node_of c.args.node) c.in-Some.pick
-    (member_of c.args.s.now c.in-Some.pick.number) c.in-Some-other.other.now
-    c.in-Some.ensures c.in-Some-other.ensures in
+    base_smaller (node_of c.args.node) (node_of c.base.result) c.in-Some.pick c.in-Some.ensures
+    c.base.ensures in
+    (omega (arith, less), tt)
+
+pub capped_cost-capped_cost-requires-in-Some-chosen : goal.capped_cost-capped_cost-requires-in-Some-chosen
+capped_cost-capped_cost-requires-in-Some-chosen t c =
+    let less =
+    other_smaller (node_of c.args.node) (node_of c.tree.result) c.in-Some.pick c.in-Some-chosen.i
+    c.in-Some.ensures c.tree.ensures in
     (omega (arith, less), tt)
 
 pub capped_cost-returns-in-None : goal.capped_cost-returns-in-None
@@ -23,18 +29,25 @@ capped_cost-returns-in-None t c =
     c.parts_cost.ensures
     ∙ ap capped (sym (parts_cost (member_of c.args.s.now) (node_of c.args.node) c.in-None.ensures))
 
-pub capped_cost-returns-in-None-other : goal.capped_cost-returns-in-None-other
-capped_cost-returns-in-None-other t c =
+pub capped_cost-returns-in-None-chosen : goal.capped_cost-returns-in-None-chosen
+capped_cost-returns-in-None-chosen t c =
+    let m = member_of c.args.s.now in
     c.capped_cost.ensures
-    ∙ ap capped (sym (pick_cost (member_of c.args.s.now) (node_of c.args.node) c.in-Some.pick None
-    c.in-Some.ensures c.in-None-other.ensures))
+    ∙ ap (λ w. capped (cost m w)) c.base.ensures
+    ∙ ap capped (sym (pick_cost m (node_of c.args.node) c.in-Some.pick None c.in-Some.ensures
+    c.in-None-chosen.ensures.none))
 
-pub capped_cost-returns-in-Some-other : goal.capped_cost-returns-in-Some-other
-capped_cost-returns-in-Some-other t c =
+pub capped_cost-returns-in-Some-chosen : goal.capped_cost-returns-in-Some-chosen
+capped_cost-returns-in-Some-chosen t c =
+    let m = member_of c.args.s.now in
+    let pick = c.in-Some.pick in
+    let i = c.in-Some-chosen.i in
+    let at = ap (λ k. other_at k (others_seen pick)) (sym c.in-Some-chosen.ensures.is) in
     let whole =
-    pick_cost (member_of c.args.s.now) (node_of c.args.node) c.in-Some.pick
-    (Some c.in-Some-other.other.now) c.in-Some.ensures c.in-Some-other.ensures in
-    let inner = c.capped_cost-in-Some-other.ensures in
+    pick_cost m (node_of c.args.node) pick (slice_get (others_seen pick) i) c.in-Some.ensures at
+    ∙ cost_read m (pick_of pick).base (slice_get (others_seen pick) i) c.cost.result
+    (node_of c.tree.result) c.cost.ensures c.tree.ensures in
+    let inner = c.capped_cost-in-Some-chosen.ensures in
     let all = c.saturating_add.ensures in
     omega (arith, whole, inner, all)
 

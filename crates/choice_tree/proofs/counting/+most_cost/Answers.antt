@@ -1,12 +1,12 @@
-use Rattle.std.proofs.Common.{◌≡◌, ◌+◌, max, map, arith, ap, ◌∙◌, sym, drop}
+use Rattle.std.proofs.Common.{◌≡◌, ◌+◌, max, arith, ap, ◌∙◌, sym, drop}
 use Rattle.choice_tree.specs.Selections.{most_cost, other_most_cost}
 use Rattle.choice_tree.specs.Costs.{capped, sum_of}
-use Rattle.choice_tree.specs.WeightedTrees.{children}
-use Rattle.choice_tree.specs.WeightedViews.{members, member_seen}
+use Rattle.choice_tree.specs.WeightedTrees.{children, nodes}
+use Rattle.choice_tree.specs.WeightedViews.{members}
 use Rattle.choice_tree.specs.NodeViews.{node_of}
+use Rattle.choice_tree.specs.PickViews.{others_seen}
 use Rattle.choice_tree.proofs.MostLaws.{most_of_parts, most_of_pick, most_next}
-use Rattle.choice_tree.proofs.MostLaws.{member_smaller}
-use Rattle.choice_tree.proofs.Walking.{child_smaller, is_place, sum_next, no_next}
+use Rattle.choice_tree.proofs.Walking.{child_smaller, is_place, member_smaller, sum_next, no_next}
 use Rattle.choice_tree.proofs.counting.+most_cost.Goals as goal
 
 pub capped_most-returns-in-None : goal.capped_most-returns-in-None
@@ -53,27 +53,35 @@ parts_most-returns-in-None t c =
     let fits = c.parts.invariant.fits in
     omega (arith, whole, fits)
 
+pub pick_most-capped_most-most-requires : goal.pick_most-capped_most-most-requires
+pick_most-capped_most-most-requires t c =
+    let base = ap nodes c.base.ensures in
+    (omega (arith, base), tt)
+
 pub pick_most-capped_most-requires : goal.pick_most-capped_most-requires
 pick_most-capped_most-requires t c =
     let less =
-    member_smaller c.args.pick.others.now c.loop-other.other-index c.other-item.result
-    (omega (arith, c.loop-other-test.true)) c.other-item.is in
+    member_smaller (others_seen c.args.pick) c.loop-i.i (node_of c.tree.result) c.tree.ensures in
     (omega (arith, less), tt)
 
-pub pick_most-loop-other-preserved : goal.pick_most-loop-other-preserved
-pick_most-loop-other-preserved t c =
-    let os = c.args.pick.others.now in
-    let i = c.loop-other.other-index in
-    let o = c.other-item.result in
+pub pick_most-loop-i-init : goal.pick_most-loop-i-init
+pick_most-loop-i-init t c =
+    let base = ap most_cost c.base.ensures in
+    let most = c.capped_most-most.ensures in
+    record { whole = omega (arith, base, most); fits = omega arith }
+
+pub pick_most-loop-i-preserved : goal.pick_most-loop-i-preserved
+pick_most-loop-i-preserved t c =
+    let ms = others_seen c.args.pick in
+    let i = c.loop-i.i in
     let next =
-    most_next os i (i + 1) o (omega (arith, c.loop-other-test.true)) (omega arith)
-    c.other-item.is in
+    most_next ms i (i + 1) c.cost.result (node_of c.tree.result) (omega arith) c.cost.ensures
+    c.tree.ensures in
     let one = c.capped_most.ensures in
     let sum = c.saturating_add-cost.ensures in
     let greater = c.max-most.ensures in
-    let fits = c.loop-other.invariant.fits in
-    let step : capped (max c.loop-other.most (other_most_cost (members (map member_seen (drop i os)))))
-    ≡ capped (max c.max-most.result
-    (other_most_cost (members (map member_seen (drop (i + 1) os))))) =
+    let fits = c.loop-i.invariant.fits in
+    let step : capped (max c.loop-i.most (other_most_cost (members (drop i ms))))
+    ≡ capped (max c.max-most.result (other_most_cost (members (drop (i + 1) ms)))) =
     omega (arith, next, one, sum, greater, fits) in
-    record { whole = c.loop-other.invariant.whole ∙ step; fits = omega arith }
+    record { whole = c.loop-i.invariant.whole ∙ step; fits = omega arith }

@@ -1,19 +1,17 @@
-use Rattle.std.proofs.Common.{◌≡◌, ◌∙◌, ◌+◌, ◌-◌, suc, List, [], ◌∷◌, ◌++◌, map, drop, take}
-use Rattle.std.proofs.Common.{length, sym, ap, subst, arith}
-use Rattle.std.proofs.lemmas.List.{map_more, take_all}
-use Rattle.choice_tree.specs.declared.tree.Other.{Other}
-use Rattle.choice_tree.specs.NodeViews.{node_of}
-use Rattle.choice_tree.specs.WeightedTrees.{Weighted, children}
-use Rattle.choice_tree.specs.WeightedViews.{Member, weighted_of, members, member_seen}
+use Rattle.std.proofs.Common.{◌≡◌, ◌∙◌, ℕ, ◌+◌, ◌-◌, suc, List, [], ◌∷◌, ◌++◌, drop, take, length}
+use Rattle.std.proofs.Common.{slice_get, refl, sym, ap, subst, arith}
+use Rattle.std.proofs.lemmas.List.{take_all}
+use Rattle.choice_tree.specs.NodeViews.{node_of, pick_of}
+use Rattle.choice_tree.specs.PickViews.{others_seen}
+use Rattle.choice_tree.specs.WeightedTrees.{Weighted, children, nodes}
+use Rattle.choice_tree.specs.WeightedViews.{Member, members}
 use Rattle.choice_tree.proofs.EditLaws.{if_ok, on_ok}
-use Rattle.choice_tree.proofs.MostLaws.{member_smaller}
-use Rattle.choice_tree.proofs.Opening.{member_is, tree_of_member}
-use Rattle.choice_tree.proofs.Walking.{child_smaller, next_of}
+use Rattle.choice_tree.proofs.Walking.{child_smaller, member_smaller, next_of}
 use Rattle.cost_levels.specs.declared.rows.Way.{Way}
-use Rattle.cost_levels.specs.Plans.{planned, planned_each, ways_by}
+use Rattle.cost_levels.specs.Plans.{at_pick, planned, planned_each, ways_by}
 use Rattle.cost_levels.specs.Rows.{Shows, ShowWays}
-use Rattle.cost_levels.proofs.Tables.{grows_on, parts_planned, pick_planned, shows_grown}
-use Rattle.cost_levels.proofs.Tables.{shows_within, ways_grown, ways_push}
+use Rattle.cost_levels.proofs.Tables.{grows_on, member_read, parts_planned, pick_planned}
+use Rattle.cost_levels.proofs.Tables.{shows_grown, shows_within, take_more, ways_grown, ways_push}
 use Rattle.cost_levels.proofs.rows.+rows.Goals as goal
 
 pub push_node-returns-in-None-clause-shown : goal.push_node-returns-in-None-clause-shown
@@ -59,68 +57,80 @@ push_parts-parts-preserved t c =
           (c.parts.invariant.shown p shows));
     }
 
-pub push_pick-push_node-requires-in-loop-other : goal.push_pick-push_node-requires-in-loop-other
-push_pick-push_node-requires-in-loop-other t c =
+pub push_pick-push_node-requires : goal.push_pick-push_node-requires
+push_pick-push_node-requires t c =
+    let base = ap nodes c.base.ensures in
+    (omega (arith, base), tt)
+
+pub push_pick-push_node-requires-in-loop-i : goal.push_pick-push_node-requires-in-loop-i
+push_pick-push_node-requires-in-loop-i t c =
     let less =
-    member_smaller c.args.pick.others.now c.loop-other.other-index c.other-item.result
-    c.loop-other-test.true c.other-item.is in
+    member_smaller (others_seen c.args.pick) c.loop-i.i (node_of c.tree.result) c.tree.ensures in
     (omega (arith, less), tt)
 
-pub push_pick-loop-other-preserved : goal.push_pick-loop-other-preserved
-push_pick-loop-other-preserved t c =
-    let os = c.args.pick.others.now in
-    let i = c.loop-other.other-index in
-    let o = c.other-item.result in
+pub push_pick-loop-i-init : goal.push_pick-loop-i-init
+push_pick-loop-i-init t c = record {
+  grown = c.in_ok-base.ensures.grown;
+  base = λ p shows.
+      subst (λ (w : Weighted). Shows c.push_node.new.rows.items c.in_ok-base.base (planned w p))
+      c.base.ensures (c.in_ok-base.ensures.shown p shows);
+  ways = λ p shows. c.new-others.ensures.items;
+}
+
+pub push_pick-loop-i-preserved : goal.push_pick-loop-i-preserved
+push_pick-loop-i-preserved t c =
+    let ms = others_seen c.args.pick in
+    let i = c.loop-i.i in
     let was = c.args.rows.now.items in
-    let rows = c.loop-other.rows.items in
-    let new = c.push_node-in-loop-other.new.rows.items in
-    let vs = c.loop-other.others.items in
-    let v : Way = record { cost = o.cost; next = c.in_ok-next.next } in
+    let rows = c.loop-i.rows.items in
+    let new = c.push_node-in-loop-i.new.rows.items in
+    let vs = c.loop-i.others.items in
+    let tree = node_of c.tree.result in
+    let v : Way = record { cost = c.cost.result; next = c.in_ok-next.next } in
     let grew = c.in_ok-next.ensures.grown in
-    let before = c.loop-other.invariant in
+    let before = c.loop-i.invariant in
     let pushed : c.push.new.self.items ≡ vs ++ v ∷ [] = c.in_ok-push.ensures.items in
-    let more : map member_seen (take (i + 1) os) ≡ map member_seen (take i os) ++ member_seen o ∷ [] =
-    map_more member_seen os i o c.loop-other-test.true
-    ∙ ap (λ (x : Other). map member_seen (take i os) ++ member_seen x ∷ []) (sym c.other-item.is) in
+    let read = member_read (slice_get ms i) c.cost.result tree c.cost.ensures c.tree.ensures in
+    let m : Member = record { rule = read.0; cost = c.cost.result; tree = tree } in
+    let more : take (i + 1) ms ≡ take i ms ++ m ∷ [] =
+    take_more ms i (i + 1) m (omega arith) read.1 in
     record {
       grown = grows_on was rows new before.grown grew;
       base = λ p shows.
-          shows_grown rows new c.in_ok-base.base (planned (weighted_of c.args.pick.base.now) p) grew
+          shows_grown rows new c.in_ok-base.base (planned (pick_of c.args.pick).base p) grew
           (before.base p shows);
       ways = λ p shows.
-          let next =
+          let inside =
           c.in_ok-next.ensures.shown p
           (shows_grown was rows c.args.after p before.grown shows) in
-          let inside : Shows new v.next (planned (member_seen o).tree p) =
-          subst (λ (w : Weighted). Shows new v.next (planned w p)) (sym (tree_of_member o)) next in
           let all =
-          ways_push (map member_seen (take i os)) (member_seen o) p new (length new) vs v
-          (ways_grown rows new vs (ways_by (members (map member_seen (take i os))) p) grew
-          (before.ways p shows))
-          (ap (λ (m : Member). m.cost) (sym (member_is o)))
-          (shows_within (planned (member_seen o).tree p) new v.next inside) inside in
+          ways_push (take i ms) m p new (length new) vs v
+          (ways_grown rows new vs (ways_by (members (take i ms)) p) grew (before.ways p shows))
+          refl (shows_within (planned tree p) new v.next inside) inside in
           subst (λ (us : List Way). ShowWays new (length new) us
-          (ways_by (members (map member_seen (take (i + 1) os))) p)) (sym pushed)
-          (subst (λ (ms : List Member). ShowWays new (length new) (vs ++ v ∷ [])
-          (ways_by (members ms) p)) (sym more) all);
+          (ways_by (members (take (i + 1) ms)) p)) (sym pushed)
+          (subst (λ (ns : List Member). ShowWays new (length new) (vs ++ v ∷ [])
+          (ways_by (members ns) p)) (sym more) all);
     }
 
 pub push_pick-returns-clause-grown : goal.push_pick-returns-clause-grown
 push_pick-returns-clause-grown t c =
     on_ok c.push_row.result
-    (λ g. grows_on c.args.rows.now.items c.loop-other.rows.items c.push_row.new.rows.items
-    c.loop-other.invariant.grown g)
+    (λ g. grows_on c.args.rows.now.items c.loop-i.rows.items c.push_row.new.rows.items
+    c.loop-i.invariant.grown g)
     c.push_row.ensures.grown
 
 pub push_pick-returns-clause-shown : goal.push_pick-returns-clause-shown
 push_pick-returns-clause-shown t c =
-    let os = c.args.pick.others.now in
-    let rows = c.loop-other.rows.items in
-    let all : take c.loop-other.other-index os ≡ os =
-    take_all c.loop-other.other-index os c.loop-other-test.false in
+    let pick = pick_of c.args.pick in
+    let ms = others_seen c.args.pick in
+    let rows = c.loop-i.rows.items in
+    let new = c.push_row.new.rows.items in
+    let all : take c.loop-i.i ms ≡ ms = take_all c.loop-i.i ms (omega arith) in
     if_ok c.push_row.result
-    (λ e h p shows. h (planned (weighted_of c.args.pick.base.now) p)
-    (ways_by (members (map member_seen os)) p) (c.loop-other.invariant.base p shows)
-    (subst (λ (us : List Other). ShowWays rows (length rows) c.loop-other.others.items
-    (ways_by (members (map member_seen us)) p)) all (c.loop-other.invariant.ways p shows)))
+    (λ e h p shows. subst (λ (n : ℕ). Shows new e (at_pick n (planned pick.base p)
+    (ways_by pick.others p))) c.number.ensures
+    (h (planned pick.base p) (ways_by pick.others p) (c.loop-i.invariant.base p shows)
+    (subst (λ (ns : List Member). ShowWays rows (length rows) c.loop-i.others.items
+    (ways_by (members ns) p)) all (c.loop-i.invariant.ways p shows))))
     c.push_row.ensures.shown

@@ -1,7 +1,8 @@
-use Rattle.std.proofs.Common.{◌+◌, ◌*◌, ◌≤◌, map, drop, take, length}
-use Rattle.choice_tree.specs.NodeViews.{node_of}
+use Rattle.std.proofs.Common.{◌+◌, ◌*◌, ◌≤◌, drop, take, length}
+use Rattle.choice_tree.specs.NodeViews.{node_of, pick_of}
+use Rattle.choice_tree.specs.PickViews.{others_seen}
 use Rattle.choice_tree.specs.WeightedTrees.{children, nodes, nodes_in_others}
-use Rattle.choice_tree.specs.WeightedViews.{weighted_of, members, member_seen}
+use Rattle.choice_tree.specs.WeightedViews.{members}
 use Rattle.cost_levels.specs.Plans.{Plan, planned, planned_each, ways_by}
 use Rattle.cost_levels.specs.Rows.{Grows, Shows, ShowWays}
 use Rattle.cost_levels.proofs.rows.+rows.Given as goal
@@ -14,8 +15,7 @@ decreases-push_parts l = 2 * nodes (node_of l.node)
 
 abbrev pub decreases-push_pick : goal.decreases-push_pick
 decreases-push_pick l =
-    2 * (nodes (weighted_of l.pick.base.now)
-    + nodes_in_others (members (map member_seen l.pick.others.now))) + 2
+    2 * (nodes (pick_of l.pick).base + nodes_in_others (pick_of l.pick).others) + 2
 
 -- the children from a place on were put before the entry
 abbrev pub invariant-push_parts-parts : goal.invariant-push_parts-parts
@@ -30,12 +30,12 @@ abbrev pub decreases-push_parts-parts : goal.decreases-push_parts-parts
 decreases-push_parts-parts l = l.left
 
 -- the base, and the members so far, go on to the entry
-abbrev pub invariant-push_pick-loop-other : goal.invariant-push_pick-loop-other
-invariant-push_pick-loop-other l = record {
+abbrev pub invariant-push_pick-loop-i : goal.invariant-push_pick-loop-i
+invariant-push_pick-loop-i l = record {
   grown : Grows l.fn.rows.items l.rows.items;
   base : (p : Plan) → Shows l.fn.rows.items l.fn.after p
-      → Shows l.rows.items l.base (planned (weighted_of l.fn.pick.base.now) p);
+      → Shows l.rows.items l.base (planned (pick_of l.fn.pick).base p);
   ways : (p : Plan) → Shows l.fn.rows.items l.fn.after p
       → ShowWays l.rows.items (length l.rows.items) l.others.items
-      (ways_by (members (map member_seen (take l.other-index l.fn.pick.others.now))) p);
+      (ways_by (members (take l.i (others_seen l.fn.pick))) p);
 }

@@ -1,6 +1,7 @@
-use Rattle.std.proofs.Common.{◌+◌, ◌++◌, suc, arith, ap, ◌∙◌, map, length, refl}
+use Rattle.std.proofs.Common.{◌+◌, ◌++◌, suc, arith, ap, ◌∙◌, map, length}
 use Rattle.choice_tree.specs.WeightedTrees.{children}
 use Rattle.choice_tree.specs.NodeViews.{node_of}
+use Rattle.choice_tree.specs.PickViews.{others_seen}
 use Rattle.choice_tree.proofs.EditLaws.{on_ok, pushed_next, pushed_all, pushed_one}
 use Rattle.choice_tree.proofs.Walking.{child_smaller, is_place}
 use Rattle.selection_numbers.specs.MemberCounts.{member_counts, counts_of_each}
@@ -19,8 +20,9 @@ push_counts-returns-in_ok-push-in-Some t c =
     on_ok c.push_parts-in-Some.result
     (λ h. h
     ∙ pushed_one suc c.args.out.now.items c.push.new.self.items
-    (length c.in-Some.pick.others.now) _ (counts_of_each (children (node_of c.args.node)))
-    c.in_ok-push-in-Some.ensures.items refl
+    c.len.result (suc (length (others_seen c.in-Some.pick)))
+    (counts_of_each (children (node_of c.args.node))) c.in_ok-push-in-Some.ensures.items
+    (ap suc c.len.ensures)
     ∙ ap (λ ns. map suc c.args.out.now.items ++ ns)
     (pick_counts (node_of c.args.node) c.in-Some.pick c.in-Some.ensures))
     c.push_parts-in-Some.ensures

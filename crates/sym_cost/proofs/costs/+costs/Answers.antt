@@ -1,16 +1,15 @@
-use Rattle.std.proofs.Common.{◌≡◌, ◌∙◌, ◌+◌, ◌<◌, ℕ, List, map, take, length, eqb, cond, Some}
+use Rattle.std.proofs.Common.{◌≡◌, ◌∙◌, ◌+◌, ℕ, List, map, take, length, eqb, cond, Some}
 use Rattle.std.proofs.Common.{slice_get, refl, sym, ap, subst, arith}
-use Rattle.std.proofs.lemmas.Option.{slice_get_read}
 use Rattle.bit_words.specs.Logic.{OwnsAll, extends_keeps, extends_refl, extends_trans}
 use Rattle.bit_words.specs.Later.{nat_later, owned_later}
 use Rattle.bit_words.specs.Words.{nat_read}
 use Rattle.choice_tree.specs.Costs.{sum_of}
-use Rattle.choice_tree.specs.NodeViews.{node_of}
+use Rattle.choice_tree.specs.NodeViews.{node_of, pick_of}
+use Rattle.choice_tree.specs.PickViews.{others_seen}
 use Rattle.choice_tree.specs.Selections.{chosen, cost}
 use Rattle.choice_tree.specs.WeightedTrees.{children, nodes}
-use Rattle.choice_tree.specs.WeightedViews.{weighted_of}
-use Rattle.choice_tree.proofs.MostLaws.{member_smaller}
-use Rattle.choice_tree.proofs.Walking.{child_smaller, is_place, no_next, parts_cost, sum_next}
+use Rattle.choice_tree.proofs.Walking.{child_smaller, is_place, member_smaller, no_next}
+use Rattle.choice_tree.proofs.Walking.{parts_cost, sum_next}
 use Rattle.sym_values.specs.Owned.{owns_one}
 use Rattle.sym_nodes.specs.Environments.{HasPicks}
 use Rattle.sym_nodes.proofs.TreeTypes.{child_picks}
@@ -186,7 +185,9 @@ node_cost-returns-in_err-cost-in-Some-clause-untouched g t c h = absurd (pick_fr
 pub pick_cost-node_cost-requires : goal.pick_cost-node_cost-requires
 pick_cost-node_cost-requires g t c κs h =
     let many = pick_nodes c.args.pick in
-    (omega (arith, many), (h.0, (h.1, (c.requires.owned, c.requires.base))))
+    let base = ap nodes c.base.ensures in
+    let picked = subst (HasPicks c.args.picks.now) (sym c.base.ensures) c.requires.base in
+    (omega (arith, many, base), (h.0, (h.1, (c.requires.owned, picked))))
 
 pub pick_cost-written-requires : goal.pick_cost-written-requires
 pick_cost-written-requires g t c = c.in_ok-base.ensures.made
@@ -194,13 +195,14 @@ pick_cost-written-requires g t c = c.in_ok-base.ensures.made
 pub pick_cost-loop-i-init : goal.pick_cost-loop-i-init
 pick_cost-loop-i-init g t c =
     let form = c.args.notation in
-    let base = weighted_of c.args.pick.base.now in
+    let pick = pick_of c.args.pick in
+    let base = node_of c.base.result in
     record {
       extends = c.node_cost.ensures.extends;
       made = c.in_ok-chosen.ensures.made;
       value = λ vs m p room.
-          let e = none_chosen (m c.args.pick.number) (cost m base) (member_costs m
-          c.args.pick.others.now) in
+          let e = none_chosen (m pick.number) (cost m pick.base) (member_costs m (others_seen
+          c.args.pick)) ∙ sym (ap (cost m) c.base.ensures) in
           let read = c.in_ok-base.ensures.value vs m p (subst (HasRoom form) e room) in
           subst (Spells form (map (g.L.Logic.reads c.node_cost.new.g vs) c.in_ok-chosen.chosen))
           (sym e) (c.in_ok-chosen.ensures.value vs (cost m base) read);
@@ -208,13 +210,11 @@ pick_cost-loop-i-init g t c =
 
 pub pick_cost-other_cost-requires : goal.pick_cost-other_cost-requires
 pick_cost-other_cost-requires g t c κs h =
-    let os = c.args.pick.others.now in
+    let os = others_seen c.args.pick in
     let i = c.loop-i.i in
-    let o = c.index-others-i.result in
-    let below : i < length os = omega arith in
-    let at = slice_get_read os (length os) i o refl below c.index-others-i.is in
+    let tree = node_of c.tree.result in
     let many = pick_nodes c.args.pick in
-    let less = member_smaller os i o below c.index-others-i.is in (
+    let less = member_smaller os i tree c.tree.ensures in (
       omega (arith, less, many),
       (
         h.0,
@@ -223,7 +223,7 @@ pick_cost-other_cost-requires g t c κs h =
           (
             owned_later (extends_keeps c.loop-i.invariant.extends)
                 c.requires.owned,
-            other_picks c.args.picks.now os i o c.requires.others at,
+            other_picks c.args.picks.now os i tree c.requires.others c.tree.ensures,
           ),
         ),
       ),
@@ -235,7 +235,7 @@ pick_cost-member_or-requires g t c =
     let one = c.other_cost.ensures.extends in
     let until = extends_keeps (extends_trans before.extends one) in
     let made = c.in_ok-member.ensures.made in
-    let named = owns_one (λ w. w) c.args.picks.now c.args.pick.number c.at-bits.result.now
+    let named = owns_one (λ w. w) c.args.picks.now c.number.result c.at-bits.result.now
     c.requires.owned c.at-bits.ensures in
     record {
       named = subst (OwnsAll g.L.Logic.owns c.other_cost.new.g) (sym c.as_slice-named.ensures)
@@ -249,12 +249,11 @@ pub pick_cost-loop-i-preserved : goal.pick_cost-loop-i-preserved
 pick_cost-loop-i-preserved g t c =
     let reads = g.L.Logic.reads in
     let form = c.args.notation in
-    let os = c.args.pick.others.now in
-    let number = c.args.pick.number in
-    let base = weighted_of c.args.pick.base.now in
+    let os = others_seen c.args.pick in
+    let number = (pick_of c.args.pick).number in
+    let base = (pick_of c.args.pick).base in
     let i = c.loop-i.i in
-    let o = c.index-others-i.result in
-    let at = slice_get_read os (length os) i o refl (omega arith) c.index-others-i.is in
+    let tree = node_of c.tree.result in
     let before = c.loop-i.invariant in
     let one = c.other_cost.ensures.extends in
     let until = extends_trans before.extends one in
@@ -264,13 +263,15 @@ pick_cost-loop-i-preserved g t c =
       made = record { owned = made.owned; width = made.width ∙ c.in_ok-member.ensures.made.width };
       value = λ vs m p room.
           let costs = member_costs m os in
-          let named = owns_one (λ w. w) c.args.picks.now number c.at-bits.result.now
+          let named = owns_one (λ w. w) c.args.picks.now c.number.result c.at-bits.result.now
           c.requires.owned c.at-bits.ensures in
           let read = ap (λ (w : List _). nat_read reads c.other_cost.new.g vs w)
           c.as_slice-named.ensures ∙ nat_later (extends_keeps until) named vs
-          ∙ p.member number c.at-bits.result.now c.at-bits.ensures in
-          let whole = chosen_more costs i (i + 1) (m number) (o.cost + cost m (weighted_of o.tree))
-          (cost m base) (omega arith) (cost_at m os i o at) in
+          ∙ p.member c.number.result c.at-bits.result.now c.at-bits.ensures
+          ∙ ap m c.number.ensures in
+          let whole = chosen_more costs i (i + 1) (m number) (c.cost.result + cost m tree)
+          (cost m base) (omega arith)
+          (cost_at m os i c.cost.result tree c.cost.ensures c.tree.ensures) in
           let bits = c.in_ok-chosen-2.ensures.value vs
           ∙ ap (λ (n : ℕ). cond (eqb n (i + 1)) (map (reads c.other_cost.new.g vs)
           c.in_ok-member.member) (map (reads c.other_cost.new.g vs) c.loop-i.chosen)) read in
@@ -284,9 +285,9 @@ pick_cost-loop-i-preserved g t c =
 pub pick_cost-returns-clause-value : goal.pick_cost-returns-clause-value
 pick_cost-returns-clause-value g t c vs m p room =
     let form = c.args.notation in
-    let os = c.args.pick.others.now in
-    let number = c.args.pick.number in
-    let base = weighted_of c.args.pick.base.now in
+    let os = others_seen c.args.pick in
+    let number = (pick_of c.args.pick).number in
+    let base = (pick_of c.args.pick).base in
     let costs = member_costs m os in
     let all : take c.loop-i.i costs ≡ costs = all_taken costs c.loop-i.i (omega (
       arith,
@@ -320,8 +321,7 @@ other_cost-raised-requires g t c = c.in_ok-inner.ensures.made
 pub other_cost-returns-clause-value : goal.other_cost-returns-clause-value
 other_cost-returns-clause-value g t c vs m p room =
     let form = c.args.notation in
-    let o = c.args.other.now in
-    let n = cost m (weighted_of o.tree) in
-    let read = c.in_ok-tree.ensures.value vs m p (room_below form n (o.cost + n) (omega arith)
+    let n = cost m (node_of c.args.node) in
+    let read = c.in_ok-tree.ensures.value vs m p (room_below form n (c.args.own + n) (omega arith)
     room) in
     c.in_ok-cost.ensures.value vs n room (c.in_ok-inner.ensures.value vs n read)

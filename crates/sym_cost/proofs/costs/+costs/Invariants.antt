@@ -2,10 +2,10 @@ use Rattle.std.proofs.Common.{◌≡◌, ◌+◌, ◌-◌, ◌*◌, ℕ, Bool, L
 use Rattle.bit_words.specs.Logic.{Extends}
 use Rattle.bit_words.specs.Results.{IsWordIn}
 use Rattle.choice_tree.specs.Costs.{sum_of}
-use Rattle.choice_tree.specs.NodeViews.{node_of}
+use Rattle.choice_tree.specs.NodeViews.{node_of, pick_of}
+use Rattle.choice_tree.specs.PickViews.{others_seen}
 use Rattle.choice_tree.specs.Selections.{chosen, cost}
 use Rattle.choice_tree.specs.WeightedTrees.{children, nodes}
-use Rattle.choice_tree.specs.WeightedViews.{weighted_of}
 use Rattle.sym_nodes.specs.Environments.{PicksRead}
 use Rattle.sym_cost.specs.Notations.{HasRoom, IsCostIn, Spells, Writes, width_of}
 use Rattle.sym_cost.specs.Picked.{HasNoPick, tree_of_pick}
@@ -22,7 +22,7 @@ abbrev pub decreases-pick_cost : goal.decreases-pick_cost
 decreases-pick_cost g l = 3 * nodes (tree_of_pick l.pick) + 1
 
 abbrev pub decreases-other_cost : goal.decreases-other_cost
-decreases-other_cost g l = 3 * nodes (weighted_of l.other.now.tree) + 3
+decreases-other_cost g l = 3 * nodes (node_of l.node) + 3
 
 -- the total and the costs of the children that are left make the whole
 abbrev pub invariant-parts_cost-parts : goal.invariant-parts_cost-parts
@@ -51,8 +51,9 @@ invariant-pick_cost-loop-i g l =
       extends : Extends logic.owns logic.reads logic.count l.fn.g l.g;
       made : IsWordIn logic.owns l.g (width_of l.notation) l.chosen;
       value : (vs : List Bool) (m : ℕ → ℕ) → PicksRead (logic.reads l.fn.g vs) l.fn.picks m
-          → HasRoom l.notation (chosen (m l.pick.number) (cost m (weighted_of l.pick.base.now))
-          (take l.i (member_costs m l.pick.others.now)))
-          → Spells l.notation (map (logic.reads l.g vs) l.chosen) (chosen (m l.pick.number) (cost m
-          (weighted_of l.pick.base.now)) (take l.i (member_costs m l.pick.others.now)));
+          → HasRoom l.notation (chosen (m (pick_of l.pick).number) (cost m (pick_of l.pick).base)
+          (take l.i (member_costs m (others_seen l.pick))))
+          → Spells l.notation (map (logic.reads l.g vs) l.chosen)
+          (chosen (m (pick_of l.pick).number) (cost m (pick_of l.pick).base)
+          (take l.i (member_costs m (others_seen l.pick))));
     }
