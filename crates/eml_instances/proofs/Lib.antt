@@ -7,3 +7,4 @@ pub mod Instances
 pub mod PartNumbers
 pub mod Resolutions
 pub mod SetResolutions
+pub mod SideLists

@@ -8,20 +8,25 @@ use Rattle.mpy_tree.specs.declared.typing.Ty.{Ty}
 use Rattle.choice_tree.specs.Typing.{Scope, same_type, type_of}
 use Rattle.choice_tree.specs.Drafts.{Proposal, proposal, filled, resolutions}
 use Rattle.choice_tree.specs.Rewriting.{In}
+use Rattle.choice_tree.specs.RuleViews.{template_of}
+use Rattle.choice_tree.specs.Templates.{Template}
 use Rattle.eml_match.specs.MatchedRules.{MatchedRule, matched_of}
-use Rattle.eml_match.specs.Resolutions.{locals_for, count, resolution}
+use Rattle.eml_match.specs.Resolutions.{count, depth, locals_for, resolution}
 use Rattle.eml_instances.specs.declared.listing.Alternative.{Alternative}
 
 abbrev pub alternative_seen : Scope → Alternative → Proposal
 alternative_seen σ a =
     let m = matched_of a.matched.now in
-    proposal m.rule m.cost (resolution m.right (locals_for σ m.bindings) m.bindings a.number)
+    proposal m.rule m.cost
+    (resolution (template_of a.side.now) (locals_for σ m.bindings) m.bindings a.number)
 
--- its number is one of a resolution
+-- its number is one of a resolution of its side, which is no deeper than that of the rule
 abbrev pub IsNumbered : Scope → Alternative → Type 0
 IsNumbered σ a =
     let m = matched_of a.matched.now in
-    (a.number < count m.right (locals_for σ m.bindings) m.bindings) × (a.number < 64000064)
+    (a.number < count (template_of a.side.now) (locals_for σ m.bindings) m.bindings)
+    × (a.number < 64000064)
+    × (depth (template_of a.side.now) ≤ depth m.right)
 
 -- each is of one of these rules
 abbrev pub AllAmong : List MatchedRule → List Alternative → Type 0
@@ -36,9 +41,9 @@ AreAlternatives (Some v) most σ ms ps =
     (map (alternative_seen σ) v.items ≡ ps) × All (IsNumbered σ) v.items × AllAmong ms v.items
     × (length v.items ≤ most)
 
--- what one rule proposes, and whether it is of a type
-abbrev pub proposals_of : Scope → MatchedRule → List Proposal
-proposals_of σ m = map (proposal m.rule m.cost) (resolutions σ m.bindings m.right)
+-- what a rule proposes by a side, and whether it is of a type
+abbrev pub proposals_of : Scope → MatchedRule → Template → List Proposal
+proposals_of σ m p = map (proposal m.rule m.cost) (resolutions σ m.bindings p)
 
 abbrev pub has_type : Scope → Option Ty → Proposal → Bool
 has_type σ o p = same_type (type_of σ (filled p.draft)) o

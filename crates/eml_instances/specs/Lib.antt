@@ -1,4 +1,5 @@
 pub mod Alternatives
 pub mod Resolving
 pub mod Scopes
+pub mod Searches
 pub mod Substitutions

@@ -2,11 +2,13 @@
 //! alternatives.
 #![tactic(auto)]
 
+mod adding;
 mod counting;
 mod filling;
 mod listing;
 mod roots;
 mod scope;
+mod search;
 mod standings;
 
 pub use filling::instance;

@@ -30,12 +30,13 @@ loop-m-preserved g c =
     let m = matched_of c.m-item.result in
     let now = c.loop-m.found.items in
     let here =
-    at_item c.args.matched.now c.loop-m.m-index c.m-item.result
+    at_item matched_of c.args.matched.now c.loop-m.m-index c.m-item.result
     (omega (arith, c.loop-m-test.true)) c.m-item.is in
     let adds : AddsTo c.in_ok-added.added c.args.most σ m now (filter (is_alternative σ t)
-    (proposals_of σ m)) =
+    (proposals_of σ m m.right)) =
     subst
-    (λ o. AddsTo c.in_ok-added.added c.args.most σ m now (filter (has_type σ o) (proposals_of σ m)))
+    (λ o. AddsTo c.in_ok-added.added c.args.most σ m now (filter (has_type σ o)
+    (proposals_of σ m m.right)))
     c.type_there-ty.ensures c.in_ok-added.ensures in
     one_looked σ (is_alternative σ t) ms now c.in-Some.more c.in_ok-added.added m c.args.most
     c.loop-m.m-index (c.loop-m.m-index + 1) c.loop-m.invariant (omega arith) here c.in-Some.is adds
@@ -50,12 +51,13 @@ returns-in-None g c =
     let m = matched_of c.m-item.result in
     let now = c.loop-m.found.items in
     let here =
-    at_item c.args.matched.now c.loop-m.m-index c.m-item.result
+    at_item matched_of c.args.matched.now c.loop-m.m-index c.m-item.result
     (omega (arith, c.loop-m-test.true)) c.m-item.is in
     let adds : AddsTo c.in_ok-added.added c.args.most σ m now (filter (is_alternative σ t)
-    (proposals_of σ m)) =
+    (proposals_of σ m m.right)) =
     subst
-    (λ o. AddsTo c.in_ok-added.added c.args.most σ m now (filter (has_type σ o) (proposals_of σ m)))
+    (λ o. AddsTo c.in_ok-added.added c.args.most σ m now (filter (has_type σ o)
+    (proposals_of σ m m.right)))
     c.type_there-ty.ensures c.in_ok-added.ensures in
     too_many_looked σ (is_alternative σ t) ms now c.in_ok-added.added m c.args.most
     c.loop-m.m-index c.loop-m.invariant here c.in-None.is adds

@@ -4,7 +4,7 @@ use Rattle.choice_tree.specs.RuleViews.{template_of}
 use Rattle.choice_tree.specs.Typing.{same_type, type_of}
 use Rattle.eml_match.specs.Resolutions.{resolution}
 use Rattle.eml_instances.specs.Scopes.{scope_of}
-use Rattle.eml_instances.proofs.listing.is_typed.Goals as goal
+use Rattle.eml_instances.proofs.adding.is_typed.Goals as goal
 
 pub instance-requires-clause-within : goal.instance-requires-clause-within
 instance-requires-clause-within g c =
@@ -20,5 +20,5 @@ returns g c =
     (c.type_there.ensures
     ∙ ap (type_of σ)
     (c.in_ok-made.ensures
-    ∙ (λ i. filled (resolution (template_of c.args.a.matched.now.right.now)
-    (c.requires.locals i) (c.requires.bindings i) c.args.a.number))))
+    ∙ (λ i. filled (resolution (template_of c.args.a.side.now) (c.requires.locals i)
+    (c.requires.bindings i) c.args.a.number))))
