@@ -208,7 +208,7 @@ fn grow_member<'a, K: Known>(
 {
     let bound = Substitution::new(alloc, spot.scope, a.matched.bindings.as_slice())?;
     let side = Side {
-        term: a.matched.right,
+        term: a.side,
         bound: &bound,
         number: a.number,
     };

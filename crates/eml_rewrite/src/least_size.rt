@@ -1,4 +1,5 @@
-//! How many nodes the weighted tree of an expression has at least, without building it.
+//! How many nodes the weighted tree of an expression has at least, without building it. The counts
+//! are about speed alone: with lower ones, even 0, a tree that is too large is told later.
 ghost use Rattle.std.specs.Prelude.{◌≤◌, ℕ, All, IfOk, OnOk, map, suc};
 ghost use Rattle.std.specs.List.{sum_by};
 ghost use Rattle.mpy_tree.specs.View.{term_of};
@@ -168,7 +169,7 @@ fn count_member<'a, K: Known>(
 {
     let bound = Substitution::new(alloc, spot.scope, a.matched.bindings.as_slice())?;
     let side = Side {
-        term: a.matched.right,
+        term: a.side,
         bound: &bound,
         number: a.number,
     };

@@ -8,6 +8,8 @@ mod messages;
 #[cfg(test)]
 mod numbers;
 #[cfg(test)]
+mod rewriting;
+#[cfg(test)]
 mod rule_files;
 #[cfg(test)]
 mod selections;

@@ -316,15 +316,18 @@ grow_member-grow_side-requires g t c κs within =
     let L =
     c.in_ok-bound.ensures.locals
     ∙ ap (λ bs. locals_for here.scope (bindings_of bs)) c.as_slice.ensures.value in
-    let deep : depth (template_of a.matched.now.right.now)
-    ≤ deepest (corrections_of c.args.spot.now.rules.now) = c.requires.deep in (
+    let right : depth (template_of a.matched.now.right.now)
+    ≤ deepest (corrections_of c.args.spot.now.rules.now) = c.requires.deep in
+    let side : depth (template_of a.side.now) ≤ depth (template_of a.matched.now.right.now) =
+    c.requires.numbered.2 in
+    let deep : depth (template_of a.side.now)
+    ≤ deepest (corrections_of c.args.spot.now.rules.now) = omega (arith, side, right) in (
       omega arith,
       (
         within,
         record {
           below =
-              same_count (template_of a.matched.now.right.now) a.number _ _ _ _ L β
-              c.requires.numbered.0;
+              same_count (template_of a.side.now) a.number _ _ _ _ L β c.requires.numbered.0;
           small = c.requires.numbered.1;
           deep = deep;
         },
@@ -341,9 +344,9 @@ grow_member-returns g t c =
     let L =
     c.in_ok-bound.ensures.locals
     ∙ ap (λ bs. locals_for here.scope (bindings_of bs)) c.as_slice.ensures.value in
-    let same : resolution (template_of a.matched.now.right.now) (locals_in c.in_ok-bound.bound)
+    let same : resolution (template_of a.side.now) (locals_in c.in_ok-bound.bound)
     (bindings_in c.in_ok-bound.bound) a.number ≡ (alternative_seen here.scope a).draft =
-    λ i. resolution (template_of a.matched.now.right.now) (L i) (β i) a.number in
+    λ i. resolution (template_of a.side.now) (L i) (β i) a.number in
     subst (λ d. Built weighted_of c.grow_side.result (draft_grown σ grow d here) c.args.counter.now
     c.grow_side.new.counter) same c.grow_side.ensures
 

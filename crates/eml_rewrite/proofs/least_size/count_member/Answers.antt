@@ -19,7 +19,7 @@ count_side-requires g c =
     ∙ ap (λ bs. locals_for σ (bindings_of bs)) c.as_slice.ensures.value in
     record {
       below =
-          same_count (template_of a.matched.now.right.now) a.number _ _ _ _ L β c.requires.0;
+          same_count (template_of a.side.now) a.number _ _ _ _ L β c.requires.0;
       small = c.requires.1;
       deep = omega arith;
     }
@@ -32,7 +32,7 @@ returns g c = λ least h.
     let L =
     c.in_ok-bound.ensures.locals
     ∙ ap (λ bs. locals_for σ (bindings_of bs)) c.as_slice.ensures.value in
-    let same : resolution (template_of a.matched.now.right.now) (locals_in c.in_ok-bound.bound)
+    let same : resolution (template_of a.side.now) (locals_in c.in_ok-bound.bound)
     (bindings_in c.in_ok-bound.bound) a.number ≡ (alternative_seen σ a).draft =
-    λ i. resolution (template_of a.matched.now.right.now) (L i) (β i) a.number in
+    λ i. resolution (template_of a.side.now) (L i) (β i) a.number in
     subst (λ d. c.count_side.result ≤ draft_least least d) same (c.count_side.ensures least h)
