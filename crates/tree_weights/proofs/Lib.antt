@@ -6,3 +6,4 @@ pub mod NodeWeights
 pub mod RootTypeLaws
 pub mod Spans
 mod WorkedExamples
+pub mod Counted

@@ -95,7 +95,7 @@ impl Frame<'_> {
     }
 
     // A pick of its base and these other members.
-    #[tactic(auto, using(choice_tree::proofs::FittingLaws::counted))]
+    #[tactic(auto, using(crate::proofs::Counted::counted_others))]
     fn pick_weight(&self, base: &WExpr, others: &[Other]) -> u128
         ensures weight { result ≡ pick_weight self.now.program.limits.now (type_at (scope_of
             self.now) (weighted_of base.now)) (count_others (members (map member_seen
