@@ -1,6 +1,5 @@
 //! Cases: the values of one input.
 ghost use Rattle.std.specs.Prelude.{◌≡◌, ◌≤◌, ◌++◌, ◌∷◌, [], IfOk, OnErr, OnOk, List, length};
-ghost use Rattle.std.specs.Prelude.{option_to_list};
 ghost use Rattle.input_space.specs.declared.case.Case.{Case};
 ghost use Rattle.input_space.specs.declared.case.CaseError.TheVariants as case_error;
 
@@ -79,13 +78,6 @@ impl Cases {
         }
         self.items.push(case)?;
         Ok(())
-    }
-
-    /// Takes the last case back, if there is one.
-    pub fn pop(&mut self) -> Option<Case>
-        ensures { self.old ≡ self.new ++ option_to_list result }
-    {
-        self.items.pop()
     }
 
     /// The cases, given back.
