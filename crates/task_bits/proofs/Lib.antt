@@ -3,3 +3,4 @@ pub mod Typed
 pub mod HavePicks
 pub mod FirstValues
 pub mod FirstMembers
+pub mod Later
