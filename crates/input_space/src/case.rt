@@ -1,5 +1,6 @@
 //! Cases: the values of one input.
-ghost use Rattle.std.specs.Prelude.{◌≡◌, ◌≤◌, ◌++◌, ◌∷◌, [], IfOk, OnErr, OnOk, List, length};
+ghost use Rattle.std.specs.Prelude.{◌≡◌, ◌≤◌, ◌-◌, ◌++◌, ◌∷◌, [], IfOk, OnErr, OnOk, List, length};
+ghost use Rattle.std.specs.Prelude.{option_to_list, take};
 ghost use Rattle.input_space.specs.declared.case.Case.{Case};
 ghost use Rattle.input_space.specs.declared.case.CaseError.TheVariants as case_error;
 
@@ -78,6 +79,14 @@ impl Cases {
         }
         self.items.push(case)?;
         Ok(())
+    }
+
+    /// Takes the last case back, if there is one.
+    pub fn pop(&mut self) -> Option<Case>
+        ensures items { self.old ≡ self.new ++ option_to_list result }
+        ensures rest { self.new ≡ take (length self.old - 1) self.old }
+    {
+        self.items.pop()
     }
 
     /// The cases, given back.

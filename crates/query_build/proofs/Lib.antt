@@ -1,0 +1,12 @@
+pub mod Agreeing
+pub mod InputGoals
+pub mod Shifted
+pub mod LowGoals
+pub mod Adding
+pub mod Clauses
+pub mod ReadPicks
+pub mod AnyInputs
+pub mod Arguments
+pub mod Asked
+pub mod Comparisons
+pub mod Counted
