@@ -1,7 +1,9 @@
 mod Counted
+mod Ending
 mod Few
 mod InOrder
 mod Kept
 mod LastRuled
+mod RuledOut
 mod Steps
 mod WorkedExamples

@@ -4,4 +4,5 @@ pub mod Asking
 pub mod Order
 pub mod OrderLaws
 pub mod Answers
+pub mod WholeAnswers
 pub mod Searching

@@ -3,13 +3,15 @@
 #![tactic(auto)]
 
 mod asked;
+mod closing;
 mod laws;
 mod outcome;
 mod questions;
 mod search;
 
 pub use asked::Asked;
-pub use laws::{closing_question, few_questions};
+pub use closing::close_search;
+pub use laws::{any_ruled_out, cheaper_ruled_out, choice_didnt_fail, few_questions};
 pub use outcome::Least;
 pub use questions::Questions;
 pub use search::least;
