@@ -1,0 +1,190 @@
+#!/usr/bin/env python3
+"""Compares the search by solver with the one by trying all and with a plain model, on random tasks.
+
+    MODEL=PATH tests/questions.py SEED [COUNT] [--first NUMBER]
+
+Run it at the top of the repository, with `rt` on the path; the searches run unproved, on a copy of the crates. MODEL is the path of
+the model's command line; its modules lie beside it. COUNT is 3000 where it isn't given. Each task is made from the seed and its own
+number, so `--first NUMBER` with COUNT 1 repeats one; some have a small budget.
+
+Both searches must answer as the model does, the one by solver by a selection that agrees at its cost. Its questions must come in their
+order, with the cases and the selections that they name, and the closing one where it is needed. Each log is judged here by the rule
+of hints, and must be fresh and narrow. Where a question's own variables are at most 14, its formula is tried under all their truth
+values: each other variable must be forced by those before it, and the formula must hold exactly where the values spell something of
+which the question holds by the model's runs. Printed are the counts and each difference; the exit status is 1 where there is one.
+"""
+import collections
+import os
+import random
+import sys
+import tempfile
+
+import cert_reader
+import unproved
+from log_rules import is_fresh, is_narrow, judged_log
+from programs import Model, some_sources
+from questions_try import Harness
+from task_questions import Decoder, Judge, refuted
+
+# So many tasks stand in one input of the program, and so many clauses of a task's formulas are printed: a run may write 2^20 bytes.
+BATCH = 8
+CLAUSES = 6000
+# The formulas of questions of so many own variables are tried.
+VARIABLES = 14
+BUDGETS = (200000,) * 6 + (0, 1, 2, 7)
+
+
+class Case:
+    """A random task and a budget."""
+
+    def __init__(self, model, seed, number):
+        self.number = number
+        rng = random.Random('questions/%d/%d' % (seed, number))
+        self.sources = some_sources(rng)
+        self.task = model.task(self.sources)
+        self.budget = rng.choice(BUDGETS)
+
+    def lines(self):
+        if self.task is None:
+            return []
+        return ['\t'.join([str(self.budget), str(CLAUSES)] + [text.hex() for text in self.sources])]
+
+
+def told(answer):
+    """The kind of an answer, its number and its selection."""
+    words = answer.split()
+    if words[0] == 'cost':
+        return 'cost', int(words[1]), {int(a): int(b) for a, b in (word.split(':') for word in words[2:])}
+    if words[0] == 'spent':
+        return 'spent', int(words[1]), None
+    return answer, None, None
+
+
+def least_left(sessions):
+    """The least number such that no question with a bound of it or more was refuted."""
+    return max([s[0][1] + 1 for s in sessions if s[0][0] == 'low' and s[0][1] != 'any' and refuted(s)], default=0)
+
+
+class Comparison:
+    """The counts of all that was compared, and of what differed."""
+
+    def __init__(self, model):
+        self.model, self.counts, self.differing = model, collections.Counter(), 0
+
+    def compare(self, case, answers):
+        if case.task is None:
+            self.counts['no task'] += 1
+            return
+        found = list(self.faults(case, answers[0]))
+        self.differing += len(found)
+        for fault in found[:3]:
+            print('%d, budget %d: %r\n  %s' % (case.number, case.budget, case.sources, fault), flush=True)
+
+    def faults(self, case, answer):
+        if answer == 'refused':
+            yield 'refused'
+            return
+        given, listed, shapes, text = answer.split('|')
+        self.counts['questions'] += shapes.count(';')
+        judge = Judge(self.model, case.task)
+        kind, number, chosen = told(given)
+        self.counts[kind] += 1
+        wanted = judge.least()
+        if told(listed)[:2] != wanted:
+            yield 'trying all: wanted %s, given %s' % (wanted, listed)
+        if kind == 'spent':
+            if sum(int(shape.split()[-1]) for shape in shapes.split(';') if shape) != case.budget:
+                yield 'spent with a part of the budget'
+        elif (kind, number) != wanted:
+            yield 'by solver: wanted %s, given %s' % (wanted, given)
+        if kind == 'cost' and (judge.cost(chosen) != number or not judge.agrees(chosen)):
+            yield 'the selection is none at that cost: %s' % given
+        if text == 'many':
+            self.counts['tasks of large formulas'] += 1
+            return
+        read = cert_reader.read(bytes.fromhex(text))
+        if isinstance(read, int):
+            yield 'line %d of the certificate' % read
+            return
+        yield from self.faults_of_trail(case, judge, (kind, number, chosen), read)
+
+    def faults_of_trail(self, case, judge, answer, read):
+        _, _, cases, sessions = read
+        inputs = [judge.input_of(values) for values in cases]
+        ended = judge.trail(inputs, sessions)
+        if ended[0] == 'unfinished':
+            ended = 'spent', least_left(sessions), None
+        if ended != answer:
+            yield 'the questions end with %s, the answer is %s' % (ended, answer)
+        for session in sessions:
+            yield from self.faults_of_session(judge, inputs, session)
+
+    def faults_of_session(self, judge, inputs, session):
+        query, variables, clauses, log = session
+        own = judge.decoder.choice_bits if query[0] == 'low' else judge.decoder.input_bits
+        self.counts['logged clauses'] += len(log)
+        if any(answer != 'good' for answer in judged_log(clauses, log)):
+            yield '%s: a step does not follow' % (query,)
+        if not is_fresh(clauses, log) or not is_narrow(own + 1, log):
+            yield '%s: a log is not fresh and narrow' % (query,)
+        if own > VARIABLES:
+            self.counts['formulas of many variables'] += 1
+            return
+        holds, unforced = formula_mask(own, variables, clauses)
+        self.counts['formulas tried'] += 1
+        if unforced:
+            yield '%s: variable %d is not forced' % (query, unforced)
+        if holds != judge.mask(query, inputs):
+            yield '%s: the formula states another question' % (query,)
+
+
+def formula_mask(own, variables, clauses):
+    """Under which truth values of the own variables a formula holds, as the bits of a number; and a variable that isn't forced."""
+    every = (1 << (1 << own)) - 1
+    known = [0, every]
+    for place in range(own):
+        step = 1 << place
+        block = ((1 << step) - 1) << step
+        known.append(block * (every // ((1 << 2 * step) - 1)))
+    last = collections.defaultdict(list)
+    for clause in clauses:
+        last[max(map(abs, clause))].append(clause)
+
+    def of(literal):
+        return known[literal] if literal > 0 else known[-literal] ^ every
+
+    holds, unforced = every, 0
+    for v in range(1, variables + 1):
+        if v > own + 1:
+            forced = [0, 0]
+            for clause in last[v]:
+                left = every
+                for literal in clause:
+                    if abs(literal) != v:
+                        left &= of(-literal)
+                forced[v in clause] |= left
+            known.append(forced[1])
+            if forced[0] | forced[1] != every:
+                unforced = v
+        for clause in last[v]:
+            one = 0
+            for literal in clause:
+                one |= of(literal)
+            holds &= one
+    return holds, unforced
+
+
+def main():
+    words = unproved.arguments(__doc__, count=3000)
+    given = words.parse_args()
+    if not os.environ.get('MODEL'):
+        words.error('MODEL is not set')
+    model = Model(os.environ['MODEL'])
+    comparison = Comparison(model)
+    with tempfile.TemporaryDirectory() as folder:
+        unproved.compare_cases(given, BATCH, lambda number: Case(model, given.seed, number), Harness(folder), comparison)
+    return unproved.told(comparison.counts, given, 'tasks', comparison.differing)
+
+
+if __name__ == '__main__':
+    sys.exit(main())

@@ -1,0 +1,216 @@
+"""The questions of a search about a task, by the plain model; nothing by itself."""
+import itertools
+
+
+def refuted(session):
+    """Whether the log of a session ends with the empty clause."""
+    log = session[3]
+    return bool(log) and not log[-1][0]
+
+
+class Decoder:
+    """What the bits of inputs and of selections spell, the lowest bit of a word first."""
+
+    def __init__(self, task, members):
+        self.limits, self.types = task.bounds.limits, task.bounds.ptypes()
+        self.sizes = [members[pick].bit_length() for pick in range(len(members))]
+        self.members = [members[pick] for pick in range(len(members))]
+        self.input_bits = sum(map(self.bits_of, self.types))
+        self.choice_bits = sum(self.sizes)
+
+    def bits_of(self, kind):
+        words = {'Int': self.limits.width, 'Bool': 1, 'List': 5 + self.limits.cap * self.limits.width, 'Text': 5 + self.limits.cap * 7}
+        return words[kind]
+
+    def input(self, number):
+        """The input that the bits of a number spell, or None."""
+        found = []
+        for kind in self.types:
+            value = self.value(kind, number & (1 << self.bits_of(kind)) - 1)
+            if value is None:
+                return None
+            found.append(value)
+            number >>= self.bits_of(kind)
+        return tuple(found)
+
+    def value(self, kind, bits):
+        width = self.limits.width
+        if kind == 'Bool':
+            return bits == 1
+        if kind == 'Int':
+            return signed(bits, width)
+        count, bits = bits & 31, bits >> 5
+        if count > self.limits.cap:
+            return None
+        size = width if kind == 'List' else 7
+        items = [bits >> size * place & (1 << size) - 1 for place in range(count)]
+        if kind == 'List':
+            return tuple(signed(item, width) for item in items)
+        if any(not 32 <= item <= 126 for item in items):
+            return None
+        return ''.join(map(chr, items))
+
+    def choice(self, number):
+        """The member of each pick that the bits of a number spell, or None."""
+        found = []
+        for size, most in zip(self.sizes, self.members):
+            member = number & (1 << size) - 1
+            if member > most:
+                return None
+            found.append(member)
+            number >>= size
+        return tuple(found)
+
+
+def signed(bits, width):
+    return bits - (1 << width) if bits >> width - 1 else bits
+
+
+class Judge:
+    """A task, with the runs of its programs by the model."""
+
+    def __init__(self, model, task):
+        self.model, self.task = model, task
+        self.limits, self.entry = task.bounds.limits, task.bounds.entry
+        self.decoder = Decoder(task, model.rewrite.members(task.tree))
+        self.most_cost = model.rewrite.most_cost(task.tree)
+        self.ended, self.walked, self.made = {}, {}, {}
+        self.within = [tuple(given) for given in task.bounds.inputs()]
+        self.wanted = [given for given in self.within if self.value(task.ref, given) is not None]
+
+    def value(self, program, given):
+        """The value that a program gives, with its type, or None for a fault."""
+        key = id(program), given
+        if key not in self.ended:
+            ended = self.model.interp.run(program, self.limits, self.entry, list(given))
+            self.ended[key] = (type(ended[1]).__name__, ended[1]) if ended[0] == 'Done' else None
+        return self.ended[key]
+
+    def walk(self, members):
+        """The program and the cost of a selection, given by the member of each pick."""
+        if members not in self.walked:
+            walk = self.model.rewrite.Walk(self.task.tree, {pick: member for pick, member in enumerate(members) if member})
+            stripped = repr(walk.prog)
+            self.walked[members] = self.made.setdefault(stripped, walk.prog), walk.cost
+        return self.walked[members]
+
+    def of_pairs(self, chosen):
+        return tuple(chosen.get(pick, 0) for pick in range(len(self.decoder.sizes)))
+
+    def cost(self, chosen):
+        return self.walk(self.of_pairs(chosen))[1]
+
+    def meets(self, program, given):
+        return self.value(program, given) == self.value(self.task.ref, given)
+
+    def agrees(self, chosen):
+        program = self.walk(self.of_pairs(chosen))[0]
+        return all(self.meets(program, given) for given in self.wanted)
+
+    def least(self):
+        """The kind and the cost of the right answer."""
+        if not self.wanted:
+            return 'no case', None
+        costs = []
+        for members in itertools.product(*(range(most + 1) for most in self.decoder.members)):
+            program, cost = self.walk(members)
+            if (not costs or cost < min(costs)) and all(self.meets(program, given) for given in self.wanted):
+                costs.append(cost)
+        return ('cost', min(costs)) if costs else ('none', None)
+
+    def input_of(self, values):
+        """The values of a case of a certificate."""
+        shown = {bool: bool, int: int, list: tuple, tuple: lambda it: it[1].decode()}
+        return tuple(shown[type(value)](value) for value in values)
+
+    def mask(self, query, cases):
+        """Of which own bits a question holds, as the bits of a number."""
+        holds = self.low(query[1], cases[:query[2]]) if query[0] == 'low' else self.failing(query)
+        return sum(1 << number for number in holds)
+
+    def low(self, most, cases):
+        for number in range(1 << self.decoder.choice_bits):
+            members = self.decoder.choice(number)
+            if members is not None:
+                program, cost = self.walk(members)
+                if (most == 'any' or cost <= most) and all(self.meets(program, given) for given in cases):
+                    yield number
+
+    def failing(self, query):
+        program = self.walk(self.of_pairs(dict(query[1])))[0] if query[0] == 'fail' else None
+        wanted = {given for given in self.wanted if program is None or not self.meets(program, given)}
+        for number in range(1 << self.decoder.input_bits):
+            if self.decoder.input(number) in wanted:
+                yield number
+
+    def trail(self, cases, sessions):
+        """How the questions end, where they come in their order; else what is wrong with them."""
+        return Trail(self, cases).end(sessions)
+
+
+class Trail:
+    """The order of the questions of a search with its closing one."""
+
+    def __init__(self, judge, cases):
+        self.judge, self.cases = judge, cases
+        self.due, self.kept, self.bound, self.ruled, self.chosen = 'first', 0, 0, 0, None
+
+    def end(self, sessions):
+        for place, session in enumerate(sessions):
+            ended = self.ask(session[0], refuted(session), place == len(sessions) - 1)
+            if ended is not None:
+                rest = len(sessions) - 1 - place
+                return ended if rest == 0 and self.kept == len(self.cases) else ('questions or cases too many', rest, self.kept)
+        return 'no end', None, None
+
+    def ask(self, query, was_refuted, last):
+        if query[0] != ('low' if self.due == 'closing' else self.due):
+            return 'another question is due', query, self.due
+        return getattr(self, self.due)(query, was_refuted, last)
+
+    def first(self, query, was_refuted, last):
+        if was_refuted:
+            return 'no case', None, None
+        return self.unfinished(last) or self.keep('low')
+
+    def low(self, query, was_refuted, last):
+        most = self.bound if self.bound < self.judge.most_cost else 'any'
+        if query[1:] != (most, self.kept):
+            return 'another bound or other cases are due', query, most
+        if not was_refuted:
+            self.due = 'fail'
+            return self.unfinished(last)
+        if most == 'any':
+            return 'none', None, None
+        self.bound, self.ruled = self.bound + 1, self.kept
+        return None
+
+    def fail(self, query, was_refuted, last):
+        self.chosen = dict(query[1])
+        program, cost = self.judge.walk(self.judge.of_pairs(self.chosen))
+        if not all(self.judge.meets(program, given) for given in self.cases[:self.kept]) or cost > self.bound:
+            return 'the selection is none of those asked for', query, None
+        if was_refuted:
+            if cost == 0 or self.kept <= self.ruled:
+                return 'cost', cost, self.chosen
+            self.due, self.bound = 'closing', cost - 1
+            return None
+        if not last and self.judge.meets(program, self.cases[self.kept]):
+            return 'the selection does not fail there', query, None
+        return self.unfinished(last) or self.keep('low')
+
+    def closing(self, query, was_refuted, last):
+        if query[1:] != (self.bound, self.kept):
+            return 'another closing question is due', query, None
+        return ('cost', self.bound + 1, self.chosen) if was_refuted else self.unfinished(last)
+
+    def unfinished(self, last):
+        return ('unfinished', None, None) if last else None
+
+    def keep(self, due):
+        """Keeps the next case, which must be an input on which the reference ends."""
+        self.due = due
+        if self.kept == len(self.cases) or self.cases[self.kept] not in self.judge.wanted:
+            return 'no such case is kept', self.kept, None
+        self.kept += 1
+        return None
