@@ -93,7 +93,7 @@ class Comparison:
         if told(listed)[:2] != wanted:
             yield 'trying all: wanted %s, given %s' % (wanted, listed)
         if kind == 'spent':
-            if sum(int(shape.split()[-1]) for shape in shapes.split(';') if shape) != case.budget:
+            if sum(int(shape.split()[3]) for shape in shapes.split(';') if shape) != case.budget:
                 yield 'spent with a part of the budget'
         elif (kind, number) != wanted:
             yield 'by solver: wanted %s, given %s' % (wanted, given)

@@ -3,9 +3,9 @@
 Each line has words with tabs between them: how many clauses may be logged, how many clauses of formulas may be printed, and the four
 sources of a task in hexadecimal. The answer is one line that begins with `=`: `refused`, or four parts with a `|` between them. The
 first two are the answers of both searches, the one by solver first and with its closing question: `cost N SELECTION`, `none`,
-`no case`, `spent K` or `no memory`. Then come for each question its kind, how many variables and clauses its formula and how many
-clauses its log has, each with a `;` behind it, and the text of the certificate of all questions, in hexadecimal; it is `many` where
-the formulas have more clauses than may be printed.
+`no case`, `spent K` or `no memory`. Then come for each question its kind, how many variables and clauses its formula has, and how many
+clauses its log, with `refuted` where it was, each with a `;` behind it, and the text of the certificate of all questions, in
+hexadecimal; it is `many` where the formulas have more clauses than may be printed.
 """
 import unproved
 
@@ -80,7 +80,7 @@ fn put_session(alloc: Global, out: &mut String, session: &Session) -> Result<(),
         put(out, " ")?;
         put_number(alloc, out, number)?;
     }
-    put(out, ";")
+    put(out, if session.log.refutes() { " refuted;" } else { ";" })
 }
 
 fn put_search(alloc: Global, out: &mut String, task: &Task, budget: u32, most: u32) -> Result<(), anyhow::Error> {

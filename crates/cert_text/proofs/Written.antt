@@ -1,10 +1,12 @@
 -- The text of a certificate, as it is written.
 use Rattle.std.proofs.Common.{◌≡◌, ℕ, ◌+◌, ◌<◌, List, [], ◌∷◌, ◌++◌, length, take, get_or, codes, refl, sym, ap, ◌∙◌, subst, append_assoc}
+use Rattle.std.proofs.lemmas.Grind.{flat_map-append}
 use Rattle.std.proofs.lemmas.List.{append-nil, take_more}
 use Rattle.input_space.specs.Cases.{SpellsCase}
 use Rattle.input_space.specs.declared.case.Case.{Case}
+use Rattle.input_space.specs.declared.session.Session.{Session}
 use Rattle.cert_text.specs.declared.cert.Cert.{Cert}
-use Rattle.cert_text.specs.Certificates.{IsCertOf, WritesCase, WritesCases, front_lines, sessions_lines}
+use Rattle.cert_text.specs.Certificates.{IsCertOf, WritesCase, WritesCases, front_lines, session_lines, sessions_lines}
 use Rattle.cert_text.specs.Limits.{KeepsForm}
 use Rattle.cert_text.specs.LineForms.{SpellsCaseLine, last_line, set_apart}
 use Rattle.step_lines.proofs.Apart.{all_append}
@@ -16,6 +18,14 @@ pub ended_append : (ls ms : List (List ℕ)) → ended (ls ++ ms) ≡ ended ls +
 ended_append [] ms = refl
 ended_append (l ∷ ls) ms =
     ap (λ t. (l ++ 10 ∷ []) ++ t) (ended_append ls ms) ∙ sym (append_assoc (l ++ 10 ∷ []) (ended ls) (ended ms))
+
+-- the lines of sessions behind those of others
+pub sessions_joined : (b : List ℕ) (xs ys : List Session)
+    → (b ++ ended (sessions_lines xs)) ++ ended (sessions_lines ys) ≡ b ++ ended (sessions_lines (xs ++ ys))
+sessions_joined b xs ys =
+    append_assoc b (ended (sessions_lines xs)) (ended (sessions_lines ys))
+    ∙ ap (λ t. b ++ t) (sym (ended_append (sessions_lines xs) (sessions_lines ys)))
+    ∙ ap (λ ls. b ++ ended ls) (sym (flat_map-append session_lines xs ys))
 
 -- one case more
 

@@ -13,6 +13,15 @@ use Rattle.cert_text.specs.Limits.{KeepsForm}
 use Rattle.cert_text.specs.LineForms.{SpellsCaseLine, claim_line, clause_line, first_line}
 use Rattle.cert_text.specs.LineForms.{last_line, query_line, selection_line, vars_line}
 
+-- a certificate by its parts
+abbrev pub cert_with : Claim → List Choice → List Case → List Session → Cert
+cert_with claimed choices cases sessions = record {
+  claim = claimed;
+  selection = choices;
+  cases = cases;
+  sessions = sessions;
+}
+
 -- the line of the selection stands with a cost alone
 abbrev pub selection_lines : Claim → List Choice → List (List ℕ)
 selection_lines (claim.Cost n) choices = selection_line choices ∷ []

@@ -5,7 +5,7 @@ ghost use Rattle.cert_text.specs.declared.cert.CertError.TheVariants as cert_err
 
 use crate::NoMemory;
 use choice_tree::Selection;
-use input_space::{Cases, Sessions};
+use input_space::{Cases, Session, Sessions};
 
 /// What is claimed.
 #[derive(Clone, Copy, PartialEq, Eq, Debug, Drop)]
@@ -27,6 +27,18 @@ pub struct Cert {
     pub selection: Selection,
     pub cases: Cases,
     pub sessions: Sessions,
+}
+
+/// The parts of a certificate that stand elsewhere. Its sessions are those of two lists, one behind
+/// the other.
+#[derive(Drop)]
+pub struct CertParts<'a> {
+    pub claim: Claim,
+    /// Empty unless the claim is a cost.
+    pub selection: &'a Selection,
+    pub cases: &'a Cases,
+    pub sessions: &'a [Session],
+    pub more: &'a [Session],
 }
 
 /// On which line of a certificate's text the case at a place stands, both counted from 1.

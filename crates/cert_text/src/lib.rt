@@ -13,11 +13,11 @@ mod queries;
 mod reading;
 mod writing;
 
-pub use cert::{Cert, CertError, Claim, case_line};
+pub use cert::{Cert, CertError, CertParts, Claim, case_line};
 pub use laws::{case_by_line, one_cert};
 pub use reading::read_cert;
 use std::alloc::AllocError;
-pub use writing::write_cert;
+pub use writing::{write_cert, write_parts};
 
 /// Want of memory, where a call has no other refusal.
 pub type NoMemory = AllocError;

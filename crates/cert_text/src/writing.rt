@@ -1,7 +1,7 @@
 //! Writing certificates.
 ghost use Rattle.std.specs.Prelude.{◌≡◌, ◌++◌, IfOk, OnOk, map};
-ghost use Rattle.cert_text.specs.Certificates.{IsCertOf, WritesCases, front_lines, session_lines};
-ghost use Rattle.cert_text.specs.Certificates.{sessions_lines};
+ghost use Rattle.cert_text.specs.Certificates.{IsCertOf, WritesCases, cert_with, front_lines};
+ghost use Rattle.cert_text.specs.Certificates.{session_lines, sessions_lines};
 ghost use Rattle.cert_text.specs.Limits.{KeepsForm};
 ghost use Rattle.step_lines.specs.LineForms.{step_line};
 ghost use Rattle.step_lines.specs.Lines.{ended};
@@ -9,10 +9,11 @@ ghost use Rattle.cert_text.specs.LineForms.{clause_line};
 
 use crate::NoMemory;
 use crate::cases::write_case;
-use crate::cert::{Cert, Claim};
+use crate::cert::{Cert, CertParts, Claim};
 use crate::claims::{write_claim, write_selection};
 use crate::clauses::{write_clause, write_vars};
 use crate::queries::write_query;
+use choice_tree::Selection;
 use clause_base::formula::Clauses;
 use clause_base::log::Steps;
 use input_space::{Case, Session};
@@ -66,16 +67,32 @@ fn write_cases(alloc: Global, out: &mut Vec<u8>, cases: &[Case]) -> Result<(), N
 }
 
 // The lines before the cases.
-fn write_front(out: &mut Vec<u8>, c: &Cert) -> Result<(), NoMemory>
+fn write_front(out: &mut Vec<u8>, claim: Claim, selection: &Selection) -> Result<(), NoMemory>
     ensures { OnOk result
-        (out.new.items ≡ out.old.items ++ ended (front_lines c.now.claim c.now.selection)) }
+        (out.new.items ≡ out.old.items ++ ended (front_lines claim selection.now)) }
 {
     out.extend_from_slice(b"mpycert 1\n")?;
-    write_claim(out, c.claim)?;
-    match c.claim {
-        Claim::Cost(_) => write_selection(out, c.selection.items()),
+    write_claim(out, claim)?;
+    match claim {
+        Claim::Cost(_) => write_selection(out, selection.items()),
         Claim::Nothing | Claim::Spent(_) => Ok(()),
     }
+}
+
+/// The text of a certificate by its parts, where it keeps the limits and the order of the form.
+pub fn write_parts(alloc: Global, p: &CertParts<'_>) -> Result<Vec<u8>, NoMemory>
+    requires { KeepsForm (cert_with p.now.claim p.now.selection.now p.now.cases.now
+        (p.now.sessions.now ++ p.now.more.now)) }
+    ensures { IfOk result (λ text. IsCertOf text.items (cert_with p.now.claim
+        p.now.selection.now p.now.cases.now (p.now.sessions.now ++ p.now.more.now))) }
+{
+    let mut out = Vec::new(alloc);
+    write_front(&mut out, p.claim, p.selection)?;
+    write_cases(alloc, &mut out, p.cases.items())?;
+    write_sessions(&mut out, p.sessions)?;
+    write_sessions(&mut out, p.more)?;
+    out.extend_from_slice(b"end\n")?;
+    Ok(out)
 }
 
 /// The text of a certificate that keeps the limits and the order of the form.
@@ -83,10 +100,15 @@ pub fn write_cert(alloc: Global, c: &Cert) -> Result<Vec<u8>, NoMemory>
     requires { KeepsForm c.now }
     ensures { IfOk result (λ text. IsCertOf text.items c.now) }
 {
-    let mut out = Vec::new(alloc);
-    write_front(&mut out, c)?;
-    write_cases(alloc, &mut out, c.cases.items())?;
-    write_sessions(&mut out, c.sessions.items())?;
-    out.extend_from_slice(b"end\n")?;
-    Ok(out)
+    let text = write_parts(
+        alloc,
+        &CertParts {
+            claim: c.claim,
+            selection: &c.selection,
+            cases: &c.cases,
+            sessions: c.sessions.items(),
+            more: &[],
+        },
+    )?;
+    Ok(text)
 }

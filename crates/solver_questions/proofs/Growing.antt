@@ -18,7 +18,8 @@ use Rattle.input_space.specs.Sessions.{IsBacked, IsHonest, cases_of, logged, que
 use Rattle.input_space.specs.Statements.{Coding, States}
 use Rattle.input_space.specs.TaskCoding.{coding}
 use Rattle.input_space.specs.TaskSpace.{wanted_inputs}
-use Rattle.solver_questions.specs.Asking.{Asking, IsAsking, HasNoEmptyStep, and_case, and_session}
+use Rattle.solver_questions.specs.Asking.{Asking, IsAsking, IsNumbered, HasNoEmptyStep, and_case}
+use Rattle.solver_questions.specs.Asking.{and_session}
 use Rattle.solver_questions.specs.Asking.{space_of, task_of, topic_of}
 use Rattle.solver_questions.specs.Replies.{IsSessionOf}
 
@@ -76,6 +77,7 @@ with_session a x n is own within =
           is.backed (own.backed a.budget);
       honest = one_more (IsHonest (coding (task_of a))) a.sessions x is.honest own.honest;
       unrefuted = one_more HasNoEmptyStep a.sessions x is.unrefuted own.unrefuted;
+      numbered = one_more IsNumbered a.sessions x is.numbered own.numbered;
       within = omega arith;
     }
 
@@ -93,6 +95,7 @@ with_case a x y n is wanted own within =
           (backed_more s d a.kept (x ∷ []) y (own.backed a.budget));
       honest = one_more (IsHonest d) a.sessions y is.honest own.honest;
       unrefuted = one_more HasNoEmptyStep a.sessions y is.unrefuted own.unrefuted;
+      numbered = one_more IsNumbered a.sessions y is.numbered own.numbered;
       within = omega arith;
     }
 

@@ -35,9 +35,10 @@ pub is_session : (k : Task) (kept : List Case) (query : Query) (budget : ℕ) (f
     → LogFollows f.vars f.clauses log.steps → IsFresh f.clauses log.steps
     → IsNarrow (own_of k query + 1) log.steps
     → (is_refuted log.steps ≡ false → NoneEmpty log.steps)
+    → length f.clauses + length log.steps ≤ 2147483647
     → length log.steps ≤ budget
     → IsSessionOf k kept query budget (session_of query f log)
-is_session k kept query budget f log stated follows fresh narrow alone within = record {
+is_session k kept query budget f log stated follows fresh narrow alone numbered within = record {
   asks = refl;
   backed = λ n. record {
     cases = stated.cases;
@@ -48,6 +49,7 @@ is_session k kept query budget f log stated follows fresh narrow alone within = 
   };
   honest = record { fresh = fresh; narrow = narrow };
   unrefuted = alone;
+  numbered = numbered;
   few = within;
 }
 

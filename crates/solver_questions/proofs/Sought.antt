@@ -164,6 +164,7 @@ own_session k kept q n x h = record {
   backed = h.backed;
   honest = h.honest;
   unrefuted = h.unrefuted;
+  numbered = h.numbered;
   few = omega arith;
 }
 

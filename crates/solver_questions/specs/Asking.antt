@@ -1,5 +1,6 @@
 -- What is asked about, and what holds while it is asked.
-use Rattle.std.specs.Prelude.{◌≡◌, ◌≤◌, ℕ, false, List, [], ◌∷◌, ◌++◌, All, map, Some}
+use Rattle.std.specs.Prelude.{◌≡◌, ◌≤◌, ℕ, ◌+◌, false, List, [], ◌∷◌, ◌++◌, All, length, map}
+use Rattle.std.specs.Prelude.{Some}
 use Rattle.choice_tree.specs.declared.selection.Choice.{Choice}
 use Rattle.cegis_loop.specs.Space.{Space}
 use Rattle.cegis_loop.specs.State.{State}
@@ -46,6 +47,10 @@ seen_in a = record {
 abbrev pub HasNoEmptyStep : Session → Type 0
 HasNoEmptyStep x = is_refuted x.log.steps ≡ false → NoneEmpty x.log.steps
 
+-- the numbers of a session's clauses keep their limit
+abbrev pub IsNumbered : Session → Type 0
+IsNumbered x = length x.formula.clauses + length x.log.steps ≤ 2147483647
+
 -- the kept cases are inputs on which the reference gives a value; each session's formula states its
 -- question, and its log follows and is honest; no more clauses are logged than may be
 pub record IsAsking (a : Asking) : Type 0 where
@@ -53,6 +58,7 @@ pub record IsAsking (a : Asking) : Type 0 where
   pub backed : All (IsBacked (space_of (topic_of a)) (coding (task_of a)) a.kept) a.sessions
   pub honest : All (IsHonest (coding (task_of a))) a.sessions
   pub unrefuted : All HasNoEmptyStep a.sessions
+  pub numbered : All IsNumbered a.sessions
   pub within : logged a.sessions ≤ a.budget
 
 -- and so many clauses are logged

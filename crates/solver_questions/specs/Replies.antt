@@ -19,7 +19,7 @@ use Rattle.input_space.specs.TaskSpace.{space}
 use Rattle.query_build.specs.Asking.{own_bits}
 use Rattle.solver_questions.specs.declared.reply.Finding.{Finding}
 use Rattle.solver_questions.specs.declared.reply.Finding.TheVariants as finding
-use Rattle.solver_questions.specs.Asking.{HasNoEmptyStep}
+use Rattle.solver_questions.specs.Asking.{HasNoEmptyStep, IsNumbered}
 
 -- how many truth values a question about a task has
 abbrev pub own_of : Task → Query → ℕ
@@ -60,6 +60,7 @@ pub record IsSessionOf (k : Task) (kept : List Case) (query : Query) (budget : �
   pub backed : (n : ℕ) → IsBacked (space k n) (coding k) kept x
   pub honest : IsHonest (coding k) x
   pub unrefuted : HasNoEmptyStep x
+  pub numbered : IsNumbered x
   pub few : length x.log.steps ≤ budget
 
 -- what is looked for: an input, or a selection

@@ -4,7 +4,7 @@
 mod questions;
 mod reply;
 
-pub use questions::SolverQuestions;
+pub use questions::{SolverQuestions, Told};
 use std::alloc::AllocError;
 
 /// Want of memory, where a call has no other refusal.

@@ -10,8 +10,9 @@ ghost use Rattle.input_space.specs.declared.case.Case.{Case};
 ghost use Rattle.input_space.specs.Sessions.{IsBacked, IsHonest, logged, question_of};
 ghost use Rattle.input_space.specs.TaskCoding.{coding};
 ghost use Rattle.input_space.specs.TaskSpace.{wanted_inputs};
-ghost use Rattle.solver_questions.specs.Asking.{HasNoEmptyStep, and_case, and_session, seen_in};
-ghost use Rattle.solver_questions.specs.Asking.{space_of, task_of, topic_of};
+ghost use Rattle.solver_questions.specs.Asking.{HasNoEmptyStep, IsNumbered, and_case};
+ghost use Rattle.solver_questions.specs.Asking.{and_session, seen_in, space_of, task_of};
+ghost use Rattle.solver_questions.specs.Asking.{topic_of};
 ghost use Rattle.solver_questions.specs.Replies.{AsksForInput, IsInputFor, IsSessionOf, asked_of};
 
 use crate::NoMemory;
@@ -36,6 +37,13 @@ pub struct SolverQuestions<'a> {
     logged: u32,
     kept: Cases,
     sessions: Sessions,
+}
+
+/// The inputs that were kept and the questions that were answered, in order.
+#[derive(Drop)]
+pub struct Told {
+    pub kept: Cases,
+    pub sessions: Sessions,
 }
 
 impl<'a> Model for SolverQuestions<'a> {
@@ -96,9 +104,21 @@ impl<'a> SolverQuestions<'a> {
             self.now.kept) self.now.sessions }
         ensures honest { All (IsHonest (coding (task_of self.now))) self.now.sessions }
         ensures unrefuted { All HasNoEmptyStep self.now.sessions }
+        ensures numbered { All IsNumbered self.now.sessions }
         ensures budget { logged self.now.sessions ≤ self.now.budget }
     {
         &self.sessions
+    }
+
+    /// The kept inputs and the sessions, which no longer grow.
+    pub fn into_told(self) -> Told
+        ensures kept { result.kept ≡ self.entry.kept }
+        ensures sessions { result.sessions ≡ self.entry.sessions }
+    {
+        Told {
+            kept: self.kept,
+            sessions: self.sessions,
+        }
     }
 
     // How many clauses may still be logged.

@@ -24,7 +24,7 @@ returns-in-Holds-clause-session c =
     (said.narrow d of.led)
     (λ h. none_empty values log.steps
     (c.what_follows_holds.ensures.holds f.vars f.clauses log.steps values logs.follows model.satisfied))
-    logs.within
+    logs.numbered logs.within
 
 pub returns-in-Holds-clause-finding : goal.returns-in-Holds-clause-finding
 returns-in-Holds-clause-finding c =
@@ -59,7 +59,7 @@ returns-in-Refuted-clause-session c =
     (said.fresh of.none_empty)
     (said.narrow d of.led)
     (λ h. absurd (true≢false (sym (refuted log.steps refutes) ∙ h)))
-    logs.within
+    logs.numbered logs.within
 
 pub returns-in-Refuted-clause-finding : goal.returns-in-Refuted-clause-finding
 returns-in-Refuted-clause-finding c =
@@ -92,7 +92,7 @@ returns-in-Spent-clause-session c =
     (said.fresh of.none_empty)
     (said.narrow d of.led)
     (λ h. spent.none_empty)
-    logs.within
+    logs.numbered logs.within
 
 pub returns-in-Spent-clause-finding : goal.returns-in-Spent-clause-finding
 returns-in-Spent-clause-finding c =

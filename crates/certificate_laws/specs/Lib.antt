@@ -1,0 +1,4 @@
+pub mod Right
+pub mod BestLaws
+pub mod CertificateLaws
+pub mod Topics

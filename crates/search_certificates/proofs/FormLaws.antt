@@ -1,0 +1,91 @@
+-- Sessions of a search keep the limits of the form of certificates.
+use Rattle.std.proofs.Common.{◌≡◌, ◌≢◌, ℕ, zero, suc, ◌+◌, ◌<◌, ◌≤◌, Bool, true, ◌&&◌, List, [], ◌∷◌, ◌++◌, length, refl, sym, ap, ◌∙◌, arith, subst, length-append}
+use Rattle.std.specs.Prelude.{All, nat_le, nat_lt}
+use Rattle.std.specs.List.{list_all}
+use Rattle.std.proofs.lemmas.Bool.{and_from, leb-true, le-leb, lt-ltb}
+use Rattle.std.proofs.lemmas.List.Elements.{All-head, All-tail}
+use Rattle.choice_tree.specs.declared.selection.Choice.{Choice}
+use Rattle.clause_base.specs.declared.clause.Clause.{Clause}
+use Rattle.clause_base.specs.declared.lit.Lit.{Lit}
+use Rattle.clause_base.specs.declared.log.Step.{Step}
+use Rattle.clause_base.specs.Formulas.{in_range}
+use Rattle.clause_base.specs.Logs.{EachStep, StepFollows}
+use Rattle.step_lines.specs.Limits.{KeepsStep, KeepsSteps, greatest_number, is_hint, is_literal, is_number}
+use Rattle.step_lines.proofs.Apart.{all_append, both}
+use Rattle.choice_tree.specs.Choices.{Rises}
+use Rattle.cert_text.proofs.Rising.{behind_picks, picks_more, rises_more}
+use Rattle.cegis_loop.specs.Space.{Space}
+use Rattle.input_space.specs.declared.case.Case.{Case}
+use Rattle.input_space.specs.declared.session.Query.{Query}
+use Rattle.input_space.specs.declared.session.Query.TheVariants as query
+use Rattle.input_space.specs.declared.session.Session.{Session}
+use Rattle.input_space.specs.Sessions.{IsBacked, cases_of}
+use Rattle.input_space.specs.Statements.{Coding}
+use Rattle.cert_text.specs.Limits.{KeepsQuery, KeepsSession, KeepsSessions, is_choice}
+use Rattle.search_certificates.specs.Certified.{KeepsAsked}
+
+literals_kept : (vars : ℕ) (ls : List Lit) → vars ≤ 2147483647 → list_all (in_range vars) ls ≡ true → list_all (is_literal vars) ls ≡ true
+literals_kept vars [] few h = refl
+literals_kept vars (l ∷ ls) few h =
+    let r = both (in_range vars l) (list_all (in_range vars) ls) h in
+    let range = both (nat_lt 0 l.var) (nat_le l.var vars) r.0 in
+    let low = leb-true l.var vars range.1 in
+    and_from (is_literal vars l) (list_all (is_literal vars) ls)
+    (and_from (in_range vars l) (is_number l.var) r.0 (le-leb l.var 2147483647 (omega arith)))
+    (literals_kept vars ls few r.1)
+
+hints_kept : (n : ℕ) (hs : List ℕ) → n ≤ 2147483647 → All (λ h. (0 < h) × (h ≤ n)) hs → list_all (is_hint (suc n)) hs ≡ true
+hints_kept n [] few h = refl
+hints_kept n (k ∷ ks) few h =
+    let one = All-head (λ h. (0 < h) × (h ≤ n)) k ks h in
+    let low = one.1 in
+    and_from (is_hint (suc n) k) (list_all (is_hint (suc n)) ks)
+    (and_from (nat_lt 0 k) (nat_lt k (suc n) && is_number k) (lt-ltb 0 k one.0)
+    (and_from (nat_lt k (suc n)) (is_number k) (lt-ltb k (suc n) (omega arith)) (le-leb k 2147483647 (omega arith))))
+    (hints_kept n ks few (All-tail (λ h. (0 < h) × (h ≤ n)) k ks h))
+
+steps_kept : (vars : ℕ) (known : List Clause) (steps : List Step) → vars ≤ 2147483647 → length known + length steps ≤ 2147483647
+    → EachStep (StepFollows vars) known steps → KeepsSteps vars (suc (length known)) steps
+steps_kept vars known [] few many h = tt
+steps_kept vars known (s ∷ steps) few many h =
+    let n : length (known ++ s.clause ∷ []) ≡ suc (length known) = (let e = length-append known (s.clause ∷ []) in omega arith) in (
+      record { literals = literals_kept vars s.clause.lits few h.0.within; hints = hints_kept (length known) s.hints (omega arith) h.0.named },
+      subst (λ m. KeepsSteps vars (suc m) steps) n (steps_kept vars (known ++ s.clause ∷ []) steps few (omega arith) h.1),
+    )
+
+query_kept : (count : ℕ) (q : Query) → count ≤ 2147483647 → cases_of q ≤ count → KeepsAsked q → KeepsQuery count q
+query_kept count query.First few within h = tt
+query_kept count (query.Low most cases) few within h = (h, within, omega arith)
+query_kept count (query.Fail s) few within h = h
+
+-- the numbers of a session's clauses keep their limit
+abbrev pub IsNumbered : Session → Type 0
+IsNumbered x = length x.formula.clauses + length x.log.steps ≤ 2147483647
+
+pub session_kept : (s : Space (List Choice) Case) (d : Coding (List Choice) Case) (kept : List Case) (x : Session) → length kept ≤ 2147483647
+    → IsBacked s d kept x → IsNumbered x → KeepsAsked x.query → KeepsSession (length kept) x
+session_kept s d kept x few backed numbered asked = record {
+  asked = query_kept (length kept) x.query few backed.cases asked;
+  number = backed.few;
+  some = λ e. (let n = ap length e in let m = backed.some in omega arith);
+  steps = steps_kept x.formula.vars x.formula.clauses x.log.steps backed.few numbered backed.follows;
+}
+
+pub sessions_kept : (s : Space (List Choice) Case) (d : Coding (List Choice) Case) (kept : List Case) (xs : List Session) → length kept ≤ 2147483647
+    → All (IsBacked s d kept) xs → All IsNumbered xs → All (λ x. KeepsAsked x.query) xs → KeepsSessions (length kept) xs
+sessions_kept s d kept [] few backed numbered asked = tt
+sessions_kept s d kept (x ∷ xs) few backed numbered asked = (
+  session_kept s d kept x few (All-head (IsBacked s d kept) x xs backed) (All-head IsNumbered x xs numbered) (All-head (λ x. KeepsAsked x.query) x xs asked),
+  sessions_kept s d kept xs few (All-tail (IsBacked s d kept) x xs backed) (All-tail IsNumbered x xs numbered) (All-tail (λ x. KeepsAsked x.query) x xs asked),
+)
+
+-- one choice more
+pub choice_more : (cs : List Choice) (c : Choice) (least : ℕ) → Rises 0 cs → list_all is_choice cs ≡ true → behind_picks 0 cs ≡ least
+    → least ≤ c.pick → is_choice c ≡ true → c.pick ≤ 2147483647
+    → Rises 0 (cs ++ c ∷ []) × (list_all is_choice (cs ++ c ∷ []) ≡ true) × (behind_picks 0 (cs ++ c ∷ []) ≡ c.pick + 1) × (c.pick + 1 ≤ 2147483648)
+choice_more cs c least rises all behind low own small = (
+  rises_more 0 cs c rises (omega arith),
+  all_append is_choice cs (c ∷ []) all (and_from (is_choice c) true own refl),
+  picks_more 0 cs c ∙ (let e : suc c.pick ≡ c.pick + 1 = omega arith in e),
+  omega arith,
+)

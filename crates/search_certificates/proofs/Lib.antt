@@ -1,0 +1,4 @@
+pub mod FirstPlace
+pub mod Told
+pub mod FormLaws
+pub mod Certifying

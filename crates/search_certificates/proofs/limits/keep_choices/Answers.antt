@@ -1,0 +1,21 @@
+use Rattle.std.proofs.Common.{◌≡◌, ◌+◌, ◌≤◌, ◌∙◌, List, true, get_or, subst, sym, take}
+use Rattle.std.specs.List.{list_all}
+use Rattle.std.proofs.lemmas.List.{take_more}
+use Rattle.choice_tree.specs.declared.selection.Choice.{Choice}
+use Rattle.choice_tree.specs.Choices.{Rises}
+use Rattle.cert_text.proofs.Rising.{behind_picks}
+use Rattle.cert_text.specs.Limits.{is_choice}
+use Rattle.search_certificates.proofs.FormLaws.{choice_more}
+use Rattle.search_certificates.proofs.limits.keep_choices.Goals as goal
+
+pub loop-choice-preserved : goal.loop-choice-preserved
+loop-choice-preserved c =
+    let xs = c.args.choices.now in
+    let i = c.loop-choice.choice-index in
+    let d : Choice = record { pick = 0; member = 0 } in
+    let x = get_or xs i d in
+    let before = c.loop-choice.invariant in
+    subst (λ (ys : List Choice). Rises 0 ys × (list_all is_choice ys ≡ true) × (behind_picks 0 ys ≡ x.pick + 1) × (x.pick + 1 ≤ 2147483648))
+    (sym (take_more xs i d c.loop-choice-test.true))
+    (choice_more (take i xs) x c.loop-choice.least before.0 before.1 before.2 c.if-choice-least.false
+    (sym c.is_choice.ensures.value ∙ c.if-not-is_choice.false) (c.is_choice.ensures.small c.if-not-is_choice.false))
