@@ -60,13 +60,14 @@ pub record IsCertificateOf (k : Task) (budget : ℕ) (found : Least (List Choice
   pub chosen : IsChosen found cert.selection
 
 -- The text is that of a certificate with this claim and these cases, which is right whatever search
--- found what is claimed.
+-- found what is claimed; of a spent budget it has all sessions.
 pub record IsCertified (k : Task) (c : Claim) (kept : List Case) (xs : List Session)
     (text : List ℕ) : Type 0 where
   pub cert : Cert
   pub spelled : IsCertOf text cert
   pub claim_is : cert.claim ≡ c
   pub cases_are : cert.cases ≡ kept
+  pub whole : (n : ℕ) → c ≡ claim.Spent n → cert.sessions ≡ xs
   pub certifies : (budget : ℕ) (found : Least (List Choice)) → Claims k c kept xs budget found
       → IsCertificateOf k budget found cert
 

@@ -70,6 +70,7 @@ returns c =
       spelled = c.in_ok-text.ensures;
       claim_is = refl;
       cases_are = refl;
+      whole = λ n e. (let no : claim.Cost c.args.cost ≡ claim.Spent n = e in absurd cc);
       certifies = certify_cost k kept xs own more c.args.cost c.in-Fail.selection (λ b. c.choice_didnt_fail.ensures (OfTask k b)) one one.by.session one.alone
           (first_asks xs own c.index-failing-0.result c.in-Fail.selection one c.in-Fail.is) low;
     }

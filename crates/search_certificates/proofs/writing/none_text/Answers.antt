@@ -44,5 +44,6 @@ returns c =
           subst (λ (s : List Choice). IsCertOf c.in_ok-text.text.items (cert_with claim.Nothing s kept (own ++ []))) (c.from_vec-none.ensures ∙ c.new.ensures.items) c.in_ok-text.ensures;
       claim_is = refl;
       cases_are = refl;
+      whole = λ n e. (let no : claim.Nothing ≡ claim.Spent n = e in absurd cc);
       certifies = certify_none k kept c.args.sessions.now own one;
     }

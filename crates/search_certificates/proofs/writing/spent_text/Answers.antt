@@ -1,5 +1,6 @@
 use Rattle.std.proofs.Common.{◌≡◌, ◌≤◌, ◌∙◌, ◌++◌, ℕ, List, [], arith, length, refl, subst, sym}
 use Rattle.std.specs.Prelude.{All}
+use Rattle.std.proofs.lemmas.List.{append-nil}
 use Rattle.choice_tree.specs.declared.selection.Choice.{Choice}
 use Rattle.cert_text.specs.Certificates.{IsCertOf, cert_with}
 use Rattle.cert_text.specs.Limits.{KeepsForm}
@@ -40,5 +41,6 @@ returns c =
           (c.from_vec-none.ensures ∙ c.new.ensures.items) c.in_ok-text.ensures);
       claim_is = refl;
       cases_are = refl;
+      whole = λ m e. append-nil xs;
       certifies = certify_spent k kept xs n;
     }
