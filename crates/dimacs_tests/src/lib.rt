@@ -1,0 +1,5 @@
+//! Tests of formulas and proofs as texts.
+#![tactic(auto)]
+
+#[cfg(test)]
+mod texts;

@@ -1,0 +1,12 @@
+pub mod Cuts
+pub mod LineCuts
+pub mod Headers
+pub mod Heads
+pub mod Tidying
+pub mod DraftsGrow
+pub mod Bodies
+pub mod Whole
+pub mod ProofLines
+pub mod Written
+pub mod KeptTrue
+pub mod OneCnf
