@@ -1,10 +1,11 @@
 -- What is graded, and what agrees with the reference.
-use Rattle.std.specs.Prelude.{◌≡◌, ◌⊎◌, ℕ, ◌*◌, ◌<◌, List, [], map, length, Option, None, Some}
+use Rattle.std.specs.Prelude.{◌≡◌, ◌⊎◌, ℕ, ◌+◌, ◌<◌, List, [], map, Option, None, Some}
 use Rattle.mpy_tree.specs.declared.typing.Fact.{Fact}
 use Rattle.mpy_tree.specs.declared.typing.Ty.{Ty}
 use Rattle.mpy_tree.specs.Rules.{single}
 use Rattle.mpy_tree.specs.Running.{found}
 use Rattle.mpy_tree.specs.SetTypes.{called, results}
+use Rattle.mpy_tree.specs.Shapes.{program_shape}
 use Rattle.mpy_tree.specs.Sharing.{shared}
 use Rattle.mpy_tree.specs.Syntax.{Routine}
 use Rattle.mpy_tree.specs.TypeSets.{only}
@@ -14,13 +15,14 @@ use Rattle.bounds_reader.specs.declared.bounds.Bounds.{Bounds}
 use Rattle.choice_tree.specs.Contexts.{Setting, setting_with}
 use Rattle.choice_tree.specs.Growing.{weighted_program}
 use Rattle.choice_tree.specs.Rewriting.{Edit, IsRewriting}
-use Rattle.choice_tree.specs.Selections.{choices}
+use Rattle.choice_tree.specs.Selections.{most_cost}
 use Rattle.choice_tree.specs.Templates.{Correction}
-use Rattle.choice_tree.specs.WeightedTrees.{Weighted, size}
+use Rattle.choice_tree.specs.WeightedTrees.{Weighted, lifted, size}
+use Rattle.tree_weights.specs.Weights.{program_weight}
 use Rattle.eml_faults.specs.LimitFaults.{limit_fault}
 use Rattle.eml_faults.specs.MeaningFaults.{meaning_fault}
 use Rattle.input_space.specs.Agreement.{Agrees, EndsSomewhere, Failure, IsBest, IsFailure}
-use Rattle.input_space.specs.Inputs.{inputs, param_type}
+use Rattle.input_space.specs.Inputs.{param_type}
 use Rattle.input_space.specs.ProperRules.{AreProperRules}
 
 -- the bounds, the two programs with the types of their names, and the rules
@@ -66,13 +68,24 @@ HasWanted k = EndsSomewhere k.bounds k.reference
 pub record HasManyNodes (k : Task) : Type 0 where
   pub many : 1000000 < size (tree_of k)
 
--- there are more choices and inputs together than are tried
-pub record HasManyTrials (k : Task) : Type 0 where
-  pub many : 1000000 < choices (tree_of k) * length (inputs k.bounds.params)
+-- what the reference and the weighted tree weigh together
+abbrev pub weights : Task → ℕ
+weights k =
+    program_weight k.bounds.limits k.reference_types k.bounds.entry
+    (lifted (program_shape k.reference))
+    + program_weight k.bounds.limits k.submission_types k.bounds.entry (tree_of k)
+
+-- they weigh too much
+pub record WeighsTooMuch (k : Task) : Type 0 where
+  pub many : 1000000 < weights k
+
+-- the greatest cost is too great
+pub record CostsTooMuch (k : Task) : Type 0 where
+  pub many : 4096 < most_cost (tree_of k)
 
 -- there is too much to search
 abbrev pub IsTooLarge : Task → Type 0
-IsTooLarge k = HasManyNodes k ⊎ HasManyTrials k
+IsTooLarge k = HasManyNodes k ⊎ WeighsTooMuch k ⊎ CostsTooMuch k
 
 -- the type of what the entry of a program gives
 abbrev pub result_type : Bounds → List Routine → List Fact → Option Ty

@@ -24,7 +24,8 @@ pub struct TaskParts {
 /// rules, and the weighted tree of all rewritings of the submission.
 ///
 /// Both programs are typed for the entry of the bounds, share no list and give results of one type;
-/// the rules have no fault; and there are few enough selections and inputs to try all.
+/// the rules have no fault; and the tree is small enough, weighs little enough with the reference,
+/// and costs little enough to be searched.
 #[derive(Drop)]
 pub struct Task {
     parts: TaskParts,

@@ -1,5 +1,5 @@
 -- Each text spells a typed program or is refused, and so do four texts a task.
-use Rattle.std.proofs.Common.{◌≡◌, ℕ, ◌*◌, ◌<◌, List, [], ◌∷◌, length, Option, Some, None, min, zero, suc, refl, sym, ap, ◌∙◌, arith, inl, inr}
+use Rattle.std.proofs.Common.{◌≡◌, ℕ, ◌<◌, List, [], ◌∷◌, Option, Some, None, min, zero, suc, refl, sym, ap, ◌∙◌, arith, inl, inr}
 use Rattle.std.specs.Prelude.{◌⊎◌}
 use Rattle.std.proofs.lemmas.Bool.{cases_lt}
 use Rattle.mpy_tree.specs.declared.refusal.Cause.TheVariants as cause
@@ -16,10 +16,9 @@ use Rattle.mpy_parser.specs.Programs.{IsProgram}
 use Rattle.mpy_parser.proofs.Judged.{judged as text_judged}
 use Rattle.bounds_reader.proofs.Judged.{read_or_refused as bounds_judged}
 use Rattle.eml_reader.proofs.Judged.{judged as rules_judged}
-use Rattle.choice_tree.specs.Selections.{choices}
+use Rattle.choice_tree.specs.Selections.{most_cost}
 use Rattle.choice_tree.specs.WeightedTrees.{size}
-use Rattle.input_space.specs.Inputs.{inputs}
-use Rattle.input_space.specs.Tasks.{HasManyNodes, HasManyTrials, IsTooLarge, Task, result_type, tree_of}
+use Rattle.input_space.specs.Tasks.{HasManyNodes, WeighsTooMuch, CostsTooMuch, IsTooLarge, Task, result_type, tree_of, weights}
 use Rattle.task_read.specs.ProgramLaws.{IsJudged, ReadOrRefused}
 use Rattle.task_read.specs.Sources.{bounds_step, entry_at, program_step, refusal, rules_step}
 use Rattle.task_read.specs.Steps.{Step, ◌>>=◌, done, refuse_if}
@@ -152,7 +151,9 @@ too_large_or_not : (k : Task) → IsTooLarge k ⊎ (IsTooLarge k → ⊥)
 too_large_or_not k =
     either_or_not _ _
     (of_record _ (HasManyNodes k) (λ many. record { many = many }) (λ large. large.many) (below_or_not 1000000 (size (tree_of k))))
-    (of_record _ (HasManyTrials k) (λ many. record { many = many }) (λ large. large.many) (below_or_not 1000000 (choices (tree_of k) * length (inputs k.bounds.params))))
+    (either_or_not _ _
+    (of_record _ (WeighsTooMuch k) (λ many. record { many = many }) (λ large. large.many) (below_or_not 1000000 (weights k)))
+    (of_record _ (CostsTooMuch k) (λ many. record { many = many }) (λ large. large.many) (below_or_not 4096 (most_cost (tree_of k)))))
 
 parts_answer : (bounds reference submission rules : List ℕ) → Answers (parts_step bounds reference submission rules)
 parts_answer bounds reference submission rules =

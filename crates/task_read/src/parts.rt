@@ -1,12 +1,11 @@
 //! The parts of a task, each read by itself, and what must hold of them together.
-ghost use Rattle.std.specs.Prelude.{◌≡◌, ◌↔◌, ◌<◌, ◌≤◌, ◌*◌, IfErr, IfOk, IsTrue, OnOk, length};
+ghost use Rattle.std.specs.Prelude.{◌≡◌, ◌↔◌, ◌<◌, ◌≤◌, IfErr, IfOk, IsTrue, OnOk, length};
 ghost use Rattle.mpy_tree.specs.declared.refusal.Cause.TheVariants as cause;
-ghost use Rattle.choice_tree.specs.Selections.{choices};
+ghost use Rattle.choice_tree.specs.Selections.{most_cost};
 ghost use Rattle.choice_tree.specs.StatementViews.{weighted_prog};
 ghost use Rattle.choice_tree.specs.WeightedTrees.{size};
-ghost use Rattle.input_space.specs.Inputs.{inputs};
 ghost use Rattle.input_space.specs.TaskParts.{task_with};
-ghost use Rattle.input_space.specs.Tasks.{IsTooLarge, tree_of};
+ghost use Rattle.input_space.specs.Tasks.{IsTooLarge, tree_of, weights};
 ghost use Rattle.task_read.specs.Errors.{RefusesAs};
 ghost use Rattle.task_read.specs.Steps.{refuse_if};
 ghost use Rattle.task_read.specs.TaskSteps.{AreReady, GiveOneType, at_entry, parts_step};
@@ -18,16 +17,20 @@ use crate::error::{TaskError, refused};
 use crate::program::read_program;
 use crate::rules::read_task_rules;
 use bounds_reader::Bounds;
-use choice_tree::{WProg, choices};
+use choice_tree::{WProg, most_cost};
 use eml_rewrite::{RewriteError, rewrite};
-use input_space::{TaskParts, inputs_count};
+use input_space::TaskParts;
 use mpy_round_trip::what_is_read_is_proper;
 use mpy_tree::{Cause, Source};
 use mpy_types::FactList;
 use std::alloc::Global;
+use tree_weights::{NoMemory, lift, weight};
 
-/// No more choices and inputs together than this are tried.
-const MOST_TRIALS: u128 = 1_000_000;
+// The reference and the weighted tree weigh no more than this together.
+const MOST_WEIGHT: u64 = 1_000_000;
+
+// The greatest cost is no more than this.
+const MOST_COST: u32 = 4096;
 
 /// Reads each part of a task from its text, in order.
 pub(crate) fn read_parts(
@@ -108,12 +111,27 @@ fn tree(alloc: Global, parts: &TaskParts) -> Result<WProg, TaskError>
     }
 }
 
-// Whether a tree and the bounds have more choices and inputs together than are tried.
-fn has_many_trials(tree: &WProg, bounds: &Bounds) -> bool
-    ensures { IsTrue result
-        ↔ (1000000 < choices (weighted_prog tree.now) * length (inputs bounds.now.params)) }
+// Whether the reference and a weighted tree of the submission weigh too much together.
+fn weighs_too_much(alloc: Global, parts: &TaskParts, tree: &WProg) -> Result<bool, NoMemory>
+    requires { weighted_prog tree.now ≡ tree_of (task_with parts.now) }
+    ensures { IfOk result (λ b. IsTrue b ↔ (1000000 < weights (task_with parts.now))) }
 {
-    u128::from(choices(tree)) * u128::from(inputs_count(bounds)) > MOST_TRIALS
+    let limits = &parts.bounds.limits;
+    let entry = &parts.bounds.entry;
+    let reference = lift(alloc, &parts.reference)?;
+    let wanted = weight(&reference, &parts.reference_types, limits, entry);
+    let given = weight(tree, &parts.submission_types, limits, entry);
+    Ok(wanted + given > MOST_WEIGHT)
+}
+
+// Whether the greatest cost of a selection of the tree of the submission is too great.
+fn costs_too_much(parts: &TaskParts, tree: &WProg) -> bool
+    requires ready { AreReady (task_with parts.now) }
+    requires tree { weighted_prog tree.now ≡ tree_of (task_with parts.now) }
+    requires size { size (tree_of (task_with parts.now)) ≤ 1000000 }
+    ensures { IsTrue result ↔ (4096 < most_cost (tree_of (task_with parts.now))) }
+{
+    most_cost(tree) > MOST_COST
 }
 
 /// The weighted tree of the submission, unless the task is too large.
@@ -125,7 +143,7 @@ pub(crate) fn small_tree(alloc: Global, parts: &TaskParts) -> Result<WProg, Task
         (at_entry cause.TooLarge (task_with parts.now))).refuses) }
 {
     let tree = tree(alloc, parts)?;
-    if has_many_trials(&tree, &parts.bounds) {
+    if weighs_too_much(alloc, parts, &tree)? || costs_too_much(parts, &tree) {
         return Err(at_entry(parts, Cause::TooLarge));
     }
     Ok(tree)
