@@ -58,7 +58,7 @@ meets_where_agrees : (k : Task) (p : List Routine) → Agrees k.bounds k.referen
 meets_where_agrees k p agrees = all_if_contained (Meets k p) (wanted_inputs k) (λ x c done. agrees x.values (wanted_is_input k x c) done)
 
 -- a rewriting that agrees has a selection that does
-selected : (k : Task) → IsSound k → (q : List Routine) (n : ℕ) (es : List tree.Edit) → Rewrites k q n es
+pub selected : (k : Task) → IsSound k → (q : List Routine) (n : ℕ) (es : List tree.Edit) → Rewrites k q n es
     → Agrees k.bounds k.reference q → (s : List Choice) × Fits (tree_of k) s × (cost (member_of s) (tree_of k) ≡ n) × All (SelectionMeets k s) (wanted_inputs k)
 selected k sound q n es makes agrees =
     let has = (selections k sound).selected (program_shape q) n es makes in

@@ -3,7 +3,7 @@ use Rattle.std.proofs.Common.{◌≡◌, ℕ, List, [], ◌∷◌, map, refl, sy
 use Rattle.mpy_laws.proofs.BackFromTrees.{trees_differ}
 use Rattle.input_space.specs.Tasks.{Task}
 use Rattle.feedback_text.specs.declared.answer.Answer as code
-use Rattle.feedback_text.specs.Answers.{Answer, Correct, Corrected, NoCorrection, EmptyReference, Edit, edit_tree}
+use Rattle.feedback_text.specs.Answers.{Answer, Correct, Corrected, NoCorrection, EmptyReference, Spent, Edit, edit_tree}
 use Rattle.feedback_text.specs.AnswerViews.{StandsFor}
 use Rattle.feedback_text.specs.ReportViews.{IsReportOf}
 use Rattle.feedback_text.specs.Reports.{report_of}
@@ -36,11 +36,14 @@ one_answer k (code.TheVariants.Corrected s n fails) (Corrected m failure es p) (
 one_answer k (code.TheVariants.Corrected s n fails) Correct c h g = absurd h
 one_answer k (code.TheVariants.Corrected s n fails) (NoCorrection f) c h g = absurd h
 one_answer k (code.TheVariants.Corrected s n fails) EmptyReference c h g = absurd h
+one_answer k (code.TheVariants.Corrected s n fails) (Spent m b) c h g = absurd h
 one_answer k (code.TheVariants.Corrected s n fails) (Corrected m failure es p) Correct h g = absurd g
 one_answer k (code.TheVariants.Corrected s n fails) (Corrected m failure es p) (NoCorrection f) h g = absurd g
 one_answer k (code.TheVariants.Corrected s n fails) (Corrected m failure es p) EmptyReference h g = absurd g
+one_answer k (code.TheVariants.Corrected s n fails) (Corrected m failure es p) (Spent l b) h g = absurd g
 one_answer k (code.TheVariants.NoCorrection fails) b c h g = h ∙ sym g
 one_answer k code.TheVariants.EmptyReference b c h g = h ∙ sym g
+one_answer k (code.TheVariants.Spent n m) b c h g = h ∙ sym g
 one_answer k code.TheVariants.NoMemory b c h g = absurd h
 
 pub one_report : (k : Task) (a : code.Answer) (text other : List ℕ) → IsReportOf k a text → IsReportOf k a other → text ≡ other

@@ -17,7 +17,7 @@ use Rattle.input_space.specs.TaskParts.{task_with}
 use Rattle.input_space.specs.Tasks.{Task, tree_of}
 use Rattle.feedback_text.specs.declared.answer.Answer as code
 use Rattle.feedback_text.specs.declared.answer.Failure as code_failure
-use Rattle.feedback_text.specs.Answers.{Corrected, NoCorrection, edit_tree}
+use Rattle.feedback_text.specs.Answers.{Corrected, NoCorrection, Spent, edit_tree}
 use Rattle.feedback_text.specs.AnswerViews.{StandsFor, failure_of}
 use Rattle.feedback_text.specs.ReportViews.{edit_of, IsReportOf, ShowsCorrection}
 use Rattle.feedback_text.specs.Reports.{edits_text, fails_text}
@@ -72,3 +72,11 @@ failing_report k a fails text is all =
       stands = subst (λ (x : code.Answer). StandsFor k x b) (sym is) refl;
       text_is = all;
     }
+
+pub spent_report : (k : Task) (a : code.Answer) (n b : ℕ) (text : List ℕ) → a ≡ code.TheVariants.Spent n b
+    → text ≡ codes "budget spent " ++ decimal b ++ codes "\nat least cost " ++ decimal n ++ codes "\n" → IsReportOf k a text
+spent_report k a n b text is all = record {
+  answer = Spent n b;
+  stands = subst (λ (x : code.Answer). StandsFor k x (Spent n b)) (sym is) refl;
+  text_is = all;
+}

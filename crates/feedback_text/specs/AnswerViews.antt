@@ -10,7 +10,7 @@ use Rattle.mpy_tree.specs.declared.outcome.Outcome.TheVariants as outcome
 use Rattle.input_space.specs.Agreement.{Failure}
 use Rattle.input_space.specs.Tasks.{Task, tree_of}
 use Rattle.feedback_text.specs.Answers.{Answer, Correct, Corrected, NoCorrection, EmptyReference}
-use Rattle.feedback_text.specs.Answers.{Edit, edit_tree}
+use Rattle.feedback_text.specs.Answers.{Spent, Edit, edit_tree}
 use Rattle.feedback_text.specs.declared.answer.Answer as code
 use Rattle.feedback_text.specs.declared.answer.Failure as code_failure
 
@@ -34,8 +34,10 @@ StandsFor k (code.TheVariants.Corrected s n fails) (Corrected m failure es p) =
 StandsFor k (code.TheVariants.Corrected s n fails) Correct = ⊥
 StandsFor k (code.TheVariants.Corrected s n fails) (NoCorrection failure) = ⊥
 StandsFor k (code.TheVariants.Corrected s n fails) EmptyReference = ⊥
+StandsFor k (code.TheVariants.Corrected s n fails) (Spent at_least budget) = ⊥
 StandsFor k (code.TheVariants.NoCorrection fails) a = a ≡ NoCorrection (failure_of fails)
 StandsFor k code.TheVariants.EmptyReference a = a ≡ EmptyReference
+StandsFor k (code.TheVariants.Spent at_least budget) a = a ≡ Spent at_least budget
 StandsFor k code.TheVariants.NoMemory a = ⊥
 
 -- What a report is written of: a selection fits the tree. Of a reference without values there is
@@ -45,4 +47,5 @@ IsReported k code.TheVariants.Correct = Unit {0}
 IsReported k (code.TheVariants.Corrected s n fails) = Fits (tree_of k) s
 IsReported k (code.TheVariants.NoCorrection fails) = Unit {0}
 IsReported k code.TheVariants.EmptyReference = ⊥
+IsReported k (code.TheVariants.Spent at_least budget) = Unit {0}
 IsReported k code.TheVariants.NoMemory = ⊥

@@ -12,7 +12,7 @@ use Rattle.input_space.specs.Tasks.{Task}
 use Rattle.feedback_text.specs.declared.holes.Hole.{Hole}
 use Rattle.feedback_text.specs.declared.holes.Hole.TheVariants as hole
 use Rattle.feedback_text.specs.Answers.{Answer, Correct, Corrected, NoCorrection, EmptyReference}
-use Rattle.feedback_text.specs.Answers.{Edit}
+use Rattle.feedback_text.specs.Answers.{Spent, Edit}
 use Rattle.feedback_text.specs.Messages.{filled}
 
 -- a value, or `fault` and its kind
@@ -61,3 +61,6 @@ report_of k (Corrected cost fails edits p) =
     ++ edits_text k.rules edits ++ codes "program\n" ++ program_text p
 report_of k (NoCorrection fails) = codes "no correction\n" ++ fails_text k.bounds.entry fails
 report_of k EmptyReference = []
+report_of k (Spent at_least budget) =
+    codes "budget spent " ++ decimal budget ++ codes "\nat least cost " ++ decimal at_least
+    ++ codes "\n"

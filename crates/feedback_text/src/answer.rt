@@ -29,6 +29,12 @@ pub enum Answer {
     },
     /// The reference gives no value on any input.
     EmptyReference,
+    /// As many clauses were logged as the budget allows; no rewriting of a cost below `at_least`
+    /// agrees.
+    Spent {
+        at_least: u32,
+        budget: u32,
+    },
     /// There was no memory.
     NoMemory,
 }

@@ -33,7 +33,7 @@ fn correction_lines(alloc: Global, task: &Task, selection: &Selection) -> Result
 ///
 /// It is `correct`; or `cost K`, the line for an input on which the submission fails, a line for
 /// each edit in order of place, `program` and the corrected program; or `no correction` and the
-/// line for an input.
+/// line for an input; or `budget spent N` and `at least cost K`.
 pub fn report(alloc: Global, t: &Task, a: &Answer) -> Result<Vec<u8>, NoMemory>
     requires { IsReported (task_with t.now) a.now }
     ensures { IfOk result (λ v. IsReportOf (task_with t.now) a.now v.items) }
@@ -55,6 +55,15 @@ pub fn report(alloc: Global, t: &Task, a: &Answer) -> Result<Vec<u8>, NoMemory>
         Answer::NoCorrection { fails } => {
             let mut text = b"no correction\n".to_vec(alloc)?;
             text.extend_from_slice(fails_line(alloc, &t.bounds().entry, fails)?.as_slice())?;
+            Ok(text)
+        }
+        Answer::Spent { at_least, budget } => {
+            let mut text = Vec::new(alloc);
+            text.extend_from_slice(b"budget spent ")?;
+            push_number(alloc, &mut text, *budget)?;
+            text.extend_from_slice(b"\nat least cost ")?;
+            push_number(alloc, &mut text, *at_least)?;
+            text.extend_from_slice(b"\n")?;
             Ok(text)
         }
         Answer::EmptyReference | Answer::NoMemory => unreachable!(),

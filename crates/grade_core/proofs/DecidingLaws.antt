@@ -8,7 +8,7 @@ use Rattle.input_space.specs.Agreement.{Failure}
 use Rattle.mpy_tree.specs.Refusals.{refusal_text}
 use Rattle.input_space.specs.Tasks.{HasWanted, IsBestOf, IsFailureOf, Task}
 use Rattle.feedback_text.specs.declared.answer.Answer as code
-use Rattle.feedback_text.specs.Answers.{Answer, Correct, Corrected, NoCorrection, EmptyReference, IsAnswer, edit_tree}
+use Rattle.feedback_text.specs.Answers.{Answer, Correct, Corrected, NoCorrection, EmptyReference, Spent, IsAnswer, edit_tree}
 use Rattle.feedback_text.specs.AnswerViews.{IsReported, StandsFor}
 use Rattle.feedback_text.specs.ReportViews.{IsReportOf}
 use Rattle.feedback_text.specs.Reports.{report_of}
@@ -46,6 +46,7 @@ given_told k kept code.TheVariants.Correct right memory = tt
 given_told k kept (code.TheVariants.Corrected s cost fails) right memory = right.0.fits
 given_told k kept (code.TheVariants.NoCorrection fails) right memory = tt
 given_told k kept code.TheVariants.EmptyReference right memory = tt
+given_told k kept (code.TheVariants.Spent n b) right memory = tt
 given_told k kept code.TheVariants.NoMemory right memory = absurd (memory refl)
 
 pub stands_right : (k : Task) (kept : List Case) (d : code.Answer) (a : Answer) → IsRight k kept d → StandsFor k d a → IsAnswer k a
@@ -53,6 +54,7 @@ stands_right k kept code.TheVariants.Correct a right stands = subst (IsAnswer k)
 stands_right k kept (code.TheVariants.Corrected s cost fails) Correct right stands = absurd stands
 stands_right k kept (code.TheVariants.Corrected s cost fails) (NoCorrection failure) right stands = absurd stands
 stands_right k kept (code.TheVariants.Corrected s cost fails) EmptyReference right stands = absurd stands
+stands_right k kept (code.TheVariants.Corrected s cost fails) (Spent n b) right stands = absurd stands
 stands_right k kept (code.TheVariants.Corrected s cost fails) (Corrected n failure es p) right stands = (
   subst (λ m. IsBestOf k p m (map edit_tree es)) stands.0 (right.0.best p es stands.2),
   subst (λ m. 0 < m) stands.0 right.1,
@@ -60,6 +62,7 @@ stands_right k kept (code.TheVariants.Corrected s cost fails) (Corrected n failu
 )
 stands_right k kept (code.TheVariants.NoCorrection fails) a right stands = subst (IsAnswer k) (sym stands) (right.0, right.1.fails)
 stands_right k kept code.TheVariants.EmptyReference a right stands = subst (IsAnswer k) (sym stands) right
+stands_right k kept (code.TheVariants.Spent n b) a right stands = subst (IsAnswer k) (sym stands) right
 stands_right k kept code.TheVariants.NoMemory a right stands = absurd stands
 
 -- WHAT IS WRITTEN
@@ -69,6 +72,7 @@ told_reported k code.TheVariants.Correct told some = told
 told_reported k (code.TheVariants.Corrected s cost fails) told some = told
 told_reported k (code.TheVariants.NoCorrection fails) told some = told
 told_reported k code.TheVariants.EmptyReference told some = absurd (some refl)
+told_reported k (code.TheVariants.Spent n b) told some = told
 told_reported k code.TheVariants.NoMemory told some = told
 
 -- what is reported is no reference without values
@@ -78,8 +82,10 @@ not_empty k (code.TheVariants.Corrected s cost fails) Correct reported stands is
 not_empty k (code.TheVariants.Corrected s cost fails) (Corrected n failure es p) reported stands is = cc
 not_empty k (code.TheVariants.Corrected s cost fails) (NoCorrection failure) reported stands is = absurd stands
 not_empty k (code.TheVariants.Corrected s cost fails) EmptyReference reported stands is = absurd stands
+not_empty k (code.TheVariants.Corrected s cost fails) (Spent n b) reported stands is = absurd stands
 not_empty k (code.TheVariants.NoCorrection fails) a reported stands is = let no = sym stands ∙ is in cc
 not_empty k code.TheVariants.EmptyReference a reported stands is = reported
+not_empty k (code.TheVariants.Spent n b) a reported stands is = let no = sym stands ∙ is in cc
 not_empty k code.TheVariants.NoMemory a reported stands is = reported
 
 report_text : (word : List ℕ) (k : Task) (a : Answer) → (a ≡ EmptyReference → ⊥) → report_of k a ≡ answer_text word k a
@@ -87,6 +93,7 @@ report_text word k Correct some = refl
 report_text word k (Corrected cost fails edits p) some = refl
 report_text word k (NoCorrection fails) some = refl
 report_text word k EmptyReference some = absurd (some refl)
+report_text word k (Spent n b) some = refl
 
 pub text_of_report : (word : List ℕ) (k : Task) (d : code.Answer) (text : List ℕ) → IsReported k d → IsReportOf k d text → IsTextOf word k d text
 text_of_report word k d text reported shown = record {

@@ -15,7 +15,7 @@ ghost use Rattle.file_commands.specs.Claims.{AreTold, IsSaid, NoFault};
 ghost use Rattle.file_commands.specs.Commands.{Refused};
 ghost use Rattle.file_commands.specs.Ends.{ComesOfFiles, Ends, IsFirstRefusal};
 ghost use Rattle.file_commands.specs.Reports.{IsFound, ReportsFiles};
-ghost use Rattle.grade_core.specs.Claims.{IsGraded};
+ghost use Rattle.grade_core.specs.Claims.{IsGraded, IsRefusedOrSpent};
 ghost use Rattle.grade_core.specs.Commands.{empty_reference, files_of, grade_command, word_of};
 ghost use Rattle.grade_core.specs.Decisions.{task_sources, task_step};
 ghost use Rattle.grade_core.specs.Requests.{grade_of};
@@ -69,6 +69,7 @@ fn fetch<S: Shelf>(
 fn report_texts(alloc: Global, words: &GradeWords<'_>, texts: &[Vec<u8>]) -> Result<Report, Stop>
     requires four { length texts.now ≡ 4 }
     requires fit { AllFit task_sources (texts_of texts.now) }
+    requires budget { IsBudget words.now.budget }
     ensures { IsFound (grade_command (grade_of words.now)) (texts_of texts.now) result }
 {
     let graded = grade_texts(alloc, texts, words.budget)?;
@@ -76,7 +77,7 @@ fn report_texts(alloc: Global, words: &GradeWords<'_>, texts: &[Vec<u8>]) -> Res
     Ok(Report {
         status: answer_status(&graded.answer),
         text,
-        kept: None,
+        kept: graded.cert,
     })
 }
 
@@ -86,6 +87,7 @@ fn find_report<S: Shelf>(
     words: &GradeWords<'_>,
     shelf: &mut S,
 ) -> Result<Report, Stop>
+    requires { IsBudget words.now.budget }
     ensures found { IfOk result (ReportsFiles (grade_command (grade_of words.now))
         (S.seen shelf.old) (S.seen shelf.new)) }
     ensures refused { IfErr result (OnRefused (λ r. ComesOfFiles
@@ -127,11 +129,8 @@ impl Lines for GradeWords<'_> {
     }
 }
 
-/// Grades a submission: its four sources are fetched in order and read, and what they decide is
-/// written.
-///
-/// Until certificates are built nothing is stored, and the words `CERT` and `BUDGET` have no
-/// effect.
+/// Grades a submission: its four sources are fetched in order and read; a certificate of what they
+/// decide is stored, and then that is written. At most `budget` clauses are logged.
 pub fn grade<S: Shelf, K: Sink>(
     alloc: Global,
     w: &GradeWords<'_>,
@@ -153,14 +152,14 @@ pub fn grade<S: Shelf, K: Sink>(
         → NoFault (devices (S.seen shelf.old) (K.seen out.old))
         (devices (S.seen shelf.new) (K.seen out.new))
         → IsGraded k result }
-    // Where its reference gives no value on any input, that is refused, unless a device failed or
-    // memory lacked.
+    // Where its reference gives no value on any input, that is refused, or the budget is spent,
+    // unless a device failed or memory lacked.
     ensures empty { (ts : List (List ℕ)) (k : AnyTask)
         → AreTold (devices (S.seen shelf.old) (K.seen out.old)) (files_of (grade_of w.now)) ts
         → (task_step ts).gives k → (HasWanted k → ⊥)
         → NoFault (devices (S.seen shelf.old) (K.seen out.old))
         (devices (S.seen shelf.new) (K.seen out.new))
-        → IsSaid (refusal_text w.now.reference.now (empty_reference k)) Status.Refused
+        → IsRefusedOrSpent (refusal_text w.now.reference.now (empty_reference k))
         (K.seen out.old) (K.seen out.new) result }
     // Where a refusal is the first, it is answered and its line written, unless a device failed or
     // memory lacked; by `ends` a refusal is answered for texts for which it is the first alone.
@@ -173,5 +172,5 @@ pub fn grade<S: Shelf, K: Sink>(
         (K.seen out.new) result }
 {
     let found = find_report(alloc, w, shelf);
-    end(alloc, w, None, found, shelf, out)
+    end(alloc, w, Some(w.cert), found, shelf, out)
 }
