@@ -1,0 +1,10 @@
+mod Passes
+mod StepLaws
+mod DifferenceLaws
+mod FormLaws
+mod LookLaws
+pub mod TrialLaws
+mod KnownLaws
+mod RightLaws
+mod SoundLaws
+mod WantedLaws

@@ -1,0 +1,3 @@
+pub mod OneChecking
+pub mod CheckClaims
+mod Reporting
