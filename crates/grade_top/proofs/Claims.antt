@@ -1,5 +1,5 @@
 -- What follows from how a command ends.
-use Rattle.std.proofs.Common.{◌≡◌, ℕ, List, [], refl, subst}
+use Rattle.std.proofs.Common.{◌≡◌, ℕ, List, [], Option, inl, inr, refl, subst}
 use Rattle.grade_io.specs.Devices.{Devices, ShelfState, SinkState, devices}
 use Rattle.grade_io.specs.Says.{Says}
 use Rattle.grade_io.specs.Written.{Wrote}
@@ -16,16 +16,17 @@ use Rattle.file_commands.specs.Commands.{Answered}
 use Rattle.file_commands.specs.Ends.{Ends, IsFirstRefusal}
 use Rattle.file_commands.proofs.Claims as claim
 use Rattle.file_commands.proofs.Endings.{said}
-use Rattle.feedback_text.specs.Answers.{Answer, Correct, Corrected, NoCorrection, EmptyReference}
-use Rattle.grade_core.specs.Claims.{IsGraded}
-use Rattle.grade_core.specs.Commands.{answer_text, empty_reference, status_of}
+use Rattle.feedback_text.specs.Answers.{Answer, Correct, Corrected, NoCorrection, EmptyReference, Spent}
+use Rattle.grade_core.specs.Claims.{IsGraded, IsRefusedOrSpent}
+use Rattle.grade_core.specs.Commands.{Graded, IsGradedAs, answer_text, empty_reference, status_of}
 use Rattle.grade_core.specs.Decisions.{task_step}
+use Rattle.check_core.proofs.CheckClaims.{said_no_usage}
 use Rattle.grade_core.proofs.GradeClaims.{empty_as, empty_found, graded_as}
 use Rattle.grade_core.proofs.OneGrading.{one_task_step}
-use Rattle.grade_top.specs.Commands.{AnswerOf, file_command, files_of, line_of, run_command, run_files, sample_command, sample_word, usage_command}
+use Rattle.grade_top.specs.Commands.{AnswerOf, file_command, files_of, line_of, run_command, run_files, sample_budget, sample_command, sample_word, usage_command}
 use Rattle.grade_top.specs.Decisions.{run_step, sample_texts}
 use Rattle.grade_top.specs.Reports.{run_text, sample_report, usage_text}
-use Rattle.grade_top.specs.Words.{Command, Grade, Run, Sample, Nothing, RunWords}
+use Rattle.grade_top.specs.Words.{Command, Grade, Check, Run, Sample, Nothing, RunWords}
 use Rattle.grade_top.proofs.OneOutcome.{not_both, one_refuses, one_run_step}
 
 -- USAGE
@@ -35,9 +36,11 @@ answer_no_usage Correct e = cc
 answer_no_usage (Corrected cost fails edits p) e = cc
 answer_no_usage (NoCorrection fails) e = cc
 answer_no_usage EmptyReference e = cc
+answer_no_usage (Spent n b) e = cc
 
 never_usage : (c : Command) → (c ≡ Nothing → ⊥) → (a : AnswerOf c) → status.Usage ≡ (file_command c).status a → ⊥
 never_usage (Grade g) some a e = answer_no_usage a.answer e
+never_usage (Check w) some a e = said_no_usage a.said e
 never_usage (Run w) some a e = cc
 never_usage (Sample n) some a e = answer_no_usage a.answer e
 never_usage Nothing some a e = some refl
@@ -55,22 +58,30 @@ usage_ends shelf before after s says =
 
 pub sampled : (n : ℕ) (k : Task) (before after : Devices) (s : Status) → Ends (sample_command n) before after s → (task_step (sample_texts n)).gives k → NoFault before after → IsGraded k s
 sampled n k before after s ends given sure =
-    claim.answered (sample_command n) [] before after s (IsGraded k) tt (λ x decided wrote. graded_as (sample_texts n) k x given decided)
+    claim.answered (sample_command n) [] before after s (IsGraded k) tt (λ x decided wrote. graded_as sample_budget (sample_texts n) k x given decided)
     (λ r refuses. (one_task_step (sample_texts n)).not_both k r given refuses) ends (record { tells = tt; fit = tt }) sure
 
 -- a sample whose reference gives no value: what `grade` writes is written
-empty_text : (n : ℕ) (k : Task) (a : Answer) → a ≡ EmptyReference → sample_report n k a ≡ answer_text (sample_word source.Reference) k a
-empty_text n k Correct is = cc
-empty_text n k (Corrected cost fails edits p) is = cc
-empty_text n k (NoCorrection fails) is = refl
-empty_text n k EmptyReference is = refl
+empty_text : (n : ℕ) (k : Task) (a : Answer) (cert : Option (List ℕ)) → a ≡ EmptyReference → sample_report n k a cert ≡ answer_text (sample_word source.Reference) k a
+empty_text n k Correct cert is = cc
+empty_text n k (Corrected cost fails edits p) cert is = cc
+empty_text n k (NoCorrection fails) cert is = refl
+empty_text n k EmptyReference cert is = refl
+empty_text n k (Spent at_least budget) cert is = cc
+
+empty_as_sample : (n : ℕ) (k : Task) (x : Graded) (before after : SinkState) → (task_step (sample_texts n)).gives k → (HasWanted k → ⊥) → IsGradedAs sample_budget (sample_texts n) x
+    → Wrote before after (sample_report n x.task x.answer x.cert) → IsRefusedOrSpent (refusal_text (sample_word source.Reference) (empty_reference k)) before after (status_of x.answer)
+empty_as_sample n k x before after given none decided wrote = elim (empty_found sample_budget (sample_texts n) k x given none decided) [
+  | inl is ↦ empty_as (sample_word source.Reference) sample_budget (sample_texts n) k x before after given none decided
+      (subst (Wrote before after) (empty_text n x.task x.answer x.cert is) wrote)
+  | inr spent ↦ inr spent
+]
 
 pub empty_sample : (n : ℕ) (k : Task) (before after : Devices) (s : Status) → Ends (sample_command n) before after s → (task_step (sample_texts n)).gives k → (HasWanted k → ⊥)
-    → NoFault before after → IsSaid (refusal_text (sample_word source.Reference) (empty_reference k)) status.Refused before.sink after.sink s
+    → NoFault before after → IsRefusedOrSpent (refusal_text (sample_word source.Reference) (empty_reference k)) before.sink after.sink s
 empty_sample n k before after s ends given none sure =
-    claim.answered (sample_command n) [] before after s (IsSaid (refusal_text (sample_word source.Reference) (empty_reference k)) status.Refused before.sink after.sink) tt
-    (λ x decided wrote. empty_as (sample_word source.Reference) (sample_texts n) k x before.sink after.sink given none decided
-    (subst (Wrote before.sink after.sink) (empty_text n x.task x.answer (empty_found (sample_texts n) k x given none decided)) wrote))
+    claim.answered (sample_command n) [] before after s (IsRefusedOrSpent (refusal_text (sample_word source.Reference) (empty_reference k)) before.sink after.sink) (inl tt)
+    (λ x decided wrote. empty_as_sample n k x before.sink after.sink given none decided wrote)
     (λ r refuses. (one_task_step (sample_texts n)).not_both k r given refuses) ends (record { tells = tt; fit = tt }) sure
 
 pub ran : (w : RunWords) (ts : List (List ℕ)) (o : run.Outcome) (before after : Devices) (s : Status) → Ends (run_command w) before after s → AreTold before (run_files w) ts

@@ -2,10 +2,11 @@
 use Rattle.std.proofs.Common.{◌≡◌, sym, ap, ◌∙◌, arith, refl, List, ℕ}
 use Rattle.std.specs.Fmt.{decimal}
 use Rattle.std.proofs.lemmas.Fmt.{decimal_injective}
+use Rattle.check_core.specs.Words.{CheckWords}
 use Rattle.grade_core.specs.Words.{GradeWords}
 use Rattle.grade_top.specs.Requests.{command_of}
 use Rattle.grade_top.specs.declared.words.Command as code_command
-use Rattle.grade_top.specs.Words.{Command, Grade, Run, Sample, Nothing, RunWords, AsksGrade, AsksRun, AsksSample, Asks, grade_words, run_words, sample_words}
+use Rattle.grade_top.specs.Words.{Command, Grade, Check, Run, Sample, Nothing, RunWords, AsksGrade, AsksCheck, AsksRun, AsksSample, Asks, grade_words, check_words, run_words, sample_words}
 
 make : (bounds reference submission rules cert : List ℕ) (budget : ℕ) → GradeWords
 make bounds reference submission rules cert budget = record { bounds = bounds; reference = reference; submission = submission; rules = rules; cert = cert; budget = budget }
@@ -47,8 +48,37 @@ no_grade_sample words g n grade sample = let no : grade_words g ≡ sample_words
 no_run_sample : (words : List (List ℕ)) (w : RunWords) (n : ℕ) → AsksRun words w → AsksSample words n → ⊥
 no_run_sample words w n run sample = let no : run_words w ≡ sample_words n = sym run.0 ∙ sample.0 in cc
 
+make_check : (bounds reference submission rules cert : List ℕ) → CheckWords
+make_check bounds reference submission rules cert = record { bounds = bounds; reference = reference; submission = submission; rules = rules; cert = cert }
+
+made_check : (w v : CheckWords) → check_words w ≡ check_words v
+    → make_check w.bounds w.reference w.submission w.rules w.cert ≡ make_check v.bounds v.reference v.submission v.rules v.cert
+made_check w v words = cc
+
+same_check : (words : List (List ℕ)) (w v : CheckWords) → AsksCheck words w → AsksCheck words v → w ≡ v
+unfolding make_check
+same_check words w v asks other = made_check w v (sym asks ∙ other)
+
+no_grade_check : (words : List (List ℕ)) (g : GradeWords) (w : CheckWords) → AsksGrade words g → AsksCheck words w → ⊥
+no_grade_check words g w grade check = let no : grade_words g ≡ check_words w = sym grade.0 ∙ check in cc
+
+no_check_run : (words : List (List ℕ)) (w : CheckWords) (r : RunWords) → AsksCheck words w → AsksRun words r → ⊥
+no_check_run words w r check run = let no : check_words w ≡ run_words r = sym check ∙ run.0 in cc
+
+no_check_sample : (words : List (List ℕ)) (w : CheckWords) (n : ℕ) → AsksCheck words w → AsksSample words n → ⊥
+no_check_sample words w n check sample = let no : check_words w ≡ sample_words n = sym check ∙ sample.0 in cc
+
 pub one_command : (words : List (List ℕ)) (c d : Command) → Asks words c → Asks words d → c ≡ d
 one_command words (Grade g) (Grade h) asks other = ap Grade (same_words words g h asks other)
+one_command words (Grade g) (Check w) asks other = absurd (no_grade_check words g w asks other)
+one_command words (Check w) (Grade g) asks other = absurd (no_grade_check words g w other asks)
+one_command words (Check w) (Check v) asks other = ap Check (same_check words w v asks other)
+one_command words (Check w) (Run r) asks other = absurd (no_check_run words w r asks other)
+one_command words (Check w) (Sample n) asks other = absurd (no_check_sample words w n asks other)
+one_command words (Check w) Nothing asks other = absurd (other.no_check w asks)
+one_command words (Run r) (Check w) asks other = absurd (no_check_run words w r other asks)
+one_command words (Sample n) (Check w) asks other = absurd (no_check_sample words w n other asks)
+one_command words Nothing (Check w) asks other = absurd (asks.no_check w other)
 one_command words (Grade g) (Run w) asks other = absurd (not_both words g w asks other)
 one_command words (Grade g) (Sample n) asks other = absurd (no_grade_sample words g n asks other)
 one_command words (Grade g) Nothing asks other = absurd (other.no_grade g asks)
@@ -68,5 +98,6 @@ one_command words Nothing Nothing asks other = refl
 -- a command that was read is one
 pub asks_something : (c : code_command.Command) → command_of c ≡ Nothing → ⊥
 asks_something (code_command.TheVariants.Grade w) is = cc
+asks_something (code_command.TheVariants.Check w) is = cc
 asks_something (code_command.TheVariants.Run w) is = cc
 asks_something (code_command.TheVariants.Sample n) is = cc

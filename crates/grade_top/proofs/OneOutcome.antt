@@ -16,10 +16,11 @@ use Rattle.task_read.proofs.Steps.{one_done, one_refuse, one_then}
 use Rattle.file_commands.specs.Ends.{IsFirstRefusal}
 use Rattle.file_commands.proofs.FirstRefusals as first
 use Rattle.grade_core.specs.Decisions.{task_step}
+use Rattle.check_core.proofs.OneChecking.{one_sources_step}
 use Rattle.grade_core.proofs.OneGrading.{one_never, one_task_step}
 use Rattle.grade_top.specs.Commands.{AnswerOf, file_command, files_of}
 use Rattle.grade_top.specs.Decisions.{run_step, sample_texts, spelled_step, value_step, values_step}
-use Rattle.grade_top.specs.Words.{Command, Grade, Run, Sample, Nothing, RunWords}
+use Rattle.grade_top.specs.Words.{Command, Grade, Check, Run, Sample, Nothing, RunWords}
 
 same_first : (v w : Value) → v ∷ [] ≡ w ∷ [] → v ≡ w
 same_first v w h = cc
@@ -57,12 +58,14 @@ one_run_step w (a ∷ b ∷ c ∷ ts) = one_never
 pub one_refuses : (c : Command) (ts : List (List ℕ)) (q r : Refusal) → (file_command c).refuses ts q → (file_command c).refuses ts r → q ≡ r
 one_refuses (Grade g) ts q r a b = (one_task_step ts).refuses q r a b
 one_refuses (Sample n) ts q r a b = (one_task_step (sample_texts n)).refuses q r a b
+one_refuses (Check w) ts q r a b = (one_sources_step ts).refuses q r a b
 one_refuses (Run w) ts q r a b = (one_run_step w ts).refuses q r a b
 one_refuses Nothing ts q r a b = absurd a
 
 pub not_both : (c : Command) (ts : List (List ℕ)) (r : Refusal) (a : AnswerOf c) → (file_command c).decides ts a → (file_command c).refuses ts r → ⊥
 not_both (Grade g) ts r a decided refused = (one_task_step ts).not_both a.task r decided.task refused
 not_both (Sample n) ts r a decided refused = (one_task_step (sample_texts n)).not_both a.task r decided.task refused
+not_both (Check w) ts r a decided refused = (one_sources_step ts).not_both a.task r decided.task refused
 not_both (Run w) ts r a decided refused = (one_run_step w ts).not_both a r decided refused
 not_both Nothing ts r a decided refused = refused
 

@@ -1,5 +1,5 @@
 -- The texts of a sample fit and spell a program of few statements; what is written of its answer.
-use Rattle.std.proofs.Common.{◌≡◌, ◌≤◌, ℕ, List, [], ◌∷◌, ◌++◌, length, map, refl, sym, ap, subst, ◌∙◌, codes, append_assoc, IfOk, Result, Ok, Err, Vec}
+use Rattle.std.proofs.Common.{◌≡◌, ◌≤◌, ℕ, List, [], ◌∷◌, ◌++◌, length, map, Option, refl, sym, ap, subst, ◌∙◌, codes, append_assoc, IfOk, Result, Ok, Err, Vec}
 use Rattle.std.specs.Fmt.{decimal}
 use Rattle.std.specs.declared.alloc.Global.{Global}
 use Rattle.std.proofs.lemmas.List.{length-map}
@@ -27,7 +27,7 @@ use Rattle.grade_core.specs.Gradings.{IsTextOf}
 use Rattle.grade_core.specs.Decisions.{task_sources, task_step}
 use Rattle.grade_top.specs.Decisions.{sample_texts}
 use Rattle.grade_top.specs.Outcomes.{IsSampleOf, Summarizes}
-use Rattle.grade_top.specs.Reports.{sample_lines, sample_report}
+use Rattle.grade_top.specs.Reports.{cert_bytes, sample_lines, sample_report}
 
 pub sample_fits : (n : ℕ) → AllFit task_sources (sample_texts n)
 sample_fits n = (bounds_short, (reference_short n, (submission_short n, (rules_short, tt))))
@@ -88,9 +88,9 @@ summarized n k s cost v w items p at_v replaced at_w made count all (Ok t) lines
 summarized n k s cost v w items p at_v replaced at_w made count all (Err e) lines = lines
 
 -- a sample that a selection corrects
-corrected_is : (n : ℕ) (k : Task) (d : code.Answer) (s : List Choice) (cost : ℕ) (fails : code_failure.Failure) (text : List ℕ)
-    → d ≡ code.TheVariants.Corrected s cost fails → Summarizes n k s cost text → IsSampleOf n k d text
-corrected_is n k d s cost fails text is shown =
+corrected_is : (n : ℕ) (k : Task) (d : code.Answer) (cert : Option (List ℕ)) (s : List Choice) (cost : ℕ) (fails : code_failure.Failure) (text : List ℕ)
+    → d ≡ code.TheVariants.Corrected s cost fails → Summarizes n k s cost text → IsSampleOf n k d cert text
+corrected_is n k d cert s cost fails text is shown =
     let a = Corrected cost (failure_of fails) shown.edits shown.program in
     record {
       answer = a;
@@ -98,26 +98,48 @@ corrected_is n k d s cost fails text is shown =
       text_is = shown.text_is;
     }
 
-pub corrected : (n : ℕ) (k : Task) (d : code.Answer) (s : List Choice) (cost : ℕ) (fails : code_failure.Failure)
+pub corrected : (n : ℕ) (k : Task) (d : code.Answer) (cert : Option (List ℕ)) (s : List Choice) (cost : ℕ) (fails : code_failure.Failure)
     → d ≡ code.TheVariants.Corrected s cost fails → {E : Type 0} (r : Result (Vec ℕ Global) E)
-    → IfOk r (λ t. Summarizes n k s cost t.items) → IfOk r (λ t. IsSampleOf n k d t.items)
-corrected n k d s cost fails is (Ok t) shown = corrected_is n k d s cost fails t.items is shown
-corrected n k d s cost fails is (Err e) shown = shown
+    → IfOk r (λ t. Summarizes n k s cost t.items) → IfOk r (λ t. IsSampleOf n k d cert t.items)
+corrected n k d cert s cost fails is (Ok t) shown = corrected_is n k d cert s cost fails t.items is shown
+corrected n k d cert s cost fails is (Err e) shown = shown
+
+-- a spent budget: the number, what `grade` writes, and the certificate
+spent_regrouped : (a b c : List ℕ) → (codes "sample " ++ (a ++ codes "\n")) ++ (b ++ c) ≡ codes "sample " ++ a ++ codes "\n" ++ b ++ c
+spent_regrouped a b c = simp append_assoc refl
+
+pub spent_is : (n : ℕ) (k : Task) (d : code.Answer) (at_least budget : ℕ) (cert : Option (List ℕ)) (head text whole : List ℕ)
+    → d ≡ code.TheVariants.Spent at_least budget → head ≡ codes "sample " ++ (decimal n ++ codes "\n")
+    → IsTextOf (codes "reference") k d text → whole ≡ head ++ (text ++ cert_bytes cert) → IsSampleOf n k d cert whole
+spent_is n k code.TheVariants.Correct at_least budget cert head text whole at headed is joined = cc
+spent_is n k (code.TheVariants.Corrected s cost f) at_least budget cert head text whole at headed is joined = cc
+spent_is n k (code.TheVariants.NoCorrection f) at_least budget cert head text whole at headed is joined = cc
+spent_is n k code.TheVariants.EmptyReference at_least budget cert head text whole at headed is joined = cc
+spent_is n k code.TheVariants.NoMemory at_least budget cert head text whole at headed is joined = cc
+spent_is n k (code.TheVariants.Spent least most) at_least budget cert head text whole at headed is joined = record {
+  answer = is.answer;
+  stands = is.stands;
+  text_is =
+      joined ∙ rw (headed, is.text_is) (spent_regrouped (decimal n) (answer_text (codes "reference") k is.answer) (cert_bytes cert))
+      ∙ subst (λ a. codes "sample " ++ decimal n ++ codes "\n" ++ answer_text (codes "reference") k a ++ cert_bytes cert ≡ sample_report n k a cert) (sym is.stands) refl;
+}
 
 -- another answer, of which what `grade` writes is written
-pub other_text : (n : ℕ) (k : Task) (d : code.Answer) (text : List ℕ) → (d ≡ code.TheVariants.Correct → ⊥)
+pub other_text : (n : ℕ) (k : Task) (d : code.Answer) (cert : Option (List ℕ)) (text : List ℕ) → (d ≡ code.TheVariants.Correct → ⊥)
     → ((s : List Choice) (cost : ℕ) (fails : code_failure.Failure) → d ≡ code.TheVariants.Corrected s cost fails → ⊥)
-    → IsTextOf (codes "reference") k d text → IsSampleOf n k d text
-other_text n k code.TheVariants.Correct text wrong dear is = absurd (wrong refl)
-other_text n k (code.TheVariants.Corrected s cost fails) text wrong dear is = absurd (dear s cost fails refl)
-other_text n k (code.TheVariants.NoCorrection fails) text wrong dear is = record {
+    → ((at_least budget : ℕ) → d ≡ code.TheVariants.Spent at_least budget → ⊥)
+    → IsTextOf (codes "reference") k d text → IsSampleOf n k d cert text
+other_text n k code.TheVariants.Correct cert text wrong dear spent is = absurd (wrong refl)
+other_text n k (code.TheVariants.Corrected s cost fails) cert text wrong dear spent is = absurd (dear s cost fails refl)
+other_text n k (code.TheVariants.NoCorrection fails) cert text wrong dear spent is = record {
   answer = is.answer;
   stands = is.stands;
-  text_is = is.text_is ∙ subst (λ a. answer_text (codes "reference") k a ≡ sample_report n k a) (sym is.stands) refl;
+  text_is = is.text_is ∙ subst (λ a. answer_text (codes "reference") k a ≡ sample_report n k a cert) (sym is.stands) refl;
 }
-other_text n k code.TheVariants.EmptyReference text wrong dear is = record {
+other_text n k code.TheVariants.EmptyReference cert text wrong dear spent is = record {
   answer = is.answer;
   stands = is.stands;
-  text_is = is.text_is ∙ subst (λ a. answer_text (codes "reference") k a ≡ sample_report n k a) (sym is.stands) refl;
+  text_is = is.text_is ∙ subst (λ a. answer_text (codes "reference") k a ≡ sample_report n k a cert) (sym is.stands) refl;
 }
-other_text n k code.TheVariants.NoMemory text wrong dear is = absurd is.stands
+other_text n k (code.TheVariants.Spent at_least budget) cert text wrong dear spent is = absurd (spent at_least budget refl)
+other_text n k code.TheVariants.NoMemory cert text wrong dear spent is = absurd is.stands

@@ -8,11 +8,13 @@ use Rattle.mpy_tree.specs.declared.refusal.Refusal.{Refusal}
 use Rattle.mpy_tree.specs.Refusals.{refusal_text}
 use Rattle.source_files.specs.Files.{SourceFile, file}
 use Rattle.file_commands.specs.Commands.{FileCommand}
+use Rattle.check_core.specs.Commands.{check_command}
+use Rattle.check_core.specs.Decisions.{Checked}
 use Rattle.grade_core.specs.Commands.{Graded, IsGradedAs, grade_command, status_of}
 use Rattle.grade_core.specs.Decisions.{task_step}
 use Rattle.grade_top.specs.Decisions.{run_step, sample_texts}
 use Rattle.grade_top.specs.Reports.{run_text, sample_report, usage_text, value_refusal_text}
-use Rattle.grade_top.specs.Words.{Command, Grade, Run, Sample, Nothing, RunWords}
+use Rattle.grade_top.specs.Words.{Command, Grade, Check, Run, Sample, Nothing, RunWords}
 
 -- the program of `run` stands in the place of a reference
 abbrev pub run_files : RunWords → List SourceFile
@@ -57,15 +59,19 @@ sample_word source.Rules = codes "rules"
 sample_word source.Cert = []
 sample_word (source.Word n) = []
 
+-- the budget by which a sample is graded
+abbrev pub sample_budget : ℕ
+sample_budget = 200000
+
 -- a sample has its own texts, and of an answer a summary is written
 abbrev pub sample_command : ℕ → FileCommand Graded
 sample_command n = record {
   files = [];
   place = None;
-  decides = λ ts. IsGradedAs (sample_texts n);
+  decides = λ ts. IsGradedAs sample_budget (sample_texts n);
   refuses = λ ts. (task_step (sample_texts n)).refuses;
   kept = λ x. None;
-  text = λ x. sample_report n x.task x.answer;
+  text = λ x. sample_report n x.task x.answer x.cert;
   status = λ x. status_of x.answer;
   line = λ r. refusal_text (sample_word r.source) r;
 }
@@ -83,15 +89,18 @@ usage_command = record {
   line = λ r. [];
 }
 
--- what a command answers: a task with an answer to it, or the outcome of a run
+-- what a command answers: a task with an answer to it, or with what is said of a certificate; or
+-- the outcome of a run
 abbrev pub AnswerOf : Command → Type 0
 AnswerOf (Grade g) = Graded
+AnswerOf (Check w) = Checked
 AnswerOf (Run w) = run.Outcome
 AnswerOf (Sample n) = Graded
 AnswerOf Nothing = Unit {0}
 
 abbrev pub file_command : (c : Command) → FileCommand (AnswerOf c)
 file_command (Grade g) = grade_command g
+file_command (Check w) = check_command w
 file_command (Run w) = run_command w
 file_command (Sample n) = sample_command n
 file_command Nothing = usage_command

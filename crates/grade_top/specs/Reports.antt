@@ -1,6 +1,6 @@
 -- The bytes of the usage, of runs, of samples and of refusals of values. Each line ends with
 -- byte 10.
-use Rattle.std.specs.Prelude.{ℕ, List, ◌++◌, codes, length}
+use Rattle.std.specs.Prelude.{ℕ, List, [], ◌++◌, Option, None, Some, codes, length}
 use Rattle.std.specs.Fmt.{decimal}
 use Rattle.mpy_tree.specs.declared.outcome.Outcome.{Outcome}
 use Rattle.mpy_tree.specs.declared.outcome.Outcome.TheVariants as outcome
@@ -11,6 +11,7 @@ use Rattle.mpy_tree.specs.Refusals.{cause_text}
 use Rattle.mpy_limits.specs.Limits.{all_statements}
 use Rattle.input_space.specs.Tasks.{Task}
 use Rattle.feedback_text.specs.Answers.{Answer, Correct, Corrected, NoCorrection, EmptyReference}
+use Rattle.feedback_text.specs.Answers.{Spent}
 use Rattle.grade_core.specs.Commands.{answer_text}
 
 abbrev pub usage_text : List ℕ
@@ -33,13 +34,22 @@ sample_lines n k edits cost =
     ++ codes "\nstatements " ++ decimal (length (all_statements k.submission))
     ++ codes "\nedits " ++ decimal edits ++ codes "\ncost " ++ decimal cost ++ codes "\n"
 
--- Of other answers, which no sample meets, it is what `grade` writes, by the source's own name.
-abbrev pub sample_report : ℕ → Task → Answer → List ℕ
-sample_report n k Correct = sample_lines n k 0 0
-sample_report n k (Corrected cost fails edits p) = sample_lines n k (length edits) cost
-sample_report n k (NoCorrection fails) =
+-- the bytes of a certificate, if there is one
+abbrev pub cert_bytes : Option (List ℕ) → List ℕ
+cert_bytes None = []
+cert_bytes (Some text) = text
+
+-- what is written of a sample: behind a spent budget stands its certificate
+abbrev pub sample_report : ℕ → Task → Answer → Option (List ℕ) → List ℕ
+sample_report n k Correct cert = sample_lines n k 0 0
+sample_report n k (Corrected cost fails edits p) cert = sample_lines n k (length edits) cost
+sample_report n k (Spent at_least budget) cert =
+    codes "sample " ++ decimal n ++ codes "\n"
+    ++ answer_text (codes "reference") k (Spent at_least budget) ++ cert_bytes cert
+-- of other answers, which no sample meets, it is what `grade` writes, by the source's own name
+sample_report n k (NoCorrection fails) cert =
     answer_text (codes "reference") k (NoCorrection fails)
-sample_report n k EmptyReference = answer_text (codes "reference") k EmptyReference
+sample_report n k EmptyReference cert = answer_text (codes "reference") k EmptyReference
 
 -- a value of `run` is refused, by its number
 abbrev pub value_refusal_text : ℕ → Cause → List ℕ

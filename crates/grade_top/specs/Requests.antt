@@ -1,8 +1,9 @@
 -- The words of a request, as the program keeps them.
 use Rattle.std.specs.Prelude.{map}
 use Rattle.std.specs.String.{string_bytes}
+use Rattle.check_core.specs.Requests.{check_of}
 use Rattle.grade_core.specs.Requests.{grade_of}
-use Rattle.grade_top.specs.Words.{RunWords, Command, Grade, Run, Sample}
+use Rattle.grade_top.specs.Words.{RunWords, Command, Grade, Check, Run, Sample}
 use Rattle.grade_top.specs.declared.words.RunWords as code_run
 use Rattle.grade_top.specs.declared.words.Command as code_command
 
@@ -15,5 +16,6 @@ run_of w = record {
 
 abbrev pub command_of : code_command.Command → Command
 command_of (code_command.TheVariants.Grade w) = Grade (grade_of w)
+command_of (code_command.TheVariants.Check w) = Check (check_of w)
 command_of (code_command.TheVariants.Run w) = Run (run_of w)
 command_of (code_command.TheVariants.Sample n) = Sample n

@@ -11,6 +11,7 @@ ghost use Rattle.grade_top.specs.Words.{AreAsked};
 use crate::run::run_command;
 use crate::sample::sample_command;
 use crate::words::Command;
+use check_core::check;
 use grade_core::grade;
 use grade_io::{Shelf, Sink, Status, say};
 use std::alloc::Global;
@@ -38,6 +39,7 @@ pub(crate) fn answer<S: Shelf, K: Sink>(
 {
     match command {
         Command::Grade(words) => grade(alloc, words, shelf, out),
+        Command::Check(words) => check(alloc, words, shelf, out),
         Command::Run(words) => run_command(alloc, words, shelf, out),
         Command::Sample(number) => sample_command(alloc, *number as u32, out),
     }

@@ -13,7 +13,10 @@ ghost use Rattle.source_files.specs.Texts.{Tells};
 ghost use Rattle.file_commands.specs.Calls.{CallsInOrder};
 ghost use Rattle.file_commands.specs.Claims.{AreTold, IsSaid, NoFault};
 ghost use Rattle.file_commands.specs.Ends.{Ends, IsFirstRefusal};
-ghost use Rattle.grade_core.specs.Claims.{IsGraded};
+ghost use Rattle.check_core.specs.Claims.{IsChecked};
+ghost use Rattle.check_core.specs.Decisions.{cert_in, sources_step};
+ghost use Rattle.check_core.specs.Words.{CheckWords};
+ghost use Rattle.grade_core.specs.Claims.{IsGraded, IsRefusedOrSpent};
 ghost use Rattle.grade_core.specs.Commands.{empty_reference};
 ghost use Rattle.grade_core.specs.Decisions.{task_step};
 ghost use Rattle.grade_core.specs.Words.{GradeWords};
@@ -22,7 +25,8 @@ ghost use Rattle.grade_top.specs.Commands.{file_command, files_of, line_of, samp
 ghost use Rattle.grade_top.specs.Decisions.{run_step, sample_texts};
 ghost use Rattle.grade_top.specs.PrintedPrograms.{PrintsCorrection};
 ghost use Rattle.grade_top.specs.Reports.{run_text};
-ghost use Rattle.grade_top.specs.Words.{Asks, Command, Grade, Nothing, Run, RunWords, Sample};
+ghost use Rattle.grade_top.specs.Words.{Asks, Check, Command, Grade, Nothing, Run, RunWords};
+ghost use Rattle.grade_top.specs.Words.{Sample};
 
 mod command;
 mod laws;
@@ -33,6 +37,8 @@ mod typed;
 mod values;
 mod words;
 
+use cert_text::one_cert;
+use certificate_judge::right_is_accepted;
 pub use grade_io::{Status, status_number};
 use grade_io::{Shelf, Sink};
 pub use laws::{corrections_are_spelled, not_refused_and_decided, one_refusal, one_run, one_task};
@@ -41,10 +47,10 @@ use std::alloc::Global;
 /// Answers the words that follow the program's name.
 ///
 /// The files of a command are fetched in order and read, and what they decide is written: by
-/// `grade` the cheapest correction of a submission, by `run` what a program gives on values. By
-/// `sample` a task is made from a number and graded, and how large it is and what its correction
-/// costs is written. Until certificates are built nothing is stored, and the words `CERT` and
-/// `BUDGET` have no effect.
+/// `grade` the cheapest correction of a submission, behind a certificate of it that is stored
+/// under the word `CERT`; by `check` what is said of a certificate, whatever wrote it; by `run`
+/// what a program gives on values. By `sample` a task is made from a number and graded, and how
+/// large it is and what its correction costs is written.
 pub fn grade_top<S: Shelf, K: Sink>(
     alloc: Global,
     words: &Vec<String>,
@@ -86,22 +92,31 @@ pub fn grade_top<S: Shelf, K: Sink>(
         (devices (S.seen shelf.new) (K.seen out.new))
         → IsGraded k result }
     // Where the reference of such a task or sample gives no value on any input, that is refused,
-    // unless a device failed or memory lacked.
+    // or the budget is spent, unless a device failed or memory lacked.
     ensures empty { (g : GradeWords) (ts : List (List ℕ)) (k : Task)
         → Asks (map string_bytes words.now.items) (Grade g)
         → AreTold (devices (S.seen shelf.old) (K.seen out.old)) (files_of (Grade g)) ts
         → (task_step ts).gives k → (HasWanted k → ⊥)
         → NoFault (devices (S.seen shelf.old) (K.seen out.old))
         (devices (S.seen shelf.new) (K.seen out.new))
-        → IsSaid (refusal_text g.reference (empty_reference k)) Status.Refused
+        → IsRefusedOrSpent (refusal_text g.reference (empty_reference k))
         (K.seen out.old) (K.seen out.new) result }
     ensures empty_sample { (n : ℕ) (k : Task)
         → Asks (map string_bytes words.now.items) (Sample n)
         → (task_step (sample_texts n)).gives k → (HasWanted k → ⊥)
         → NoFault (devices (S.seen shelf.old) (K.seen out.old))
         (devices (S.seen shelf.new) (K.seen out.new))
-        → IsSaid (refusal_text (sample_word source.Reference) (empty_reference k)) Status.Refused
+        → IsRefusedOrSpent (refusal_text (sample_word source.Reference) (empty_reference k))
         (K.seen out.old) (K.seen out.new) result }
+    // For a task that nothing refuses a certificate is accepted or rejected, unless a device failed
+    // or memory lacked; and where it is accepted, what it claims is true.
+    ensures checked { (w : CheckWords) (ts : List (List ℕ)) (k : Task)
+        → Asks (map string_bytes words.now.items) (Check w)
+        → AreTold (devices (S.seen shelf.old) (K.seen out.old)) (files_of (Check w)) ts
+        → (sources_step ts).gives k
+        → NoFault (devices (S.seen shelf.old) (K.seen out.old))
+        (devices (S.seen shelf.new) (K.seen out.new))
+        → IsChecked k (cert_in ts) result }
     // A run that nothing refuses is told, unless a device failed or memory lacked.
     ensures ran { (w : RunWords) (ts : List (List ℕ)) (o : RunOutcome)
         → Asks (map string_bytes words.now.items) (Run w)
@@ -120,6 +135,8 @@ pub fn grade_top<S: Shelf, K: Sink>(
         → IsSaid (line_of c r) Status.Refused (K.seen out.old) (K.seen out.new) result }
 {
     corrections_are_spelled();
+    right_is_accepted();
+    one_cert();
     match words::read_words(words) {
         Some(command) => command::answer(alloc, &command, shelf, out),
         None => command::usage(out),

@@ -1,5 +1,5 @@
 //! The command `sample`.
-ghost use Rattle.std.specs.Prelude.{◌≡◌, ◌≤◌, [], IfOk, length};
+ghost use Rattle.std.specs.Prelude.{◌≡◌, ◌≤◌, ◌++◌, [], IfOk, OnOk, length, option_map};
 ghost use Rattle.grade_io.specs.Devices.{ShelfState, devices};
 ghost use Rattle.mpy_limits.specs.Limits.{all_statements};
 ghost use Rattle.input_space.specs.TaskParts.{task_with};
@@ -7,8 +7,8 @@ ghost use Rattle.file_commands.specs.Ends.{Ends};
 ghost use Rattle.file_commands.specs.Reports.{IsFound};
 ghost use Rattle.grade_core.specs.Gradings.{IsTold};
 ghost use Rattle.grade_top.specs.Commands.{sample_command as command_sample};
-ghost use Rattle.grade_top.specs.Outcomes.{IsSampleOf, Summarizes};
-ghost use Rattle.grade_top.specs.Reports.{sample_lines};
+ghost use Rattle.grade_top.specs.Outcomes.{IsSampleOf, IsSpent, Summarizes};
+ghost use Rattle.grade_top.specs.Reports.{cert_bytes, sample_lines};
 
 use choice_tree::{Selection, edits, plain};
 use feedback_text::Answer;
@@ -64,12 +64,40 @@ fn corrected_lines(
     lines(alloc, number, task, edits.items.len(), cost)
 }
 
+/// Adds the certificate, if there is one.
+fn push_cert(text: &mut Vec<u8>, cert: &Option<Vec<u8>>) -> Result<(), NoMemory>
+    ensures { OnOk result (text.new.items ≡ text.old.items
+        ++ cert_bytes (option_map (λ c. c.items) cert.now)) }
+{
+    match cert {
+        Some(cert) => {
+            text.extend_from_slice(cert.as_slice())?;
+            Ok(())
+        }
+        None => Ok(()),
+    }
+}
+
+/// What is written of a sample whose budget is spent: what `grade` writes, and its certificate.
+fn spent_lines(alloc: Global, number: u32, graded: &Graded) -> Result<Vec<u8>, NoMemory>
+    requires told { IsTold (task_with graded.now.task) graded.now.answer }
+    requires spent { IsSpent graded.now.answer }
+    ensures { IfOk result (λ v. IsSampleOf number (task_with graded.now.task) graded.now.answer
+        (option_map (λ c. c.items) graded.now.cert) v.items) }
+{
+    let mut text = format!(in alloc; "sample {number}\n")?.into_bytes();
+    let lines = answer_text(alloc, "reference", graded)?;
+    text.extend_from_slice(lines.as_slice())?;
+    push_cert(&mut text, &graded.cert)?;
+    Ok(text)
+}
+
 /// What is written of the answer to a sample.
 fn text(alloc: Global, number: u32, graded: &Graded) -> Result<Vec<u8>, NoMemory>
     requires told { IsTold (task_with graded.now.task) graded.now.answer }
     requires few { length (all_statements (task_with graded.now.task).submission) ≤ 200 }
     ensures { IfOk result (λ v. IsSampleOf number (task_with graded.now.task) graded.now.answer
-        v.items) }
+        (option_map (λ c. c.items) graded.now.cert) v.items) }
 {
     match &graded.answer {
         Answer::Correct => lines(alloc, number, &graded.task, 0, 0),
@@ -78,7 +106,10 @@ fn text(alloc: Global, number: u32, graded: &Graded) -> Result<Vec<u8>, NoMemory
             cost,
             ..
         } => corrected_lines(alloc, number, &graded.task, selection, *cost),
-        _ => answer_text(alloc, "reference", graded),
+        Answer::Spent { .. } => spent_lines(alloc, number, graded),
+        Answer::NoCorrection { .. } | Answer::EmptyReference | Answer::NoMemory => {
+            answer_text(alloc, "reference", graded)
+        }
     }
 }
 

@@ -1,10 +1,11 @@
 -- the words ask for the command that was read, or for nothing
 use Rattle.std.proofs.Common.{subst}
 use Rattle.grade_top.specs.Requests.{command_of}
-use Rattle.grade_top.specs.Words.{Grade, Nothing, Run, Sample}
+use Rattle.grade_top.specs.Words.{Check, Grade, Nothing, Run, Sample}
 use Rattle.grade_io.specs.Devices.{devices}
 use Rattle.file_commands.specs.Ends.{Ends}
 use Rattle.file_commands.proofs.Claims.{read_failed}
+use Rattle.check_core.proofs.CheckClaims.{checked}
 use Rattle.grade_core.proofs.GradeClaims.{empty, graded}
 use Rattle.grade_top.specs.Commands.{file_command}
 use Rattle.grade_top.proofs.Claims.{empty_sample, no_usage, ran, refused, sampled, usage_ends}
@@ -56,6 +57,10 @@ returns-in-Some-clause-empty g c = λ words ts k asks told given none sure.
 pub returns-in-Some-clause-empty_sample : goal.returns-in-Some-clause-empty_sample
 returns-in-Some-clause-empty_sample g c = λ n k asks given none sure.
     empty_sample n k _ _ c.answer.result (rw (one_command _ (command_of c.in-Some.command) (Sample n) (rw c.deref.ensures.value at c.in-Some.ensures.found) asks) at c.answer.ensures.ends) given none sure
+
+pub returns-in-Some-clause-checked : goal.returns-in-Some-clause-checked
+returns-in-Some-clause-checked g c = λ words ts k asks told given sure.
+    checked c.right_is_accepted.ensures c.one_cert.ensures words ts k _ _ c.answer.result (rw (one_command _ (command_of c.in-Some.command) (Check words) (rw c.deref.ensures.value at c.in-Some.ensures.found) asks) at c.answer.ensures.ends) told given sure
 
 pub returns-in-Some-clause-ran : goal.returns-in-Some-clause-ran
 returns-in-Some-clause-ran g c = λ words ts o asks told given sure.

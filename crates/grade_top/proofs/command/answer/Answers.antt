@@ -13,6 +13,12 @@ returns-in-Grade-clause-ends g c = rw c.in-Grade.is c.grade.ensures.ends
 pub returns-in-Grade-clause-calls : goal.returns-in-Grade-clause-calls
 returns-in-Grade-clause-calls g c = rw c.in-Grade.is c.grade.ensures.calls
 
+pub returns-in-Check-clause-ends : goal.returns-in-Check-clause-ends
+returns-in-Check-clause-ends g c = rw c.in-Check.is c.check.ensures.ends
+
+pub returns-in-Check-clause-calls : goal.returns-in-Check-clause-calls
+returns-in-Check-clause-calls g c = rw c.in-Check.is c.check.ensures.calls
+
 pub returns-in-Run-clause-ends : goal.returns-in-Run-clause-ends
 returns-in-Run-clause-ends g c = rw c.in-Run.is c.run_command.ensures.ends
 

@@ -1,5 +1,5 @@
 -- the texts are those of the sample, and the report is that of their answer
-use Rattle.std.proofs.Common.{List, ℕ, refl, subst, sym, ◌∙◌}
+use Rattle.std.proofs.Common.{List, option_map, ℕ, refl, subst, sym, ◌∙◌}
 use Rattle.mpy_tree.specs.declared.refusal.Refusal.{Refusal}
 use Rattle.input_space.specs.TaskParts.{task_with}
 use Rattle.source_files.specs.Texts.{AllFit}
@@ -35,10 +35,11 @@ returns c =
     let k = task_with c.in_ok-graded.graded.task in
     let shown = c.in_ok-text.ensures in
     record {
-      answer = record { task = k; answer = shown.answer };
+      answer = record { task = k; answer = shown.answer; cert = option_map (λ v. v.items) c.in_ok-graded.graded.cert };
       decided = record {
         task = subst (λ (ts : List (List ℕ)). (task_step ts).gives k) made c.in_ok-graded.ensures.task;
         answer = c.in_ok-graded.ensures.answered shown.answer shown.stands;
+        cert = c.in_ok-graded.ensures.kept shown.answer shown.stands;
       };
       shows = record { text = shown.text_is; status = c.answer_status.ensures.written k shown.answer shown.stands; kept = refl };
     }
