@@ -1,5 +1,7 @@
 //! The real devices, of whose content no clause speaks.
+use crate::requests::{DOUBLE, REQUEST, answered, words};
 use grade_io::{FetchError, HostShelf, HostSink, Shelf, Sink, StoreError};
+use grade_top::Status;
 use std::fs;
 use std::test::Fail;
 
@@ -58,5 +60,42 @@ fn moves_bytes(rt: HostRuntime) -> Result<(), Fail> {
     let mut out = HostSink::new(&rt);
     assert_eq!(rt; out.put(b"")?, 0);
     assert_eq!(rt; out.put(b"a line\n")?, 7);
+    Ok(())
+}
+
+/// Each row: the name of the certificate, the status, and what is written. The names are those of a
+/// new file, of a folder, of a file in a folder that is absent, of a device that opens and takes no
+/// byte, and of a source.
+#[test]
+fn grades_real_files(rt: HostRuntime) -> Result<(), Fail> {
+    let alloc = rt.alloc();
+    let mut shelf = HostShelf::new(&rt);
+    for (name, text) in [
+        ("b.txt", DOUBLE.bounds),
+        ("ref.py", DOUBLE.reference),
+        ("sub.py", DOUBLE.reference),
+        ("rules.eml", DOUBLE.rules),
+    ] {
+        shelf.store(name, &text.as_bytes().to_vec(alloc)?)?;
+    }
+    fs::create_dir(&rt, "certificates")?;
+    let rows = [
+        ("cert.txt", Status::Correct, "correct\n"),
+        ("certificates", Status::StoreFailed, ""),
+        ("absent/cert.txt", Status::StoreFailed, ""),
+        ("/dev/full", Status::StoreFailed, ""),
+        ("sub.py", Status::Correct, "correct\n"),
+    ];
+    for (name, status, written) in rows {
+        let mut request = REQUEST;
+        request[5] = name;
+        let words = words(alloc, request.as_slice())?;
+        let (ended, text) = answered(alloc, &words, &mut shelf)?;
+        assert_eq!(rt; ended, status, "with {name} for the certificate");
+        assert_eq!(rt; text.as_str(), written);
+    }
+    let cert = fs::read(&rt, "cert.txt")?;
+    assert!(rt; cert.starts_with(b"mpycert 1\nclaim cost 0\n"));
+    assert!(rt; fs::read(&rt, "sub.py")? == cert, "the source is replaced");
     Ok(())
 }

@@ -3,9 +3,17 @@
 #![tactic(auto)]
 
 #[cfg(test)]
+mod both_searches;
+#[cfg(test)]
+mod budgets;
+#[cfg(test)]
+mod certificates;
+#[cfg(test)]
 mod comparing;
 #[cfg(test)]
 mod devices;
+#[cfg(test)]
+mod failures;
 #[cfg(test)]
 mod forms;
 #[cfg(test)]
@@ -23,8 +31,14 @@ mod samples;
 #[cfg(test)]
 mod shared_lists;
 #[cfg(test)]
+mod sizes;
+#[cfg(test)]
 mod slow;
 #[cfg(test)]
+mod spoiled;
+#[cfg(test)]
 mod stores;
+#[cfg(test)]
+mod verdicts;
 #[cfg(test)]
 mod words;

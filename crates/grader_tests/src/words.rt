@@ -23,21 +23,14 @@ fn other_words_get_the_usage(rt: HostRuntime) -> Result<(), Fail> {
 }
 
 /// So it is for a run of more than four values, or without a program, for a sample of no number up
-/// to 65535 or of two, for `check`, and for no words.
+/// to 65535 or of two, for `check` without a certificate, and for no words.
 #[test]
 fn other_commands_get_the_usage(rt: HostRuntime) -> Result<(), Fail> {
     let alloc = rt.alloc();
     let rows: [&[&str]; 8] = [
         &["run", "b.txt", "p.py", "1", "2", "3", "4", "5"],
         &["run", "b.txt"],
-        &[
-            "check",
-            "b.txt",
-            "ref.py",
-            "sub.py",
-            "rules.eml",
-            "cert.txt",
-        ],
+        &["check", "b.txt", "ref.py", "sub.py", "rules.eml"],
         &["sample"],
         &["sample", "65536"],
         &["sample", "07"],
