@@ -1,0 +1,4 @@
+def count(text, letter):
+    if letter in text:
+        return 1
+    return 0

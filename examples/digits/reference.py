@@ -1,0 +1,7 @@
+# The sum of the digits of a number.
+def digits(n):
+    total = 0
+    while n > 0:
+        total = total + n % 10
+        n = n // 10
+    return total

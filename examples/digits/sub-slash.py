@@ -1,0 +1,6 @@
+def digits(n):
+    total = 0
+    while n > 0:
+        total = total + n % 10
+        n = n / 10
+    return total

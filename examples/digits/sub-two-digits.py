@@ -1,0 +1,3 @@
+def digits(n):
+    # tens and ones
+    return n // 10 + n % 10

@@ -1,0 +1,5 @@
+def every_second(v):
+    taken = []
+    for i in range(0, len(v), 2):
+        taken.append(v[i])
+        return taken

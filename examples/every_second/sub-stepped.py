@@ -1,0 +1,2 @@
+def every_second(v):
+    return v[::2]

@@ -1,0 +1,6 @@
+def guessed(secret, guesses):
+    ok = True
+    for c in secret:
+        if not c in guesses:
+            ok = False
+    return ok

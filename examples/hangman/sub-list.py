@@ -1,0 +1,6 @@
+def guessed(word, letters):
+    found = []
+    for c in word:
+        if c in letters:
+            found.append(c)
+    return len(found) == len(word)

@@ -1,0 +1,3 @@
+def guessed(word, letters):
+    # the word is found in the letters
+    return word in letters

@@ -1,0 +1,5 @@
+def guessed(word, letters):
+    for letter in word:
+        if letter in letters:
+            return False
+    return True

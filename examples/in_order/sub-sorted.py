@@ -1,0 +1,2 @@
+def in_order(v):
+    return v == sorted(v)

@@ -1,0 +1,2 @@
+def largest(v):
+    return max(v)

@@ -1,0 +1,2 @@
+def is_palindrome(s):
+    return s == ''.join(reversed(s))

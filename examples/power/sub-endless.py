@@ -1,0 +1,5 @@
+def power(base, exp):
+    ans = 1
+    while exp > 0:
+        ans = ans * base
+    return ans

@@ -1,0 +1,4 @@
+def remove(v, x):
+    while x in v:
+        v.remove(x)
+    return v

@@ -1,0 +1,10 @@
+def second(v):
+    first = max(v[0], v[1])
+    other = min(v[0], v[1])
+    for x in v[2:]:
+        if x > first:
+            other = x
+            first = x
+        elif x > other:
+            other = x
+    return other

@@ -1,0 +1,3 @@
+def second(v):
+    v.sort()
+    return v[len(v) - 2]

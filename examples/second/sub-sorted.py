@@ -1,0 +1,2 @@
+def second(v):
+    return sorted(v)[-2]

@@ -1,0 +1,6 @@
+def vowels(text):
+    n = 0
+    for c in text:
+        if c not in 'aeiou':
+            n += 1
+    return n
