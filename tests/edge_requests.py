@@ -201,18 +201,25 @@ def an_edge_of_run(rng):
     return EdgeRequest(words, files, limit.__name__, past, edge.wanted)
 
 
+def weight(past):
+    """Sources that weigh 1,000,000 together, or one more. The reference has seven powers and weighs 458,760; the submission has eight,
+    and weighs 541,137 and what its test weighs, in which a `True` weighs 1, a `not` 4, and an `and` 4."""
+    powers = '1' + ' ** 1' * 7
+    test = 'not not True' + ' and True' * 19 if past else 'not not not True' + ' and True' * 18
+    submission = '\ndef f():\n    return %s ** 1%s%s if %s else 1\n' % (powers, ' // 1' * 4, ' - 1' * 3, test)
+    return 'width 16\nturns 1\ndepth 1\ncap 1\nentry f\n', 'def f():\n    return %s\n' % powers, submission, ''
+
+
 def an_edge_of_grade(rng):
-    """A pair with 1,000,000 inputs, which is as many as are tried, or with one more; or a file that is too long."""
+    """A pair that weighs as much as is allowed, or one more; or a file of as many bytes as are allowed, or of one more."""
     edge = Edge(rng, rng.random() < 0.5)
     if rng.random() < 0.5:
         source_bytes(edge)
         limit = 'source_bytes'
+        texts = (edge.bounds(), edge.program, edge.program, '')
     else:
-        limit, edge.numbers['width'] = 'inputs', 16
-        first, second = (101, 9901) if edge.past else (100, 10000)
-        edge.params = [('a', 'int 1..%d' % first), ('b', 'int 1..%d' % second)]
-        edge.program = 'def f(a, b):\n    return b\n'
+        limit = 'weight'
         edge.wants('TooLarge')
-    edge.wanted = 'correct' if edge.wanted == 'value' else edge.wanted
-    texts = (edge.bounds(), edge.program, edge.program, '')
-    return EdgeRequest(WORDS, dict(zip(WORDS[1:5], (text.encode() for text in texts))), limit, edge.past, edge.wanted)
+        texts = weight(edge.past)
+    wanted = 'correct' if edge.wanted == 'value' else edge.wanted
+    return EdgeRequest(WORDS, dict(zip(WORDS[1:5], (text.encode() for text in texts))), limit, edge.past, wanted)

@@ -2,6 +2,7 @@
 
 A log is a list of steps, each a list of literals and a list of the numbers of the clauses from which it follows.
 """
+import collections
 
 
 def judged(known, clause, hints):
@@ -27,13 +28,20 @@ def judged_log(clauses, log):
 
 def is_fresh(clauses, log):
     """Whether no clause of the log contains a clause of the formula or an earlier one of the log."""
-    known = [frozenset(clause) for clause in clauses]
+    known = collections.defaultdict(list)
+    for clause in clauses:
+        known[last(clause)].append(frozenset(clause))
     for clause, _ in log:
         wide = frozenset(clause)
-        if any(narrow <= wide for narrow in known):
+        if any(narrow <= wide for literal in [0] + clause for narrow in known.get(literal, ())):
             return False
-        known.append(wide)
+        known[last(clause)].append(wide)
     return True
+
+
+def last(clause):
+    """The literal of the greatest variable, or 0."""
+    return max(clause, key=abs, default=0)
 
 
 def is_narrow(d, log):

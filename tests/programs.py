@@ -45,22 +45,24 @@ LETTERS = {'Int': 'n', 'Bool': 'b', 'List': 'l', 'Text': 't'}
 
 
 class Model:
-    """The plain model, by its modules."""
+    """The plain model, by its modules. The stage is how much of the grader is there."""
 
-    def __init__(self, path):
+    def __init__(self, path, stage=STAGE):
         sys.dont_write_bytecode = True
         sys.path.insert(0, os.path.dirname(os.path.realpath(path)))
         sys.setrecursionlimit(100000)
         import grade
         import interp
+        import report
         import rewrite
         import tree
-        self.grade, self.interp, self.rewrite, self.tree = grade, interp, rewrite, tree
+        self.grade, self.interp, self.report, self.rewrite, self.tree = grade, interp, report, rewrite, tree
+        self.stage = stage
 
     def task(self, sources):
         """The task that these sources spell, or None."""
         try:
-            return self.grade.read_task(sources, STAGE)
+            return self.grade.read_task(sources, self.stage)
         except self.grade.Refused:
             return None
 

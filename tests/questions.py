@@ -9,9 +9,10 @@ number, so `--first NUMBER` with COUNT 1 repeats one; some have a small budget.
 
 Both searches must answer as the model does, the one by solver by a selection that agrees at its cost. Its questions must come in their
 order, with the cases and the selections that they name, and the closing one where it is needed. Each log is judged here by the rule
-of hints, and must be fresh and narrow. Where a question's own variables are at most 14, its formula is tried under all their truth
-values: each other variable must be forced by those before it, and the formula must hold exactly where the values spell something of
-which the question holds by the model's runs. Printed are the counts and each difference; the exit status is 1 where there is one.
+of hints, and must be fresh and narrow. Each formula must be made of gates, each forced by the variables before it, and hold exactly
+where the question's own variables spell something of which the question holds by the model's runs. It is tried under all their truth
+values where they are at most 14, and else under some. Printed are the counts and each difference; the exit status is 1 where there is
+one.
 """
 import collections
 import os
@@ -21,16 +22,14 @@ import tempfile
 
 import cert_reader
 import unproved
-from log_rules import is_fresh, is_narrow, judged_log
 from programs import Model, some_sources
 from questions_try import Harness
-from task_questions import Decoder, Judge, refuted
+from session_rules import faults_of_session
+from task_questions import Judge, least_left
 
 # So many tasks stand in one input of the program, and so many clauses of a task's formulas are printed: a run may write 2^20 bytes.
 BATCH = 8
 CLAUSES = 6000
-# The formulas of questions of so many own variables are tried.
-VARIABLES = 14
 BUDGETS = (200000,) * 6 + (0, 1, 2, 7)
 
 
@@ -58,11 +57,6 @@ def told(answer):
     if words[0] == 'spent':
         return 'spent', int(words[1]), None
     return answer, None, None
-
-
-def least_left(sessions):
-    """The least number such that no question with a bound of it or more was refuted."""
-    return max([s[0][1] + 1 for s in sessions if s[0][0] == 'low' and s[0][1] != 'any' and refuted(s)], default=0)
 
 
 class Comparison:
@@ -116,62 +110,9 @@ class Comparison:
             ended = 'spent', least_left(sessions), None
         if ended != answer:
             yield 'the questions end with %s, the answer is %s' % (ended, answer)
+        near = [dict(session[0][1]) for session in sessions if session[0][0] == 'fail']
         for session in sessions:
-            yield from self.faults_of_session(judge, inputs, session)
-
-    def faults_of_session(self, judge, inputs, session):
-        query, variables, clauses, log = session
-        own = judge.decoder.choice_bits if query[0] == 'low' else judge.decoder.input_bits
-        self.counts['logged clauses'] += len(log)
-        if any(answer != 'good' for answer in judged_log(clauses, log)):
-            yield '%s: a step does not follow' % (query,)
-        if not is_fresh(clauses, log) or not is_narrow(own + 1, log):
-            yield '%s: a log is not fresh and narrow' % (query,)
-        if own > VARIABLES:
-            self.counts['formulas of many variables'] += 1
-            return
-        holds, unforced = formula_mask(own, variables, clauses)
-        self.counts['formulas tried'] += 1
-        if unforced:
-            yield '%s: variable %d is not forced' % (query, unforced)
-        if holds != judge.mask(query, inputs):
-            yield '%s: the formula states another question' % (query,)
-
-
-def formula_mask(own, variables, clauses):
-    """Under which truth values of the own variables a formula holds, as the bits of a number; and a variable that isn't forced."""
-    every = (1 << (1 << own)) - 1
-    known = [0, every]
-    for place in range(own):
-        step = 1 << place
-        block = ((1 << step) - 1) << step
-        known.append(block * (every // ((1 << 2 * step) - 1)))
-    last = collections.defaultdict(list)
-    for clause in clauses:
-        last[max(map(abs, clause))].append(clause)
-
-    def of(literal):
-        return known[literal] if literal > 0 else known[-literal] ^ every
-
-    holds, unforced = every, 0
-    for v in range(1, variables + 1):
-        if v > own + 1:
-            forced = [0, 0]
-            for clause in last[v]:
-                left = every
-                for literal in clause:
-                    if abs(literal) != v:
-                        left &= of(-literal)
-                forced[v in clause] |= left
-            known.append(forced[1])
-            if forced[0] | forced[1] != every:
-                unforced = v
-        for clause in last[v]:
-            one = 0
-            for literal in clause:
-                one |= of(literal)
-            holds &= one
-    return holds, unforced
+            yield from faults_of_session(judge, inputs, session, self.counts, near)
 
 
 def main():

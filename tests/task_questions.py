@@ -1,11 +1,17 @@
 """The questions of a search about a task, by the plain model; nothing by itself."""
 import itertools
+import math
 
 
 def refuted(session):
     """Whether the log of a session ends with the empty clause."""
     log = session[3]
     return bool(log) and not log[-1][0]
+
+
+def least_left(sessions):
+    """The least number such that no question with a bound of it or more was refuted."""
+    return max([s[0][1] + 1 for s in sessions if s[0][0] == 'low' and s[0][1] != 'any' and refuted(s)], default=0)
 
 
 class Decoder:
@@ -50,6 +56,35 @@ class Decoder:
             return None
         return ''.join(map(chr, items))
 
+    def number_of_input(self, given, rest=0):
+        """The number whose bits spell an input; those that spell nothing are taken from `rest`."""
+        number, place = 0, 0
+        for kind, value in zip(self.types, given):
+            size = self.bits_of(kind)
+            bits, told = self.bits_of_value(kind, value)
+            number |= (bits | (rest >> place & (1 << size) - 1 & -1 << told)) << place
+            place += size
+        return number
+
+    def bits_of_value(self, kind, value):
+        """The bits of a value, and how many of them there are."""
+        width = self.limits.width
+        if kind in ('Bool', 'Int'):
+            size = self.bits_of(kind)
+            return int(value) & (1 << size) - 1, size
+        size = width if kind == 'List' else 7
+        items = value if kind == 'List' else map(ord, value)
+        bits = sum((item & (1 << size) - 1) << size * place for place, item in enumerate(items))
+        return len(value) | bits << 5, 5 + size * len(value)
+
+    def number_of_choice(self, members):
+        """The number whose bits spell these members."""
+        number, place = 0, 0
+        for size, member in zip(self.sizes, members):
+            number |= member << place
+            place += size
+        return number
+
     def choice(self, number):
         """The member of each pick that the bits of a number spell, or None."""
         found = []
@@ -78,11 +113,14 @@ class Judge:
         self.within = [tuple(given) for given in task.bounds.inputs()]
         self.wanted = [given for given in self.within if self.value(task.ref, given) is not None]
 
+    def outcome(self, program, given):
+        return self.model.interp.run(program, self.limits, self.entry, list(given))
+
     def value(self, program, given):
         """The value that a program gives, with its type, or None for a fault."""
         key = id(program), given
         if key not in self.ended:
-            ended = self.model.interp.run(program, self.limits, self.entry, list(given))
+            ended = self.outcome(program, given)
             self.ended[key] = (type(ended[1]).__name__, ended[1]) if ended[0] == 'Done' else None
         return self.ended[key]
 
@@ -97,6 +135,10 @@ class Judge:
     def of_pairs(self, chosen):
         return tuple(chosen.get(pick, 0) for pick in range(len(self.decoder.sizes)))
 
+    def fits(self, chosen):
+        """Whether a selection names picks and their members."""
+        return all(pick < len(self.decoder.members) and member <= self.decoder.members[pick] for pick, member in chosen.items())
+
     def cost(self, chosen):
         return self.walk(self.of_pairs(chosen))[1]
 
@@ -107,6 +149,10 @@ class Judge:
         program = self.walk(self.of_pairs(chosen))[0]
         return all(self.meets(program, given) for given in self.wanted)
 
+    def is_small(self, tries):
+        """Whether the members of all picks, in each combination, times the inputs are no more than this."""
+        return math.prod(most + 1 for most in self.decoder.members) * len(self.wanted) <= tries
+
     def least(self):
         """The kind and the cost of the right answer."""
         if not self.wanted:
@@ -116,6 +162,8 @@ class Judge:
             program, cost = self.walk(members)
             if (not costs or cost < min(costs)) and all(self.meets(program, given) for given in self.wanted):
                 costs.append(cost)
+                if cost == 0:
+                    break
         return ('cost', min(costs)) if costs else ('none', None)
 
     def input_of(self, values):
@@ -123,25 +171,29 @@ class Judge:
         shown = {bool: bool, int: int, list: tuple, tuple: lambda it: it[1].decode()}
         return tuple(shown[type(value)](value) for value in values)
 
-    def mask(self, query, cases):
-        """Of which own bits a question holds, as the bits of a number."""
+    def own_bits(self, query):
+        """How many variables are a question's own."""
+        return self.decoder.choice_bits if query[0] == 'low' else self.decoder.input_bits
+
+    def mask(self, query, cases, numbers):
+        """For which of these numbers a question holds of what the own bits spell, where they are those of the number: the bits
+        of the answer, one for each number in its place."""
         holds = self.low(query[1], cases[:query[2]]) if query[0] == 'low' else self.failing(query)
-        return sum(1 << number for number in holds)
+        return int('0' + ''.join('01'[holds(number)] for number in reversed(numbers)), 2)
 
     def low(self, most, cases):
-        for number in range(1 << self.decoder.choice_bits):
+        def holds(number):
             members = self.decoder.choice(number)
-            if members is not None:
-                program, cost = self.walk(members)
-                if (most == 'any' or cost <= most) and all(self.meets(program, given) for given in cases):
-                    yield number
+            if members is None:
+                return False
+            program, cost = self.walk(members)
+            return (most == 'any' or cost <= most) and all(self.meets(program, given) for given in cases)
+        return holds
 
     def failing(self, query):
         program = self.walk(self.of_pairs(dict(query[1])))[0] if query[0] == 'fail' else None
         wanted = {given for given in self.wanted if program is None or not self.meets(program, given)}
-        for number in range(1 << self.decoder.input_bits):
-            if self.decoder.input(number) in wanted:
-                yield number
+        return lambda number: self.decoder.input(number) in wanted
 
     def trail(self, cases, sessions):
         """How the questions end, where they come in their order; else what is wrong with them."""
@@ -195,7 +247,7 @@ class Trail:
                 return 'cost', cost, self.chosen
             self.due, self.bound = 'closing', cost - 1
             return None
-        if not last and self.judge.meets(program, self.cases[self.kept]):
+        if not last and self.kept < len(self.cases) and self.judge.meets(program, self.cases[self.kept]):
             return 'the selection does not fail there', query, None
         return self.unfinished(last) or self.keep('low')
 
