@@ -72,7 +72,7 @@ def main():
         caller = Built(work, 'grading', ['grade_io', 'grade_top']).program
         for name in sorted(os.listdir(here)):
             folder = os.path.join(here, name)
-            if not os.path.isdir(folder):
+            if not os.path.exists(os.path.join(folder, 'bounds.txt')):
                 continue
             submissions = sorted(file for file in os.listdir(folder) if file.startswith('sub-') and file.endswith('.py'))
             calls = [by_call(caller, folder, submission) for submission in submissions]

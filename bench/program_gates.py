@@ -66,7 +66,7 @@ def main():
     model = Model(os.environ['MODEL'])
     from weights import weight
     examples = os.path.join(HERE, '..', 'examples')
-    names = sys.argv[1:] or sorted(it for it in os.listdir(examples) if os.path.isdir(os.path.join(examples, it)))
+    names = sys.argv[1:] or sorted(it for it in os.listdir(examples) if os.path.exists(os.path.join(examples, it, 'bounds.txt')))
     found = [submissions(model, weight, os.path.join(examples, it)) for it in names]
     inputs = [[it[0].line('reference', it[0].arguments)] + [s.line('gates', s.arguments + s.members) for s in it] for it in found]
     print('| assignment | weight | gates | submissions | picks | weight | gates | weight in the mean | gates in the mean |')
