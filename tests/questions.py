@@ -46,7 +46,7 @@ class Case:
     def lines(self):
         if self.task is None:
             return []
-        return ['\t'.join([str(self.budget), str(CLAUSES)] + [text.hex() for text in self.sources])]
+        return ['\t'.join(['both', str(self.budget), str(CLAUSES)] + [text.hex() for text in self.sources])]
 
 
 def told(answer):
