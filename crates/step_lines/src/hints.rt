@@ -14,9 +14,10 @@ use std::alloc::{AllocError, Global};
 // How many hints a step has at most.
 const MOST_HINTS: usize = 2_147_483_647;
 
-// How many spaces there are, of which one stands before each word.
-fn spaces(text: &[u8]) -> usize {
-    text.iter().filter(|c| **c == b' ').count()
+// How many words can stand before the last, as a space is before each.
+fn most_before_last(text: &[u8]) -> usize {
+    let spaces = text.iter().filter(|c| **c == b' ').count();
+    spaces.saturating_sub(1)
 }
 
 /// The numbers of clauses before the one with this number that the words spell, up to the word `0`
@@ -24,7 +25,7 @@ fn spaces(text: &[u8]) -> usize {
 pub fn hints(alloc: Global, own_number: usize, text: &[u8]) -> Result<Option<Hints>, NoMemory>
     ensures { IfOk result (λ o. IsReading (SpellsHints own_number text.now) o) }
 {
-    let mut found = Vec::with_capacity(alloc, spaces(text))?;
+    let mut found = Vec::with_capacity(alloc, most_before_last(text))?;
     let mut rest = text;
     'words: loop {
         let Some(next) = next_number(rest) else {
