@@ -1,5 +1,5 @@
 -- Where lists of words can't go on.
-use Rattle.std.proofs.Common.{◌≡◌, ◌≢◌, ◌⊎◌, inl, inr, ℕ, ◌≤◌, ◌<◌, Bool, true, false, not, ◌==◌, List, [], ◌∷◌, ◌++◌, map, IfOk, MatchOption, Option, None, Some, Result, Ok, Err, refl, sym, ap, ◌∙◌, subst, arith}
+use Rattle.std.proofs.Common.{◌≡◌, ◌≢◌, ◌⊎◌, inl, inr, ℕ, ◌≤◌, Bool, true, false, not, ◌==◌, List, [], ◌∷◌, ◌++◌, map, IfOk, MatchOption, Option, None, Some, Result, Ok, Err, refl, sym, ap, ◌∙◌, subst, arith}
 use Rattle.std.specs.Cmp.Lexicographic.{pointwise}
 use Rattle.std.specs.Fmt.{decimal}
 use Rattle.std.specs.List.{list_all}
@@ -12,8 +12,8 @@ use Rattle.step_lines.specs.Words.{NextNumber, SpellsHints, SpellsLiteral, Spell
 use Rattle.step_lines.proofs.Apart.{both, clash, cons_tail, cut}
 use Rattle.step_lines.proofs.Decimals.{decimal_lacks, decimal_one, space_is_other}
 use Rattle.step_lines.proofs.Growing.{same_bytes}
-use Rattle.step_lines.proofs.Rows.{Ahead, Words, ahead, flat, none_ahead, one_word_more, resume, starts_at, texts}
-use Rattle.step_lines.proofs.WordKinds.{hint_is, hint_limits, hint_words, hints_end, literal_words, literals_end, zero_text, zero_word}
+use Rattle.step_lines.proofs.Rows.{Ahead, Words, ahead, flat, none_ahead, resume, starts_at, texts}
+use Rattle.step_lines.proofs.WordKinds.{hint_limits, hint_words, hints_end, literal_words, literals_end, zero_text, zero_word}
 
 -- a test of bytes that found them unequal
 pub unequal : (r : Bool) (xs ys zs : List ℕ) → r ≡ pointwise ◌==◌ xs ys → ys ≡ zs → r ≡ false → xs ≡ zs → ⊥
@@ -40,11 +40,6 @@ module _ (own : ℕ) (text : List ℕ) (found : List ℕ) (rest : List ℕ) (w :
   module _ (h : ℕ) (behind : List ℕ) (next : NextNumber rest h behind) where
     apart : lacks 32 (decimal h) ≡ true
     apart = decimal_lacks 32 h space_is_other next.kept
-
-    pub one_hint_more : h ≢ 0 → h < own → Words decimal (is_hint own) text (found ++ h ∷ []) behind
-    one_hint_more some earlier =
-        let positive : 0 < h = omega arith in
-        one_word_more decimal (is_hint own) text found rest (decimal h) behind h w next.written next.apart refl (hint_is own h positive earlier next.kept)
 
     hints_whole : h ≡ 0 → behind ≡ [] → SpellsHints own text found
     hints_whole z e =
