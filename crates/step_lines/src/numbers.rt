@@ -75,7 +75,7 @@ fn is_apart(text: &[u8]) -> bool
 
 /// A number, and what stands behind it.
 #[derive(Clone, Copy)]
-pub struct Numeral<'a> {
+pub(crate) struct Numeral<'a> {
     pub value: u32,
     pub behind: &'a [u8],
 }
@@ -103,7 +103,7 @@ fn front_number(text: &[u8]) -> Option<Numeral<'_>>
 }
 
 /// The number that the word behind the space at the front of the text spells.
-pub fn next_number(text: &[u8]) -> Option<Numeral<'_>>
+pub(crate) fn next_number(text: &[u8]) -> Option<Numeral<'_>>
     ensures next { MatchOption result
         ((n : ℕ) (behind : List ℕ) → NextNumber text.now n behind → ⊥)
         (λ r. NextNumber text.now r.value r.behind.now) }
