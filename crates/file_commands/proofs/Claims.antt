@@ -20,7 +20,7 @@ pub record IsSaying {A : Type 0} (c : FileCommand A) (before after : Devices) (s
   pub wrote : Wrote before.sink after.sink (text_of c outcome)
 
 -- the texts that are told are the ones
-told_texts : (shelf : ShelfState) (fs : List SourceFile) (ts us : List (List ℕ)) → Tells shelf fs ts → AreHeld shelf fs us → us ≡ ts
+pub told_texts : (shelf : ShelfState) (fs : List SourceFile) (ts us : List (List ℕ)) → Tells shelf fs ts → AreHeld shelf fs us → us ≡ ts
 told_texts shelf [] [] [] tells held = refl
 told_texts shelf [] [] (u ∷ us) tells held = absurd held
 told_texts shelf [] (t ∷ ts) us tells held = absurd tells

@@ -7,7 +7,7 @@ use Rattle.source_files.specs.Texts.{AllFit, IsFirstLong, IsTooLong}
 use Rattle.file_commands.specs.Commands.{FileCommand}
 use Rattle.file_commands.specs.Ends.{IsFirstRefusal}
 
-long_fits : (ss : List Source) (ts : List (List ℕ)) (s : Source) → AllFit ss ts → IsFirstLong ss ts s → ⊥
+pub long_fits : (ss : List Source) (ts : List (List ℕ)) (s : Source) → AllFit ss ts → IsFirstLong ss ts s → ⊥
 long_fits [] ts s fit long = long
 long_fits (q ∷ qs) [] s fit long = long
 long_fits (q ∷ qs) (t ∷ ts) s fit long = elim long [
@@ -32,7 +32,7 @@ one_long (q ∷ qs) (t ∷ ts) s other a b = elim a [
 same_refusal : (q r : Refusal) → q.source ≡ r.source → q.cause ≡ r.cause → q.line ≡ r.line → q ≡ r
 same_refusal q r s c l = λ i. record { source = s i; cause = c i; line = l i }
 
-one_too_long : (ss : List Source) (ts : List (List ℕ)) (q r : Refusal) → IsTooLong ss ts q → IsTooLong ss ts r → q ≡ r
+pub one_too_long : (ss : List Source) (ts : List (List ℕ)) (q r : Refusal) → IsTooLong ss ts q → IsTooLong ss ts r → q ≡ r
 one_too_long ss ts q r a b =
     same_refusal q r (one_long ss ts q.source r.source a.long b.long) (a.cause_is ∙ sym b.cause_is) (a.line_is ∙ sym b.line_is)
 

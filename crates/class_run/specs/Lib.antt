@@ -1,0 +1,10 @@
+pub mod Claims
+pub mod Classes
+pub mod Ends
+pub mod Found
+pub mod Listed
+pub mod Numbers
+pub mod Outcomes
+pub mod Says
+pub mod Stops
+pub mod Views
