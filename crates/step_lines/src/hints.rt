@@ -9,7 +9,6 @@ ghost use Rattle.clause_base.specs.Readings.{IsReading};
 use crate::NoMemory;
 use crate::numbers::{next_number, write_number};
 use clause_base::hints::Hints;
-use memchr::memchr_iter;
 use std::alloc::{AllocError, Global};
 
 // How many hints a step has at most.
@@ -17,7 +16,8 @@ const MOST_HINTS: usize = 2_147_483_647;
 
 // How many words can stand before the last, as a space is before each.
 fn most_before_last(text: &[u8]) -> usize {
-    memchr_iter(b' ', text).count().saturating_sub(1)
+    let spaces = text.iter().filter(|c| **c == b' ').count();
+    spaces.saturating_sub(1)
 }
 
 /// The numbers of clauses before the one with this number that the words spell, up to the word `0`
