@@ -6,6 +6,8 @@ from random_programs import TYPES, Bounds, changed
 from request import WORDS, Request
 
 MOST_INPUTS = 40
+# Some rules may be used nearly anywhere, and then a search takes minutes to spend more.
+BUDGET = '2000'
 
 # Rules in the manner of error models, each a left side and a right side.
 RULES = (
@@ -103,4 +105,4 @@ def a_request(rng):
     if rng.random() < 0.02:
         name = rng.choice(('sub.py', 'rules.eml'))
         files[name] = spoiled(rng, files[name])
-    return Request(WORDS, files)
+    return Request(WORDS[:6] + (BUDGET,), files)
