@@ -3,4 +3,3 @@ mod TextModels
 mod Reporting
 pub mod SatClaims
 pub mod UnsatClaims
-mod OneText

@@ -21,12 +21,14 @@ use Rattle.grade_core.specs.Claims.{IsGraded, IsRefusedOrSpent}
 use Rattle.grade_core.specs.Commands.{Graded, IsGradedAs, answer_text, empty_reference, status_of}
 use Rattle.grade_core.specs.Decisions.{task_step}
 use Rattle.check_core.proofs.CheckClaims.{said_no_usage}
+use Rattle.formula_commands.proofs.SatClaims as sat
+use Rattle.formula_commands.proofs.UnsatClaims as unsat
 use Rattle.grade_core.proofs.GradeClaims.{empty_as, empty_found, graded_as}
 use Rattle.grade_core.proofs.OneGrading.{one_task_step}
 use Rattle.grade_top.specs.Commands.{AnswerOf, file_command, files_of, line_of, run_command, run_files, sample_budget, sample_command, sample_word, usage_command}
 use Rattle.grade_top.specs.Decisions.{run_step, sample_texts}
 use Rattle.grade_top.specs.Reports.{run_text, sample_report, usage_text}
-use Rattle.grade_top.specs.Words.{Command, Grade, Check, Run, Sample, Nothing, RunWords}
+use Rattle.grade_top.specs.Words.{Command, Grade, Check, Run, Sample, Sat, Unsat, Nothing, RunWords}
 use Rattle.grade_top.proofs.OneOutcome.{not_both, one_refuses, one_run_step}
 
 -- USAGE
@@ -43,6 +45,8 @@ never_usage (Grade g) some a e = answer_no_usage a.answer e
 never_usage (Check w) some a e = said_no_usage a.said e
 never_usage (Run w) some a e = cc
 never_usage (Sample n) some a e = answer_no_usage a.answer e
+never_usage (Sat w) some a e = sat.no_usage a e
+never_usage (Unsat w) some a e = unsat.no_usage a e
 never_usage Nothing some a e = some refl
 
 -- a command never ends with the usage

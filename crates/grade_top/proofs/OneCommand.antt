@@ -1,12 +1,14 @@
 -- Words ask for one command.
-use Rattle.std.proofs.Common.{◌≡◌, sym, ap, ◌∙◌, arith, refl, List, ℕ}
+use Rattle.std.proofs.Common.{◌≡◌, sym, ap, ◌∙◌, arith, refl, List, [], ◌∷◌, ℕ, eq-eqb, false, true}
 use Rattle.std.specs.Fmt.{decimal}
 use Rattle.std.proofs.lemmas.Fmt.{decimal_injective}
 use Rattle.check_core.specs.Words.{CheckWords}
+use Rattle.formula_commands.specs.Words.{SatWords, UnsatWords}
 use Rattle.grade_core.specs.Words.{GradeWords}
 use Rattle.grade_top.specs.Requests.{command_of}
 use Rattle.grade_top.specs.declared.words.Command as code_command
-use Rattle.grade_top.specs.Words.{Command, Grade, Check, Run, Sample, Nothing, RunWords, AsksGrade, AsksCheck, AsksRun, AsksSample, Asks, grade_words, check_words, run_words, sample_words}
+use Rattle.grade_top.specs.Words.{Command, Grade, Check, Run, Sample, Sat, Unsat, Nothing, RunWords, Asks, grade_words, check_words, run_words, sample_words, sat_words, unsat_words}
+use Rattle.grade_top.specs.Words.{AsksGrade, AsksCheck, AsksRun, AsksSample, AsksSat, AsksUnsat}
 
 make : (bounds reference submission rules cert : List ℕ) (budget : ℕ) → GradeWords
 make bounds reference submission rules cert budget = record { bounds = bounds; reference = reference; submission = submission; rules = rules; cert = cert; budget = budget }
@@ -68,6 +70,68 @@ no_check_run words w r check run = let no : check_words w ≡ run_words r = sym 
 no_check_sample : (words : List (List ℕ)) (w : CheckWords) (n : ℕ) → AsksCheck words w → AsksSample words n → ⊥
 no_check_sample words w n check sample = let no : check_words w ≡ sample_words n = sym check ∙ sample.0 in cc
 
+abbrev first_word : List (List ℕ) → List ℕ
+first_word [] = []
+first_word (word ∷ words) = word
+
+abbrev first_byte : List ℕ → ℕ
+first_byte [] = 0
+first_byte (c ∷ cs) = c
+
+apart : false ≡ true → ⊥
+apart e = cc
+
+make_sat : (cnf log : List ℕ) (budget : ℕ) → SatWords
+make_sat cnf log budget = record { cnf = cnf; log = log; budget = budget }
+
+made_sat : (w v : SatWords) → sat_words w ≡ sat_words v → w.budget ≡ v.budget → make_sat w.cnf w.log w.budget ≡ make_sat v.cnf v.log v.budget
+made_sat w v words budget = cc
+
+same_sat : (words : List (List ℕ)) (w v : SatWords) → AsksSat words w → AsksSat words v → w ≡ v
+unfolding make_sat
+same_sat words w v asks other =
+    let e : sat_words w ≡ sat_words v = sym asks.0 ∙ other.0 in
+    let text : decimal w.budget ≡ decimal v.budget = cc in
+    let budget : w.budget ≡ v.budget = decimal_injective w.budget v.budget (omega (arith, asks.1.most)) (omega (arith, other.1.most)) text in
+    made_sat w v e budget
+
+make_unsat : (cnf log : List ℕ) → UnsatWords
+make_unsat cnf log = record { cnf = cnf; log = log }
+
+made_unsat : (w v : UnsatWords) → unsat_words w ≡ unsat_words v → make_unsat w.cnf w.log ≡ make_unsat v.cnf v.log
+made_unsat w v words = cc
+
+same_unsat : (words : List (List ℕ)) (w v : UnsatWords) → AsksUnsat words w → AsksUnsat words v → w ≡ v
+unfolding make_unsat
+same_unsat words w v asks other = made_unsat w v (sym asks ∙ other)
+
+no_grade_sat : (words : List (List ℕ)) (g : GradeWords) (w : SatWords) → AsksGrade words g → AsksSat words w → ⊥
+no_grade_sat words g w grade sat = let no : grade_words g ≡ sat_words w = sym grade.0 ∙ sat.0 in cc
+
+no_check_sat : (words : List (List ℕ)) (v : CheckWords) (w : SatWords) → AsksCheck words v → AsksSat words w → ⊥
+no_check_sat words v w check sat = let no : check_words v ≡ sat_words w = sym check ∙ sat.0 in cc
+
+no_run_sat : (words : List (List ℕ)) (r : RunWords) (w : SatWords) → AsksRun words r → AsksSat words w → ⊥
+no_run_sat words r w run sat = apart (eq-eqb 114 115 (ap (λ ws. first_byte (first_word ws)) (sym run.0 ∙ sat.0)))
+
+no_sample_sat : (words : List (List ℕ)) (n : ℕ) (w : SatWords) → AsksSample words n → AsksSat words w → ⊥
+no_sample_sat words n w sample sat = let no : sample_words n ≡ sat_words w = sym sample.0 ∙ sat.0 in cc
+
+no_grade_unsat : (words : List (List ℕ)) (g : GradeWords) (w : UnsatWords) → AsksGrade words g → AsksUnsat words w → ⊥
+no_grade_unsat words g w grade unsat = let no : grade_words g ≡ unsat_words w = sym grade.0 ∙ unsat in cc
+
+no_check_unsat : (words : List (List ℕ)) (v : CheckWords) (w : UnsatWords) → AsksCheck words v → AsksUnsat words w → ⊥
+no_check_unsat words v w check unsat = let no : check_words v ≡ unsat_words w = sym check ∙ unsat in cc
+
+no_run_unsat : (words : List (List ℕ)) (r : RunWords) (w : UnsatWords) → AsksRun words r → AsksUnsat words w → ⊥
+no_run_unsat words r w run unsat = let no : run_words r ≡ unsat_words w = sym run.0 ∙ unsat in cc
+
+no_sample_unsat : (words : List (List ℕ)) (n : ℕ) (w : UnsatWords) → AsksSample words n → AsksUnsat words w → ⊥
+no_sample_unsat words n w sample unsat = let no : sample_words n ≡ unsat_words w = sym sample.0 ∙ unsat in cc
+
+no_sat_unsat : (words : List (List ℕ)) (v : SatWords) (w : UnsatWords) → AsksSat words v → AsksUnsat words w → ⊥
+no_sat_unsat words v w sat unsat = let no : sat_words v ≡ unsat_words w = sym sat.0 ∙ unsat in cc
+
 pub one_command : (words : List (List ℕ)) (c d : Command) → Asks words c → Asks words d → c ≡ d
 one_command words (Grade g) (Grade h) asks other = ap Grade (same_words words g h asks other)
 one_command words (Grade g) (Check w) asks other = absurd (no_grade_check words g w asks other)
@@ -93,6 +157,30 @@ one_command words (Sample n) Nothing asks other = absurd (other.no_sample n asks
 one_command words Nothing (Grade h) asks other = absurd (asks.no_grade h other)
 one_command words Nothing (Run w) asks other = absurd (asks.no_run w other)
 one_command words Nothing (Sample n) asks other = absurd (asks.no_sample n other)
+one_command words (Grade g) (Sat w) asks other = absurd (no_grade_sat words g w asks other)
+one_command words (Sat w) (Grade g) asks other = absurd (no_grade_sat words g w other asks)
+one_command words (Grade g) (Unsat w) asks other = absurd (no_grade_unsat words g w asks other)
+one_command words (Unsat w) (Grade g) asks other = absurd (no_grade_unsat words g w other asks)
+one_command words (Check v) (Sat w) asks other = absurd (no_check_sat words v w asks other)
+one_command words (Sat w) (Check v) asks other = absurd (no_check_sat words v w other asks)
+one_command words (Check v) (Unsat w) asks other = absurd (no_check_unsat words v w asks other)
+one_command words (Unsat w) (Check v) asks other = absurd (no_check_unsat words v w other asks)
+one_command words (Run r) (Sat w) asks other = absurd (no_run_sat words r w asks other)
+one_command words (Sat w) (Run r) asks other = absurd (no_run_sat words r w other asks)
+one_command words (Run r) (Unsat w) asks other = absurd (no_run_unsat words r w asks other)
+one_command words (Unsat w) (Run r) asks other = absurd (no_run_unsat words r w other asks)
+one_command words (Sample n) (Sat w) asks other = absurd (no_sample_sat words n w asks other)
+one_command words (Sat w) (Sample n) asks other = absurd (no_sample_sat words n w other asks)
+one_command words (Sample n) (Unsat w) asks other = absurd (no_sample_unsat words n w asks other)
+one_command words (Unsat w) (Sample n) asks other = absurd (no_sample_unsat words n w other asks)
+one_command words (Sat w) (Sat v) asks other = ap Sat (same_sat words w v asks other)
+one_command words (Sat v) (Unsat w) asks other = absurd (no_sat_unsat words v w asks other)
+one_command words (Sat w) Nothing asks other = absurd (other.no_sat w asks)
+one_command words (Unsat w) (Sat v) asks other = absurd (no_sat_unsat words v w other asks)
+one_command words (Unsat w) (Unsat v) asks other = ap Unsat (same_unsat words w v asks other)
+one_command words (Unsat w) Nothing asks other = absurd (other.no_unsat w asks)
+one_command words Nothing (Sat w) asks other = absurd (asks.no_sat w other)
+one_command words Nothing (Unsat w) asks other = absurd (asks.no_unsat w other)
 one_command words Nothing Nothing asks other = refl
 
 -- a command that was read is one
@@ -101,3 +189,5 @@ asks_something (code_command.TheVariants.Grade w) is = cc
 asks_something (code_command.TheVariants.Check w) is = cc
 asks_something (code_command.TheVariants.Run w) is = cc
 asks_something (code_command.TheVariants.Sample n) is = cc
+asks_something (code_command.TheVariants.Sat w) is = cc
+asks_something (code_command.TheVariants.Unsat w) is = cc

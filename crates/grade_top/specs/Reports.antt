@@ -20,6 +20,8 @@ usage_text =
     ++ codes "       mpygrade check BOUNDS REF SUB RULES CERT\n"
     ++ codes "       mpygrade run BOUNDS PROG VALUE..\n"
     ++ codes "       mpygrade sample NUMBER\n"
+    ++ codes "       mpygrade sat CNF LOG BUDGET\n"
+    ++ codes "       mpygrade unsat CNF LOG\n"
 
 -- how a run ended
 abbrev pub run_text : Outcome → List ℕ

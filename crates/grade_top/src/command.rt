@@ -12,6 +12,7 @@ use crate::run::run_command;
 use crate::sample::sample_command;
 use crate::words::Command;
 use check_core::check;
+use formula_commands::{sat, unsat};
 use grade_core::grade;
 use grade_io::{Shelf, Sink, Status, say};
 use std::alloc::Global;
@@ -21,6 +22,8 @@ const USAGE: &str = concat!(
     "       mpygrade check BOUNDS REF SUB RULES CERT\n",
     "       mpygrade run BOUNDS PROG VALUE..\n",
     "       mpygrade sample NUMBER\n",
+    "       mpygrade sat CNF LOG BUDGET\n",
+    "       mpygrade unsat CNF LOG\n",
 );
 
 /// Answers a command.
@@ -42,6 +45,8 @@ pub(crate) fn answer<S: Shelf, K: Sink>(
         Command::Check(words) => check(alloc, words, shelf, out),
         Command::Run(words) => run_command(alloc, words, shelf, out),
         Command::Sample(number) => sample_command(alloc, *number as u32, out),
+        Command::Sat(words) => sat(alloc, words, shelf, out),
+        Command::Unsat(words) => unsat(alloc, words, shelf, out),
     }
 }
 

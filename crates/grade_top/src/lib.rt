@@ -1,7 +1,7 @@
 //! The grader: from the words of a command line to what it writes and the status that it ends with.
 #![tactic(auto)]
 
-ghost use Rattle.std.specs.Prelude.{◌≡◌, ℕ, List, map};
+ghost use Rattle.std.specs.Prelude.{◌≡◌, ℕ, List, [], ◌∷◌, map};
 ghost use Rattle.std.specs.String.{string_bytes};
 ghost use Rattle.grade_io.specs.Devices.{Rose, devices};
 ghost use Rattle.mpy_tree.specs.declared.outcome.Outcome.{Outcome as RunOutcome};
@@ -16,6 +16,9 @@ ghost use Rattle.file_commands.specs.Ends.{Ends, IsFirstRefusal};
 ghost use Rattle.check_core.specs.Claims.{IsChecked};
 ghost use Rattle.check_core.specs.Decisions.{cert_in, sources_step};
 ghost use Rattle.check_core.specs.Words.{CheckWords};
+ghost use Rattle.formula_commands.specs.Claims.{IsJudged, IsSolved, PrintsModel, StoresProof};
+ghost use Rattle.formula_commands.specs.Claims.{StoresSteps, TellsProved};
+ghost use Rattle.formula_commands.specs.Words.{SatWords, UnsatWords};
 ghost use Rattle.grade_core.specs.Claims.{IsGraded, IsRefusedOrSpent};
 ghost use Rattle.grade_core.specs.Commands.{empty_reference};
 ghost use Rattle.grade_core.specs.Decisions.{task_step};
@@ -26,7 +29,7 @@ ghost use Rattle.grade_top.specs.Decisions.{run_step, sample_texts};
 ghost use Rattle.grade_top.specs.PrintedPrograms.{PrintsCorrection};
 ghost use Rattle.grade_top.specs.Reports.{run_text};
 ghost use Rattle.grade_top.specs.Words.{Asks, Check, Command, Grade, Nothing, Run, RunWords};
-ghost use Rattle.grade_top.specs.Words.{Sample};
+ghost use Rattle.grade_top.specs.Words.{Sample, Sat, Unsat};
 
 mod command;
 mod laws;
@@ -49,8 +52,10 @@ use std::alloc::Global;
 /// The files of a command are fetched in order and read, and what they decide is written: by
 /// `grade` the cheapest correction of a submission, behind a certificate of it that is stored
 /// under the word `CERT`; by `check` what is said of a certificate, whatever wrote it; by `run`
-/// what a program gives on values. By `sample` a task is made from a number and graded, and how
-/// large it is and what its correction costs is written.
+/// what a program gives on values; by `sat` values that satisfy a formula, or that none do, behind
+/// a proof of it that is stored under the word `LOG`; by `unsat` what is said of a proof, whatever
+/// wrote it. By `sample` a task is made from a number and graded, and how large it is and what its
+/// correction costs is written.
 pub fn grade_top<S: Shelf, K: Sink>(
     alloc: Global,
     words: &Vec<String>,
@@ -125,6 +130,43 @@ pub fn grade_top<S: Shelf, K: Sink>(
         → NoFault (devices (S.seen shelf.old) (K.seen out.old))
         (devices (S.seen shelf.new) (K.seen out.new))
         → IsSaid (run_text o) Status.Correct (K.seen out.old) (K.seen out.new) result }
+    // Values that `sat` writes make each clause of the file true.
+    ensures satisfiable { (w : SatWords) → Asks (map string_bytes words.now.items) (Sat w)
+        → result ≡ Status.Correct
+        → PrintsModel w (devices (S.seen shelf.old) (K.seen out.old))
+        (devices (S.seen shelf.new) (K.seen out.new)) }
+    // Where it says that none do, none do, and the proof that it stored follows and refutes.
+    ensures unsatisfiable { (w : SatWords) → Asks (map string_bytes words.now.items) (Sat w)
+        → result ≡ Status.NoCorrection
+        → StoresProof w (devices (S.seen shelf.old) (K.seen out.old))
+        (devices (S.seen shelf.new) (K.seen out.new)) }
+    // It spends its budget on steps that follow, none of them the empty clause, and stores them.
+    ensures unsolved { (w : SatWords) → Asks (map string_bytes words.now.items) (Sat w)
+        → result ≡ Status.Spent
+        → StoresSteps w (devices (S.seen shelf.old) (K.seen out.old))
+        (devices (S.seen shelf.new) (K.seen out.new)) }
+    // A text of the form is solved, unless the budget is spent, a device failed or memory lacked;
+    // and any other text is refused.
+    ensures solved { (w : SatWords) (cnf : List ℕ)
+        → Asks (map string_bytes words.now.items) (Sat w)
+        → AreTold (devices (S.seen shelf.old) (K.seen out.old)) (files_of (Sat w)) (cnf ∷ [])
+        → NoFault (devices (S.seen shelf.old) (K.seen out.old))
+        (devices (S.seen shelf.new) (K.seen out.new))
+        → IsSolved w.budget cnf result }
+    // Where `unsat` says that no values satisfy the formula, none do, for any bytes of the proof.
+    ensures proved { (w : UnsatWords) → Asks (map string_bytes words.now.items) (Unsat w)
+        → result ≡ Status.Correct
+        → TellsProved w (devices (S.seen shelf.old) (K.seen out.old))
+        (devices (S.seen shelf.new) (K.seen out.new)) }
+    // Texts of their forms are judged, unless a device failed or memory lacked; and any other text
+    // is refused.
+    ensures judged { (w : UnsatWords) (cnf proof : List ℕ)
+        → Asks (map string_bytes words.now.items) (Unsat w)
+        → AreTold (devices (S.seen shelf.old) (K.seen out.old)) (files_of (Unsat w))
+        (cnf ∷ proof ∷ [])
+        → NoFault (devices (S.seen shelf.old) (K.seen out.old))
+        (devices (S.seen shelf.new) (K.seen out.new))
+        → IsJudged cnf proof result }
     // Where a refusal is the first, it is answered and its line written, unless a device failed or
     // memory lacked; by `ends` a refusal is answered for texts for which it is the first alone.
     ensures refused { (c : Command) (ts : List (List ℕ)) (r : Refusal)

@@ -17,6 +17,8 @@ mod failures;
 #[cfg(test)]
 mod forms;
 #[cfg(test)]
+mod formulas;
+#[cfg(test)]
 mod host;
 #[cfg(test)]
 mod layout;

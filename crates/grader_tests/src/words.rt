@@ -23,11 +23,12 @@ fn other_words_get_the_usage(rt: HostRuntime) -> Result<(), Fail> {
 }
 
 /// So it is for a run of more than four values, or without a program, for a sample of no number up
-/// to 65535 or of two, for `check` without a certificate, and for no words.
+/// to 65535 or of two, for `check` without a certificate, for `sat` without a budget or with none
+/// of the form, for `unsat` without a proof, and for no words.
 #[test]
 fn other_commands_get_the_usage(rt: HostRuntime) -> Result<(), Fail> {
     let alloc = rt.alloc();
-    let rows: [&[&str]; 8] = [
+    let rows: [&[&str]; 11] = [
         &["run", "b.txt", "p.py", "1", "2", "3", "4", "5"],
         &["run", "b.txt"],
         &["check", "b.txt", "ref.py", "sub.py", "rules.eml"],
@@ -35,6 +36,9 @@ fn other_commands_get_the_usage(rt: HostRuntime) -> Result<(), Fail> {
         &["sample", "65536"],
         &["sample", "07"],
         &["sample", "1", "2"],
+        &["sat", "c.cnf", "log"],
+        &["sat", "c.cnf", "log", "0"],
+        &["unsat", "c.cnf"],
         &[],
     ];
     for row in rows {

@@ -1,11 +1,13 @@
 -- the words ask for the command that was read, or for nothing
 use Rattle.std.proofs.Common.{subst}
 use Rattle.grade_top.specs.Requests.{command_of}
-use Rattle.grade_top.specs.Words.{Check, Grade, Nothing, Run, Sample}
+use Rattle.grade_top.specs.Words.{Check, Grade, Nothing, Run, Sample, Sat, Unsat}
 use Rattle.grade_io.specs.Devices.{devices}
 use Rattle.file_commands.specs.Ends.{Ends}
 use Rattle.file_commands.proofs.Claims.{read_failed}
 use Rattle.check_core.proofs.CheckClaims.{checked}
+use Rattle.formula_commands.proofs.SatClaims as sat
+use Rattle.formula_commands.proofs.UnsatClaims as unsat
 use Rattle.grade_core.proofs.GradeClaims.{empty, graded}
 use Rattle.grade_top.specs.Commands.{file_command}
 use Rattle.grade_top.proofs.Claims.{empty_sample, no_usage, ran, refused, sampled, usage_ends}
@@ -65,6 +67,30 @@ returns-in-Some-clause-checked g c = λ words ts k asks told given sure.
 pub returns-in-Some-clause-ran : goal.returns-in-Some-clause-ran
 returns-in-Some-clause-ran g c = λ words ts o asks told given sure.
     ran words ts o _ _ c.answer.result (rw (one_command _ (command_of c.in-Some.command) (Run words) (rw c.deref.ensures.value at c.in-Some.ensures.found) asks) at c.answer.ensures.ends) told given sure
+
+pub returns-in-Some-clause-satisfiable : goal.returns-in-Some-clause-satisfiable
+returns-in-Some-clause-satisfiable g c = λ w asks is.
+    sat.satisfiable w _ _ c.answer.result (rw (one_command _ (command_of c.in-Some.command) (Sat w) (rw c.deref.ensures.value at c.in-Some.ensures.found) asks) at c.answer.ensures.ends) is
+
+pub returns-in-Some-clause-unsatisfiable : goal.returns-in-Some-clause-unsatisfiable
+returns-in-Some-clause-unsatisfiable g c = λ w asks is.
+    sat.unsatisfiable w _ _ c.answer.result (rw (one_command _ (command_of c.in-Some.command) (Sat w) (rw c.deref.ensures.value at c.in-Some.ensures.found) asks) at c.answer.ensures.ends) is
+
+pub returns-in-Some-clause-unsolved : goal.returns-in-Some-clause-unsolved
+returns-in-Some-clause-unsolved g c = λ w asks is.
+    sat.spent w _ _ c.answer.result (rw (one_command _ (command_of c.in-Some.command) (Sat w) (rw c.deref.ensures.value at c.in-Some.ensures.found) asks) at c.answer.ensures.ends) is
+
+pub returns-in-Some-clause-proved : goal.returns-in-Some-clause-proved
+returns-in-Some-clause-proved g c = λ w asks is.
+    unsat.unsatisfiable w _ _ c.answer.result (rw (one_command _ (command_of c.in-Some.command) (Unsat w) (rw c.deref.ensures.value at c.in-Some.ensures.found) asks) at c.answer.ensures.ends) is
+
+pub returns-in-Some-clause-solved : goal.returns-in-Some-clause-solved
+returns-in-Some-clause-solved g c = λ w cnf asks told sure.
+    sat.solved w cnf _ _ c.answer.result (rw (one_command _ (command_of c.in-Some.command) (Sat w) (rw c.deref.ensures.value at c.in-Some.ensures.found) asks) at c.answer.ensures.ends) told sure
+
+pub returns-in-Some-clause-judged : goal.returns-in-Some-clause-judged
+returns-in-Some-clause-judged g c = λ w cnf proof asks told sure.
+    unsat.judged w cnf proof _ _ c.answer.result (rw (one_command _ (command_of c.in-Some.command) (Unsat w) (rw c.deref.ensures.value at c.in-Some.ensures.found) asks) at c.answer.ensures.ends) told sure
 
 pub returns-in-Some-clause-refused : goal.returns-in-Some-clause-refused
 returns-in-Some-clause-refused g c = λ d ts r asks tells first sure.

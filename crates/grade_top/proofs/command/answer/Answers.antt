@@ -28,5 +28,17 @@ returns-in-Run-clause-calls g c = rw c.in-Run.is c.run_command.ensures.calls
 pub returns-in-Sample-clause-ends : goal.returns-in-Sample-clause-ends
 returns-in-Sample-clause-ends g c = rw c.in-Sample.is (c.sample_command.ensures (g.S.Shelf.seen c.args.shelf.now))
 
+pub returns-in-Sat-clause-ends : goal.returns-in-Sat-clause-ends
+returns-in-Sat-clause-ends g c = rw c.in-Sat.is c.sat.ensures.ends
+
+pub returns-in-Sat-clause-calls : goal.returns-in-Sat-clause-calls
+returns-in-Sat-clause-calls g c = rw c.in-Sat.is c.sat.ensures.calls
+
+pub returns-in-Unsat-clause-ends : goal.returns-in-Unsat-clause-ends
+returns-in-Unsat-clause-ends g c = rw c.in-Unsat.is c.unsat.ensures.ends
+
+pub returns-in-Unsat-clause-calls : goal.returns-in-Unsat-clause-calls
+returns-in-Unsat-clause-calls g c = rw c.in-Unsat.is c.unsat.ensures.calls
+
 pub returns-in-Sample-clause-calls : goal.returns-in-Sample-clause-calls
 returns-in-Sample-clause-calls g c = no_calls (file_command (command_of c.args.command.now)) (g.S.Shelf.seen c.args.shelf.now)
