@@ -62,8 +62,16 @@ fn files_may_be_too_long(rt: HostRuntime) -> Result<(), Fail> {
     shelf.add("b.py", long.as_bytes())?;
     let (status, written) = answered(alloc, &request, &mut shelf)?;
     assert_eq!(rt; class_number(status), 0);
-    assert!(rt; written.as_str().starts_with("{\"correct\":1,\"corrected\":0,"));
-    assert!(rt; written.as_str().contains("\"refused b.py line 0: Long\\n\",\"status\":4"));
+    assert!(rt;
+        written
+            .as_str()
+            .starts_with("{\"correct\":1,\"corrected\":0,")
+    );
+    assert!(rt;
+        written
+            .as_str()
+            .contains("\"refused b.py line 0: Long\\n\",\"status\":4")
+    );
     for name in ["b.txt", "ref.py", "rules.eml", "list.txt"] {
         let mut shelf = shelf_of(alloc, "a.py\n", Vec::new(alloc))?;
         shelf.add(name, long.as_bytes())?;

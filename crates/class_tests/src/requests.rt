@@ -5,11 +5,14 @@ use grade_io::{MemShelf, MemSink};
 use std::alloc::{AllocError, Global};
 use std::test::Fail;
 
-pub(crate) const BOUNDS: &str =
-    "width 6\nturns 4\ndepth 2\ncap 4\nentry f\nparam x int 4..4\n";
+pub(crate) const BOUNDS: &str = "width 6\nturns 4\ndepth 2\ncap 4\nentry f\nparam x int 4..4\n";
+
 pub(crate) const REFERENCE: &str = "def f(x):\n    return x + 1\n";
+
 pub(crate) const RULES: &str = "rule ret: return $a => return {$a + 1, $a - 1}\n";
+
 pub(crate) const RIGHT: &str = REFERENCE;
+
 pub(crate) const SHORT: &str = "def f(x):\n    return x\n";
 
 /// The words of a request.
