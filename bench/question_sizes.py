@@ -1,13 +1,15 @@
 #!/usr/bin/env python3
 """How large the questions of a search by solver are on the submissions of the examples, and how many clauses are logged.
 
-    python3 bench/question_sizes.py [ASSIGNMENT ..]
+    python3 bench/question_sizes.py [--larger] [ASSIGNMENT ..]
 
 Run it at the top of the repository, with `rt` on the path; the search runs unproved, on a copy of the crates, so no times are taken.
+With `--larger` the bounds are those of `large.txt`.
 For each assignment, and for all that are named together, printed are how many runs and questions there were, the least, median and
 greatest number of clauses of a formula, how many clauses the questions logged by their kind and answer, and the median and the
 greatest number of logged clauses of a run, beside the number of inputs.
 """
+import argparse
 import glob
 import os
 import statistics
@@ -37,21 +39,21 @@ def read(path):
         return source.read()
 
 
-def line_of(submission):
+def line_of(submission, bounds):
     folder = os.path.dirname(submission)
-    sources = [os.path.join(folder, 'bounds.txt'), os.path.join(folder, 'reference.py'), submission, os.path.join(folder, 'rules.eml')]
-    return '\t'.join([str(BUDGET), '0'] + [read(path).hex() for path in sources])
+    sources = [os.path.join(folder, bounds), os.path.join(folder, 'reference.py'), submission, os.path.join(folder, 'rules.eml')]
+    return '\t'.join(['solver', str(BUDGET), '0'] + [read(path).hex() for path in sources])
 
 
 def questions_in(answer):
     return [Question(told) for told in answer.split('|')[2].split(';') if told]
 
 
-def runs_of(harness, submissions):
+def runs_of(harness, submissions, bounds):
     """The questions of the runs of each assignment's submissions that aren't refused, by one build of the program."""
     every = [(name, path) for name in submissions for path in submissions[name]]
     batches = [every[at:at + BATCH] for at in range(0, len(every), BATCH)]
-    answers = harness.answers_to_each([[line_of(path) for _, path in batch] for batch in batches])
+    answers = harness.answers_to_each([[line_of(path, bounds) for _, path in batch] for batch in batches])
     runs = {name: [] for name in submissions}
     for (name, _), answer in zip(every, [it for batch in answers for it in batch]):
         if answer != 'refused':
@@ -71,10 +73,14 @@ def row(name, runs):
 
 
 def main():
-    names = sys.argv[1:] or sorted(os.path.dirname(path)[len('examples/'):] for path in glob.glob('examples/*/rules.eml'))
+    words = argparse.ArgumentParser(description=__doc__, formatter_class=argparse.RawDescriptionHelpFormatter)
+    words.add_argument('names', nargs='*')
+    words.add_argument('--larger', action='store_true')
+    given = words.parse_args()
+    names = given.names or sorted(os.path.dirname(path)[len('examples/'):] for path in glob.glob('examples/*/rules.eml'))
     submissions = {name: sorted(glob.glob('examples/%s/sub-*.py' % name)) for name in names}
     with tempfile.TemporaryDirectory() as folder:
-        runs = runs_of(Harness(folder), submissions)
+        runs = runs_of(Harness(folder), submissions, 'large.txt' if given.larger else 'bounds.txt')
     print('| assignment | runs | questions | clauses of a formula: least, median, greatest | questions and logged clauses: %s '
           '| logged clauses of a run: median, greatest |' % ', '.join(KINDS))
     print('|---|---|---|---|---|---|')

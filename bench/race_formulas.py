@@ -1,10 +1,13 @@
-"""Formulas for the race of the solvers: questions about programs, random ones, and the formula of a large graph; nothing by itself.
+"""Formulas for the race of the solvers: questions about programs, those of stored certificates, random ones, and the formula of a
+large graph; nothing by itself.
 
 A formula is the number of variables, and the clauses as lists of literals. A question about a program is whether it ends otherwise
 than another on some input; both are equal, so the answer is that it doesn't.
 """
+import glob
 import os
 import random
+import subprocess
 import sys
 import tempfile
 
@@ -115,6 +118,31 @@ def program_formulas(questions):
             sys.exit('%s is refused' % question[0])
         gates = len(answer.split('|')[1].split())
         yield '%s, %s free bits' % (question[0], '+'.join(map(str, question[4]))), gates, formula_of(answer)
+
+
+def formulas_in(certificate):
+    """The formulas of a certificate's sessions."""
+    found = []
+    for line in certificate:
+        words = line.split()
+        if words[0] == 'vars':
+            found.append((int(words[1]), []))
+        elif words[0] == 'f':
+            found[-1][1].append([int(word) for word in words[1:-1]])
+    return found
+
+
+def stored_formulas(grader, budget):
+    """For each assignment of the examples the formulas of the certificates that a built grader stores for six submissions."""
+    words = [os.path.abspath(grader), 'grade', 'bounds.txt', 'reference.py']
+    for rules in sorted(glob.glob('examples/*/rules.eml')):
+        folder, found = os.path.dirname(rules), []
+        for submission in sorted(glob.glob(folder + '/sub-*.py'))[:6]:
+            with tempfile.NamedTemporaryFile('r') as stored:
+                ran = words + [os.path.basename(submission), 'rules.eml', stored.name, str(budget)]
+                subprocess.run(ran, cwd=folder, stdout=subprocess.DEVNULL)
+                found += formulas_in(stored)
+        yield os.path.basename(folder), found
 
 
 def random_formula(variables, ratio, seed):

@@ -1,7 +1,7 @@
 #!/usr/bin/env python3
 """Races the solver that learns against `minisat`, `cadical` and the plain solver on the same formulas, and the checker against it.
 
-    python3 bench/solver_race.py [--program PATH] [--formulas FOLDER] [PART ..]
+    python3 bench/solver_race.py [--program PATH] [--formulas FOLDER] [--grader GRADER] [PART ..]
 
 Run it at the top of the repository, with `rt` on the path. The program of `race/` is proved and built by `rt run` in a copy of the
 crates, unless PATH is one that was built already; nothing is left behind. The formulas of programs are made unproved; FOLDER keeps
@@ -10,6 +10,8 @@ them for another run. The parts are, and all are run where none is named:
 - `programs`: formulas of programs from 900 gates on, with the checker's time;
 - `random`: random clauses of three literals near the threshold;
 - `plain`: the plain solver, on small formulas of programs and random ones;
+- `stored`: the plain solver, on the formulas of certificates that GRADER, crates/grader_cli/out/grader_cli unless it is given,
+  stores for the examples;
 - `memory`: the formula of a graph of 1,000,000 gates;
 - `limits`: few clauses over 2147483647 variables.
 
@@ -28,7 +30,8 @@ import tempfile
 import time
 
 from built import Built
-from race_formulas import (QUESTIONS, SMALL_QUESTIONS, chain_formula, dimacs, program_formulas, random_formula, text_of)
+from race_formulas import (QUESTIONS, SMALL_QUESTIONS, chain_formula, dimacs, program_formulas, random_formula, stored_formulas,
+                           text_of)
 
 SOLVER = ['clause_base', 'derivation_check', 'sat_core', 'sat_plain', 'step_lines']
 BUDGET = 20000
@@ -37,7 +40,10 @@ RUNS = 3
 SHORT = 20_000_000
 GATES = 1_000_000
 RATIO = 4.26
-PARTS = ('programs', 'random', 'plain', 'memory', 'limits')
+PARTS = ('programs', 'random', 'plain', 'stored', 'memory', 'limits')
+GRADER = 'crates/grader_cli/out/grader_cli'
+# The budget of the gradings whose formulas are solved.
+GRADING = 2000
 
 
 def seconds_of(by_clock, by_processor):
@@ -211,7 +217,7 @@ def kept(folder, name, make):
         return json.load(made)
 
 
-def run_part(part, race, work, folder):
+def run_part(part, race, work, folder, grader):
     if part == 'programs':
         made = kept(folder, part, lambda: program_formulas(QUESTIONS))
         show_against_others(race, [Formula(work, name, gates, it) for name, gates, it in made])
@@ -227,6 +233,10 @@ def run_part(part, race, work, folder):
             some = [Formula(work, 'random %d %d' % (variables, seed), 0, it) for seed, it in enumerate(made)]
             groups.append(('random, %d variables' % variables, some))
         show_against_plain(race, groups)
+    elif part == 'stored':
+        groups = [(name, [Formula(work, '%s %d' % (name, number), 0, it) for number, it in enumerate(made)])
+                  for name, made in stored_formulas(grader, GRADING) if made]
+        show_against_plain(race, groups)
     elif part == 'memory':
         show_memory(race, work)
     else:
@@ -238,6 +248,7 @@ def main():
     words.add_argument('parts', nargs='*', metavar='PART')
     words.add_argument('--program')
     words.add_argument('--formulas')
+    words.add_argument('--grader', default=GRADER)
     given = words.parse_args()
     if set(given.parts) - set(PARTS):
         words.error('the parts are %s' % ', '.join(PARTS))
@@ -248,7 +259,7 @@ def main():
         race = Race(os.path.abspath(given.program) if given.program else Built(work, 'race', SOLVER).program)
         for part in given.parts or PARTS:
             print('\n%s' % part)
-            run_part(part, race, work, folder)
+            run_part(part, race, work, folder, given.grader)
     print('load %s' % os.getloadavg()[0])
 
 

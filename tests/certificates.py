@@ -33,7 +33,8 @@ from task_questions import Judge
 
 PROGRAM = 'crates/grader_cli/out/grader_cli'
 BUDGET = 200000
-BUDGETS = (BUDGET,) * 6 + (1, 2, 7, 30, 100)
+# Some random rules may be used nearly anywhere, and then a search takes minutes to spend more.
+BUDGETS = (2000,) * 6 + (1, 2, 7, 30, 100)
 # One random request in so many is of an example, with a budget up to SMALL.
 EXAMPLES = 12
 SMALL = 40

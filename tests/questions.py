@@ -30,23 +30,26 @@ from task_questions import Judge, least_left
 # So many tasks stand in one input of the program, and so many clauses of a task's formulas are printed: a run may write 2^20 bytes.
 BATCH = 8
 CLAUSES = 6000
+# The stage from which on the model refuses a task by its weight.
+BY_WEIGHT = 11
 BUDGETS = (200000,) * 6 + (0, 1, 2, 7)
 
 
 class Case:
-    """A random task and a budget."""
+    """A random task and a budget. The task has few selections and inputs, and by its weight it isn't too large."""
 
-    def __init__(self, model, seed, number):
+    def __init__(self, models, seed, number):
         self.number = number
         rng = random.Random('questions/%d/%d' % (seed, number))
         self.sources = some_sources(rng)
-        self.task = model.task(self.sources)
+        tasks = [model.task(self.sources) for model in models]
+        self.task = None if None in tasks else tasks[0]
         self.budget = rng.choice(BUDGETS)
 
     def lines(self):
         if self.task is None:
             return []
-        return ['\t'.join([str(self.budget), str(CLAUSES)] + [text.hex() for text in self.sources])]
+        return ['\t'.join(['both', str(self.budget), str(CLAUSES)] + [text.hex() for text in self.sources])]
 
 
 def told(answer):
@@ -120,10 +123,10 @@ def main():
     given = words.parse_args()
     if not os.environ.get('MODEL'):
         words.error('MODEL is not set')
-    model = Model(os.environ['MODEL'])
-    comparison = Comparison(model)
+    models = [Model(os.environ['MODEL']), Model(os.environ['MODEL'], BY_WEIGHT)]
+    comparison = Comparison(models[0])
     with tempfile.TemporaryDirectory() as folder:
-        unproved.compare_cases(given, BATCH, lambda number: Case(model, given.seed, number), Harness(folder), comparison)
+        unproved.compare_cases(given, BATCH, lambda number: Case(models, given.seed, number), Harness(folder), comparison)
     return unproved.told(comparison.counts, given, 'tasks', comparison.differing)
 
 

@@ -1,9 +1,9 @@
 """A program over the search by solver and the one by trying all, run unproved on a copy of the crates.
 
-Each line has words with tabs between them: how many clauses may be logged, how many clauses of formulas may be printed, and the four
-sources of a task in hexadecimal. The answer is one line that begins with `=`: `refused`, or four parts with a `|` between them. The
+Each line has words with tabs between them: `both`, or `solver` where nothing is tried one by one, how many clauses may be logged, how
+many clauses of formulas may be printed, and the four sources of a task in hexadecimal. The answer is one line that begins with `=`: `refused`, or four parts with a `|` between them. The
 first two are the answers of both searches, the one by solver first and with its closing question: `cost N SELECTION`, `none`,
-`no case`, `spent K` or `no memory`. Then come for each question its kind, how many variables and clauses its formula has, and how many
+`no case`, `spent K` or `no memory`, and nothing of a search that wasn't asked for. Then come for each question its kind, how many variables and clauses its formula has, and how many
 clauses its log, with `refuted` where it was, each with a `;` behind it, and the text of the certificate of all questions, in
 hexadecimal; it is `many` where the formulas have more clauses than may be printed.
 """
@@ -83,7 +83,15 @@ fn put_session(alloc: Global, out: &mut String, session: &Session) -> Result<(),
     put(out, if session.log.refutes() { " refuted;" } else { ";" })
 }
 
-fn put_search(alloc: Global, out: &mut String, task: &Task, budget: u32, most: u32) -> Result<(), anyhow::Error> {
+fn put_tried(alloc: Global, out: &mut String, task: &Task) -> Result<(), anyhow::Error> {
+    let mut tried = ListQuestions::new(alloc, task)?;
+    let found = least(&mut tried);
+    put_least(alloc, out, &found)
+}
+
+fn put_search(alloc: Global, out: &mut String, task: &Task, words: &[&str]) -> Result<(), anyhow::Error> {
+    let budget = words[1].parse::<u32>().unwrap_or(1);
+    let most = words[2].parse::<u32>().unwrap_or(0);
     let mut asked = SolverQuestions::new(alloc, task, budget)?;
     let found = least(&mut asked);
     let kept = asked.kept().items().len();
@@ -91,9 +99,9 @@ fn put_search(alloc: Global, out: &mut String, task: &Task, budget: u32, most: u
     let answer = close_search(&mut asked, found, kept, ruled);
     put_least(alloc, out, &answer)?;
     put(out, "|")?;
-    let mut tried = ListQuestions::new(alloc, task)?;
-    let other = least(&mut tried);
-    put_least(alloc, out, &other)?;
+    if words[0] == "both" {
+        put_tried(alloc, out, task)?;
+    }
     put(out, "|")?;
     let mut clauses = 0u32;
     let mut logged = 0u32;
@@ -116,14 +124,12 @@ fn put_search(alloc: Global, out: &mut String, task: &Task, budget: u32, most: u
 }
 
 fn put_answer(alloc: Global, out: &mut String, words: &[&str]) -> Result<(), anyhow::Error> {
-    let budget = words[0].parse::<u32>().unwrap_or(1);
-    let most = words[1].parse::<u32>().unwrap_or(0);
     let mut texts: Vec<Vec<u8>> = Vec::new(alloc);
-    for word in &words[2..6] {
+    for word in &words[3..7] {
         texts.push(unhex(alloc, word.as_bytes())?)?;
     }
     match read_task(alloc, texts[0].as_slice(), texts[1].as_slice(), texts[2].as_slice(), texts[3].as_slice()) {
-        Ok(task) => put_search(alloc, out, &task, budget, most),
+        Ok(task) => put_search(alloc, out, &task, words),
         Err(_) => put(out, "refused"),
     }
 }

@@ -26,20 +26,20 @@ pub record Class : Type 1 where
   pub files : ClassFiles
   pub tells : Shared → List ℕ → List ℕ → Entry → Type 0
 
--- the list is no source of a task, but the fourth word
+-- the list stands in the place of the submissions, which it names
 abbrev pub files_of : ClassFiles → List SourceFile
 files_of f =
     file source.Bounds f.bounds ∷ file source.Reference f.reference ∷ file source.Rules f.rules
-    ∷ file (source.Word 4) f.list ∷ []
+    ∷ file source.Submission f.list ∷ []
 
 -- the word that names a file
 abbrev pub word_of : ClassFiles → Source → List ℕ
 word_of f source.Bounds = f.bounds
 word_of f source.Reference = f.reference
-word_of f source.Submission = []
+word_of f source.Submission = f.list
 word_of f source.Rules = f.rules
 word_of f source.Cert = []
-word_of f (source.Word n) = f.list
+word_of f (source.Word n) = []
 
 -- the texts of the four files
 abbrev pub texts_with : Shared → List ℕ → List (List ℕ)

@@ -22,9 +22,6 @@ use mpy_tree::Source;
 use source_files::{File, Stop, fetch_all};
 use std::alloc::Global;
 
-/// The number of the word that names the list.
-const LIST_WORD: u32 = 4;
-
 fn file(source: Source, word: &str) -> File<'_>
     ensures { file_of result ≡ source_file source word.now }
 {
@@ -54,7 +51,7 @@ fn fetch<S: Shelf>(
         file(Source::Bounds, files.bounds),
         file(Source::Reference, files.reference),
         file(Source::Rules, files.rules),
-        file(Source::Word(LIST_WORD), files.list),
+        file(Source::Submission, files.list),
     ];
     fetch_all(alloc, &files, shelf)
 }

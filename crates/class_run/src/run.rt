@@ -36,8 +36,8 @@ fn word<'a>(files: &ClassFiles<'a>, source: Source) -> &'a str
         Source::Bounds => files.bounds,
         Source::Reference => files.reference,
         Source::Rules => files.rules,
-        Source::Word(_) => files.list,
-        Source::Submission | Source::Cert => "",
+        Source::Submission => files.list,
+        Source::Cert | Source::Word(_) => "",
     }
 }
 

@@ -19,7 +19,7 @@ use std::marker::Model;
 #[derive(Drop)]
 pub struct Checker {
     marks: Vec<Mark>,
-    stamp: u64,
+    stamp: u32,
 }
 
 impl Model for Checker {

@@ -15,7 +15,7 @@ use clause_base::lit::Lit;
 /// The step in which a variable was last given a value, by its stamp, and the value.
 #[derive(Clone, Copy)]
 pub struct Mark {
-    pub stamp: u64,
+    pub stamp: u32,
     pub positive: bool,
 }
 
@@ -27,7 +27,7 @@ pub enum Scan {
 }
 
 /// Whether a literal is false in the step of this stamp.
-pub fn is_false(marks: &[Mark], stamp: u64, lit: Lit) -> bool
+pub fn is_false(marks: &[Mark], stamp: u32, lit: Lit) -> bool
     requires some { 0 < lit.var }
     requires within { lit.var ≤ length marks.now }
     ensures { result ≡ mark_true marks.now stamp (opposite lit) }
@@ -37,7 +37,7 @@ pub fn is_false(marks: &[Mark], stamp: u64, lit: Lit) -> bool
 }
 
 /// Marks a literal as true.
-pub fn set_true(marks: &mut [Mark], stamp: u64, lit: Lit)
+pub fn set_true(marks: &mut [Mark], stamp: u32, lit: Lit)
     requires some { 0 < lit.var }
     requires within { lit.var ≤ length marks.old }
     ensures { marks.new ≡ slice_set marks.old (lit.var - 1)
@@ -50,7 +50,7 @@ pub fn set_true(marks: &mut [Mark], stamp: u64, lit: Lit)
 }
 
 /// Looks for literals that aren't false, up to the second.
-pub fn look_over(marks: &[Mark], stamp: u64, lits: &[Lit]) -> Scan
+pub fn look_over(marks: &[Mark], stamp: u32, lits: &[Lit]) -> Scan
     requires { Covers (length marks.now) lits.now }
     ensures { result ≡ scan_of
         (filter (λ l. not (mark_true marks.now stamp (opposite l))) lits.now) }
@@ -72,7 +72,7 @@ pub fn look_over(marks: &[Mark], stamp: u64, lits: &[Lit]) -> Scan
 }
 
 /// Marks the literals of a clause as false.
-pub fn assume_false(marks: &mut [Mark], stamp: u64, lits: &[Lit])
+pub fn assume_false(marks: &mut [Mark], stamp: u32, lits: &[Lit])
     requires covered { Covers (length marks.old) lits.now }
     requires distinct { has_no_variable_twice lits.now ≡ true }
     requires fresh { AllBefore stamp marks.old }
@@ -85,7 +85,7 @@ pub fn assume_false(marks: &mut [Mark], stamp: u64, lits: &[Lit])
 }
 
 /// Looks at the hinted clauses in turn, up to the first that doesn't leave a single literal.
-pub fn follow_hints(marks: &mut [Mark], stamp: u64, known: &Clauses, hints: &[u32]) -> StepAnswer
+pub fn follow_hints(marks: &mut [Mark], stamp: u32, known: &Clauses, hints: &[u32]) -> StepAnswer
     requires covered { ClausesCovered (length marks.old) known.now }
     requires few { length hints.now ≤ 2147483647 }
     requires named { All (λ h. (0 < h) × (h ≤ length known.now)) hints.now }
@@ -106,12 +106,12 @@ pub fn follow_hints(marks: &mut [Mark], stamp: u64, known: &Clauses, hints: &[u3
 }
 
 /// The stamp of a new step. Where the numbers have run out the marks are cleared.
-pub fn begin(marks: &mut [Mark], stamp: u64) -> u64
+pub fn begin(marks: &mut [Mark], stamp: u32) -> u32
     requires { AllBefore stamp marks.old }
     ensures fresh { AllBefore result marks.new }
-    ensures more { result < u64.MAX }
+    ensures more { result < u32.MAX }
 {
-    if stamp < u64::MAX {
+    if stamp < u32::MAX {
         return stamp;
     }
     for mark in marks.iter_mut() {

@@ -25,9 +25,6 @@ use mpy_tree::Prog;
 use mpy_types::Known;
 use std::alloc::Global;
 
-// How many nodes are built without a count. Nearly all trees are smaller.
-const FEW: u32 = 16384;
-
 /// The weighted tree of all rewritings of a program by rules, where `known` gives the types of the
 /// program's names; `Large` where it has more than 1,000,000 expression nodes, picks among them.
 pub fn rewrite<K: Known>(
@@ -46,8 +43,8 @@ pub fn rewrite<K: Known>(
     Ok(WProg { funcs })
 }
 
-// The weighted trees of the functions. Where they are small they are built at once. Else the nodes
-// are counted first, since where there are far too many, building up to the limit takes long.
+// The weighted trees of the functions. Their nodes are counted first, since where there are far too
+// many, building up to the limit takes long.
 fn rewrite_funcs<K: Known>(
     alloc: Global,
     scopes: &Scopes<'_>,
@@ -59,36 +56,13 @@ fn rewrite_funcs<K: Known>(
     ensures { AreWithin result 1000000 (funcs_grown (setting_of (K.gives known.now) rules.now
         scopes.now.funcs.now) (map routine_of scopes.now.funcs.now)) }
 {
-    match funcs_within(alloc, scopes, known, rules, FEW) {
-        Ok(funcs) => Ok(funcs),
-        Err(RewriteError::NoMemory) => Err(RewriteError::NoMemory),
-        Err(RewriteError::Large) => {
-            let least = count_funcs(alloc, scopes, known, rules)?;
-            if least > MOST {
-                return Err(RewriteError::Large);
-            }
-            funcs_within(alloc, scopes, known, rules, MOST)
-        }
+    let least = count_funcs(alloc, scopes, known, rules)?;
+    if least > MOST {
+        return Err(RewriteError::Large);
     }
-}
-
-// Those of the functions, if they have no more nodes than this.
-fn funcs_within<K: Known>(
-    alloc: Global,
-    scopes: &Scopes<'_>,
-    known: &K,
-    rules: &Rules,
-    most: u32,
-) -> Result<WFuncs, RewriteError>
-    requires few_rules { length rules.now.items.items < 2 ^ 32 }
-    requires keep_primes { KeepPrimes (corrections_of rules.now) }
-    requires few_nodes { most ≤ 1000000 }
-    ensures { AreWithin result most (funcs_grown (setting_of (K.gives known.now) rules.now
-        scopes.now.funcs.now) (map routine_of scopes.now.funcs.now)) }
-{
     let mut counter = Counter {
         next: 0,
-        left: most,
+        left: MOST,
     };
     grow_funcs(alloc, scopes, known, rules, &mut counter)
 }

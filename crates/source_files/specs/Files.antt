@@ -4,14 +4,14 @@ use Rattle.grade_io.specs.Devices.{ShelfCall, Fetch}
 use Rattle.mpy_tree.specs.declared.refusal.Source.{Source}
 use Rattle.mpy_tree.specs.declared.refusal.Source.TheVariants as source
 
--- how many bytes a source may have; a word is no file
+-- how many bytes a source may have; what is named by a word alone is a formula
 abbrev pub limit_of : Source → ℕ
 limit_of source.Bounds = 65536
 limit_of source.Reference = 65536
 limit_of source.Submission = 65536
 limit_of source.Rules = 65536
 limit_of source.Cert = 1073741824
-limit_of (source.Word n) = 65536
+limit_of (source.Word n) = 67108864
 
 -- a file: what it is to the command, and the word that names it
 pub record SourceFile : Type 0 where

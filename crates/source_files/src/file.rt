@@ -7,8 +7,11 @@ use mpy_tree::Source;
 /// How many bytes a source may have.
 const SOURCE_LIMIT: u64 = 65_536;
 
-/// How many bytes a certificate may have.
+/// How many bytes a certificate, or a proof, may have.
 const CERT_LIMIT: u64 = 1_073_741_824;
+
+/// How many bytes a formula may have.
+const FORMULA_LIMIT: u64 = 67_108_864;
 
 /// A file that a command reads: what it is to the command, and the word that names it.
 #[derive(Clone, Copy)]
@@ -17,15 +20,16 @@ pub struct File<'a> {
     pub word: &'a str,
 }
 
-/// How many bytes a file may have that is this to its command: a certificate 1,073,741,824, and
-/// any other source 65,536.
+/// How many bytes a file may have that is this to its command: a certificate, or a proof,
+/// 1,073,741,824; a formula, which is no source of a task but named by a word alone, 67,108,864;
+/// and any other source 65,536.
 pub fn limit_of(source: Source) -> u64
     ensures value { result ≡ limit_of source }
     ensures fetched { result ≤ 1073741824 }
 {
     match source {
-        Source::Bounds | Source::Reference | Source::Submission | Source::Rules | Source::Word(_) =>
-            SOURCE_LIMIT,
+        Source::Bounds | Source::Reference | Source::Submission | Source::Rules => SOURCE_LIMIT,
         Source::Cert => CERT_LIMIT,
+        Source::Word(_) => FORMULA_LIMIT,
     }
 }

@@ -1,0 +1,6 @@
+mod ValueLines
+mod TextModels
+mod Reporting
+pub mod SatClaims
+pub mod UnsatClaims
+mod OneText
