@@ -1,9 +1,9 @@
 -- Words that ask for a class.
-use Rattle.std.proofs.Common.{◌≡◌, ℕ, ◌≤◌, List, [], ◌∷◌, length, get_or, map, sym, ap, subst, ◌∙◌, arith, refl}
+use Rattle.std.proofs.Common.{◌≡◌, ℕ, List, [], ◌∷◌, length, get_or, map, sym, ◌∙◌, arith, None, Some}
+use Rattle.std.specs.Prelude.{Option, IfNone}
 use Rattle.std.specs.Fmt.{decimal}
 use Rattle.std.proofs.lemmas.Fmt.{decimal_injective}
-use Rattle.grade_core.specs.Words.{IsBudget}
-use Rattle.step_lines.specs.Words.{SpellsNumber, SpellsWithin}
+use Rattle.step_lines.specs.Words.{SpellsWithin}
 use Rattle.class_core.specs.Words.{Asks, ClassWords, class_words}
 
 -- what a list of five is, from what f gives of each item
@@ -38,3 +38,7 @@ one_asked words w v asks other =
     let text : decimal w.budget ≡ decimal v.budget = cc in
     let budget : w.budget ≡ v.budget = decimal_injective w.budget v.budget (omega (arith, asks.1.most)) (omega (arith, other.1.most)) text in
     made w v e budget
+
+pub where_none : {T P : Type 0} (o : Option T) → P → IfNone o P
+where_none None p = p
+where_none (Some x) p = tt

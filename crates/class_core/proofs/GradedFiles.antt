@@ -1,5 +1,5 @@
 -- What is told of a listed file is what its texts decide.
-use Rattle.std.proofs.Common.{◌≡◌, ◌≢◌, ℕ, List, None, Result, Ok, Err, IfErr, IfOk, ap, refl, sym, subst, ◌∙◌}
+use Rattle.std.proofs.Common.{◌≡◌, ◌≢◌, ℕ, List, [], ◌∷◌, None, Result, Ok, Err, IfErr, IfOk, ap, refl, sym, subst, ◌∙◌}
 use Rattle.grade_io.specs.declared.status.Status.{Status}
 use Rattle.grade_io.specs.declared.status.Status.TheVariants as status
 use Rattle.source_files.specs.declared.stop.Stop.{Stop}
@@ -9,7 +9,10 @@ use Rattle.file_commands.specs.Reports.{IsFound, bytes_of}
 use Rattle.file_commands.specs.declared.report.Report.{Report}
 use Rattle.feedback_text.specs.Answers.{Answer, Correct, Corrected, NoCorrection, EmptyReference, Spent}
 use Rattle.grade_core.specs.Commands as grade
+use Rattle.grade_core.specs.Words.{GradeWords}
 use Rattle.class_text.specs.Entries.{Entry}
+use Rattle.class_text.specs.EntryViews.{entry_of}
+use Rattle.class_text.specs.declared.entry.Entry as code
 use Rattle.class_run.specs.Classes.{Shared}
 use Rattle.class_core.specs.Gradings.{IsGradedFile, command_for, task_texts, told_certificate}
 use Rattle.class_core.specs.Told.{TellsFound}
@@ -73,3 +76,16 @@ no_failure w t name text (Ok r) is = tt
 no_failure w t name text (Err (stop.Refused q)) is = λ e. cc
 no_failure w t name text (Err stop.Failed) is = absurd is
 no_failure w t name text (Err stop.NoMemory) is = λ e. cc
+
+-- where there was memory for an entry, it is that of the file
+pub entry_graded : {E : Type 0} (w : ClassWords) (t : Shared) (name text : List ℕ) (g : GradeWords) (ts : List (List ℕ)) (found : Result Report Stop) (r : Result code.Entry E)
+    → g ≡ grade_words w name → ts ≡ task_texts t text → IsFound (grade.grade_command g) ts found → IfOk r (λ e. TellsFound g found (entry_of e))
+    → IfOk r (λ e. IsGradedFile w t name text (entry_of e))
+entry_graded w t name text g ts found (Ok e) same is so told =
+    graded_file w t name text found (entry_of e)
+    (subst (λ (h : GradeWords). IsFound (grade.grade_command h) (task_texts t text) found) same (subst (λ us. IsFound (grade.grade_command g) us found) is so))
+    (subst (λ (h : GradeWords). TellsFound h found (entry_of e)) same told)
+entry_graded w t name text g ts found (Err x) same is so told = tt
+
+pub four_equal : (a b x c s t u : List ℕ) → a ≡ s → b ≡ t → c ≡ u → a ∷ b ∷ x ∷ c ∷ [] ≡ s ∷ t ∷ x ∷ u ∷ []
+four_equal a b x c s t u e f g = cc

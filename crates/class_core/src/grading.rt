@@ -84,10 +84,10 @@ impl Grader for ClassWords<'_> {
     ) -> Result<Entry, NoMemory> {
         let words = self.grade(name);
         let texts = [
-            shared.bounds.to_vec(alloc)?,
-            shared.reference.to_vec(alloc)?,
+            Vec::from_slice(alloc, shared.bounds)?,
+            Vec::from_slice(alloc, shared.reference)?,
             text,
-            shared.rules.to_vec(alloc)?,
+            Vec::from_slice(alloc, shared.rules)?,
         ];
         let found = report_texts(alloc, &words, &texts);
         entry(alloc, &words, found)
