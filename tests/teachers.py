@@ -1,9 +1,10 @@
 #!/usr/bin/env python3
 """Tries `docs/teachers.md`: makes its files, runs its commands as typed, and compares what they write.
 
-    tests/teachers.py PROGRAM [--write]
+    tests/teachers.py PROGRAM CLASS [--write]
 
-PROGRAM is a built grader, the `mpygrade` of the commands; `mpyexplain` is that of `tools`. A block below a name with a colon
+PROGRAM is a built grader, the `mpygrade` of the commands, and CLASS the program `mpyclass`; `mpyexplain` and
+`mpyclasspage` are those of `tools`. A block below a name with a colon
 is a file, or is added to it where the line says `Added to`. A block that begins with `$ ` has commands, on lines with `> ` as
 they go on, with what they write below. With --write the outputs in the document are replaced by those that were seen. Run it
 at the top of the repository. Printed are the counts and what differs; the exit status is 1 where something does.
@@ -27,12 +28,14 @@ MOST_SECONDS = 60
 class Session:
     """A shell in a folder of its own, which keeps its variables from one command to the next."""
 
-    def __init__(self, program, folder):
+    def __init__(self, program, of_class, folder):
         self.folder, self.said, self.count = folder, '', 0
         names = folder / 'bin'
         names.mkdir()
         (names / 'mpygrade').symlink_to(program)
+        (names / 'mpyclass').symlink_to(of_class)
         (names / 'mpyexplain').symlink_to(TOP / 'tools' / 'explain')
+        (names / 'mpyclasspage').symlink_to(TOP / 'tools' / 'class_page')
         self.environment = {**os.environ, 'PATH': '%s:%s' % (names, os.environ['PATH'])}
 
     def output(self, command):
@@ -59,14 +62,14 @@ def renewed(document, session):
 
 
 def main():
-    if len(sys.argv) < 2 or sys.argv[2:] not in ([], ['--write']):
+    if len(sys.argv) < 3 or sys.argv[3:] not in ([], ['--write']):
         sys.exit(__doc__)
     document = DOCUMENT.read_text(encoding='utf-8')
     with tempfile.TemporaryDirectory() as folder:
-        session = Session(pathlib.Path(sys.argv[1]).resolve(), pathlib.Path(folder))
+        session = Session(*(pathlib.Path(word).resolve() for word in sys.argv[1:3]), pathlib.Path(folder))
         new = renewed(document, session)
     rows = list(difflib.unified_diff(document.splitlines(), new.splitlines(), 'stored', 'seen', lineterm=''))
-    if sys.argv[2:]:
+    if sys.argv[3:]:
         DOCUMENT.write_text(new, encoding='utf-8')
     print('\n'.join(rows) if rows else '%d commands write what the document shows' % session.count)
     sys.exit(1 if rows else 0)

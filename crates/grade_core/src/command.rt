@@ -65,8 +65,16 @@ fn fetch<S: Shelf>(
     fetch_all(alloc, &files, shelf)
 }
 
-// What is written of what the texts decide.
-fn report_texts(alloc: Global, words: &GradeWords<'_>, texts: &[Vec<u8>]) -> Result<Report, Stop>
+/// What is written of what the texts of the four sources decide, by the words that name these.
+///
+/// # Errors
+///
+/// The first refusal of the texts, or want of memory.
+pub fn report_texts(
+    alloc: Global,
+    words: &GradeWords<'_>,
+    texts: &[Vec<u8>],
+) -> Result<Report, Stop>
     requires four { length texts.now ≡ 4 }
     requires fit { AllFit task_sources (texts_of texts.now) }
     requires budget { IsBudget words.now.budget }

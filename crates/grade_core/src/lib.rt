@@ -8,7 +8,7 @@ mod run;
 mod words;
 mod writing;
 
-pub use command::grade;
+pub use command::{grade, report_texts};
 pub use grading::{Graded, answer_status, grade_texts};
 pub use run::{Run, answer};
 use std::alloc::AllocError;

@@ -1,0 +1,2 @@
+pub mod FiveWords
+pub mod GradedFiles

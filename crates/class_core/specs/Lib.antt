@@ -1,0 +1,4 @@
+pub mod Gradings
+pub mod Requests
+pub mod Told
+pub mod Words
