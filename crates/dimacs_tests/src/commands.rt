@@ -43,7 +43,7 @@ fn shelf_of(alloc: Global, setting: Setting) -> Result<MemShelf, Fail> {
     Ok(shelf)
 }
 
-fn ended(
+fn end_of(
     alloc: Global,
     status: Status,
     shelf: &mut MemShelf,
@@ -66,7 +66,7 @@ fn solved(alloc: Global, setting: Setting, budget: u32) -> Result<Ended, Fail> {
         budget,
     };
     let status = sat(alloc, &words, &mut shelf, &mut out);
-    ended(alloc, status, &mut shelf, &out)
+    end_of(alloc, status, &mut shelf, &out)
 }
 
 fn judged(alloc: Global, setting: Setting) -> Result<Ended, Fail> {
@@ -77,7 +77,7 @@ fn judged(alloc: Global, setting: Setting) -> Result<Ended, Fail> {
         log: "log",
     };
     let status = unsat(alloc, &words, &mut shelf, &mut out);
-    ended(alloc, status, &mut shelf, &out)
+    end_of(alloc, status, &mut shelf, &out)
 }
 
 /// Each row: the text of a formula and a budget, the status, what is written, and the log.
