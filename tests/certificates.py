@@ -4,7 +4,7 @@
     MODEL=PATH tests/certificates.py [SEED COUNT] [--examples] [--first NUMBER] [--program PROGRAM] [--unproved]
 
 Run it at the top of the repository. `--examples` grades every submission of the examples, and SEED and COUNT so many random requests:
-tasks with rules, some with a small budget, and submissions of the examples with one. Either may stand alone. MODEL is the path of the
+tasks with rules, with a budget of 2000 or less, and submissions of the examples with a small one. Either may stand alone. MODEL is the path of the
 model's command line; its modules lie beside it. PROGRAM is crates/grader_cli/out/grader_cli unless it is given; a request is one
 process of it. With `--unproved`, which needs `rt` on the path, its sources are run instead, unproved and over files in memory. Each
 random request is made from the seed and its own number, so `--first NUMBER` with COUNT 1 repeats one.
