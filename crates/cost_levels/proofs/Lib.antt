@@ -1,6 +1,13 @@
 pub mod Beginning
+pub mod Followed
 pub mod Levelled
-mod Ordered
+pub mod LiveLevels
+pub mod Living
 pub mod Making
+pub mod Numbered
+mod Ordered
+pub mod Ranges
+pub mod Rising
 pub mod Tables
 pub mod Walked
+mod WorkedExamples

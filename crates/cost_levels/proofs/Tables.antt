@@ -2,7 +2,9 @@
 use Rattle.std.proofs.Common.{◌≡◌, ℕ, zero, suc, ◌<◌, ◌≤◌, ◌^◌, List, [], ◌∷◌, ◌++◌, length}
 use Rattle.std.proofs.Common.{take, slice_get, Option, Some, None, option_map, refl, sym, ap, ◌∙◌, subst, arith}
 use Rattle.std.proofs.Common.{append_assoc, length-append}
+use Rattle.std.specs.Prelude.{All}
 use Rattle.std.proofs.lemmas.List.{append-nil}
+use Rattle.std.proofs.lemmas.List.Elements.{All-append, All-cons}
 use Rattle.std.proofs.lemmas.Option.{slice_get_within}
 use Rattle.choice_tree.specs.declared.node.Pick.{Pick}
 use Rattle.choice_tree.specs.NodeViews.{own_pick, pick_of}
@@ -13,15 +15,15 @@ use Rattle.cost_levels.specs.declared.rows.Row.{Row}
 use Rattle.cost_levels.specs.declared.rows.Way.{Way}
 use Rattle.cost_levels.specs.Plans.{Plan, Ways, done, at_pick, no_ways, way_and, planned}
 use Rattle.cost_levels.specs.Plans.{all_planned, planned_each, ways_by}
-use Rattle.cost_levels.specs.Rows.{Grows, Shows, ShowWays}
+use Rattle.cost_levels.specs.Rows.{Grows, IsTable, IsTableTo, Shows, ShowWays}
 
-at_more : {X : Type 0} (xs ys : List X) (i : ℕ) (x : X) → slice_get xs i ≡ Some x
+pub at_more : {X : Type 0} (xs ys : List X) (i : ℕ) (x : X) → slice_get xs i ≡ Some x
     → slice_get (xs ++ ys) i ≡ Some x
 at_more [] ys i x h = cc
 at_more (y ∷ xs) ys zero x h = h
 at_more (y ∷ xs) ys (suc i) x h = at_more xs ys i x h
 
-at_end : {X : Type 0} (xs : List X) (x : X) → slice_get (xs ++ x ∷ []) (length xs) ≡ Some x
+pub at_end : {X : Type 0} (xs : List X) (x : X) → slice_get (xs ++ x ∷ []) (length xs) ≡ Some x
 at_end [] x = refl
 at_end (y ∷ xs) x = at_end xs x
 
@@ -158,3 +160,44 @@ ways_grown old new vs ws g h =
     let all = ap length g.1 ∙ length-append old g.0 in
     subst (λ rs. ShowWays rs (length new) vs ws) (sym g.1)
     (ways_more ws old g.0 (length old) (length new) vs (omega (arith, all)) h)
+
+-- a base and members go on to entries up to a number
+pub record GoesBackFrom (most base : ℕ) (vs : List Way) : Type 0 where
+  pub base_back : base ≤ most
+  pub others_back : All (λ v. v.next ≤ most) vs
+
+length_grown : (old new : List Row) → Grows old new → length old ≤ length new
+length_grown old new g =
+    let all = ap length g.1 ∙ length-append old g.0 in omega (arith, all)
+
+-- an entry of a table is one of a longer table
+pub table_grown : (old new : List Row) (after : ℕ) → Grows old new → IsTable new
+    → IsTableTo old after → IsTableTo new after
+table_grown old new after g table h =
+    let on = h.1 in
+    let more = length_grown old new g in
+    (table, omega (arith, on, more))
+
+pub no_members_back : (most base : ℕ) (vs : List Way) → base ≤ most → vs ≡ []
+    → GoesBackFrom most base vs
+no_members_back most base vs le none = record {
+  base_back = le;
+  others_back =
+      subst (All (λ v. v.next ≤ most)) (sym none) (λ k d within. absurd (omega (arith, within)));
+}
+
+-- one member more
+pub member_back : (rows new : List Row) (base : ℕ) (vs all : List Way) (v : Way) → Grows rows new
+    → GoesBackFrom (length rows) base vs → v.next ≤ length new → all ≡ vs ++ v ∷ []
+    → GoesBackFrom (length new) base all
+member_back rows new base vs all v g h le e =
+    let more = length_grown rows new g in
+    let back = h.base_back in
+    record {
+      base_back = omega (arith, back, more);
+      others_back =
+          subst (All (λ v. v.next ≤ length new)) (sym e)
+          (All-append (λ v. v.next ≤ length new) vs (v ∷ [])
+          (λ k d within. let on = h.others_back k d within in omega (arith, on, more))
+          (All-cons (λ v. v.next ≤ length new) v [] le (λ k d within. absurd (omega (arith, within)))));
+    }

@@ -195,7 +195,7 @@ listed_within cost q x left chosen le =
     ∙ ap (λ b. behind chosen ((if b then map (λ s. x ∷ s) (listed q (left - cost)) else []) ++ []))
     (sym (le-leb cost left le))
 
-beyond : (a b : ℕ) → b < a → nat_le a b ≡ false
+pub beyond : (a b : ℕ) → b < a → nat_le a b ≡ false
 beyond a b h = grind (arith, nat_tests)
 
 pub listed_beyond : (cost : ℕ) (q : Plan) (x : Choice) (left : ℕ) (chosen : List Choice)

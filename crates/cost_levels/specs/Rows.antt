@@ -1,6 +1,6 @@
 -- What the rows of a table show.
 use Rattle.std.specs.Prelude.{◌≡◌, ◌≤◌, ◌<◌, ◌^◌, ℕ, suc, List, [], ◌∷◌, ◌++◌, Some, length}
-use Rattle.std.specs.Prelude.{slice_get}
+use Rattle.std.specs.Prelude.{All, slice_get}
 use Rattle.cost_levels.specs.declared.rows.Row.{Row}
 use Rattle.cost_levels.specs.declared.rows.Way.{Way}
 use Rattle.cost_levels.specs.Plans.{Plan, Ways, done, at_pick, no_ways, way_and}
@@ -41,3 +41,16 @@ IsEntry rows entry = (p : Plan) × Shows rows entry p
 -- rows were appended
 abbrev pub Grows : List Row → List Row → Type 0
 Grows old new = (more : List Row) × (new ≡ old ++ more)
+
+-- the row at a place goes on to entries of rows before it
+pub record GoesBack (place : ℕ) (row : Row) : Type 0 where
+  pub base : row.base ≤ place
+  pub others : All (λ v. v.next ≤ place) row.others.items
+
+-- a table whose rows go back
+abbrev pub IsTable : List Row → Type 0
+IsTable rows = (place : ℕ) (row : Row) → slice_get rows place ≡ Some row → GoesBack place row
+
+-- and an entry of it
+abbrev pub IsTableTo : List Row → ℕ → Type 0
+IsTableTo rows entry = IsTable rows × (entry ≤ length rows)

@@ -1,12 +1,14 @@
 //! The levels of a tree.
-ghost use Rattle.std.specs.Prelude.{◌≡◌, IfOk, OnOk};
+ghost use Rattle.std.specs.Prelude.{◌≡◌, IfOk, OnOk, length, min};
 ghost use Rattle.std.specs.List.Sorted.{IsPermutation, IsSorted};
 ghost use Rattle.choice_tree.specs.StatementViews.{weighted_prog};
+ghost use Rattle.cost_levels.specs.Counts.{count_most};
 ghost use Rattle.cost_levels.specs.Levels.{level};
 ghost use Rattle.cost_levels.specs.Order.{choice_cmp, selection_cmp};
 
 use crate::NoMemory;
-use crate::listing::push_listed;
+use crate::counting::Counts;
+use crate::listing::{Walk, listed_from};
 use crate::rows::{Row, push_node};
 use choice_tree::{Choice, Node, Selection, WProg};
 use std::alloc::Global;
@@ -26,7 +28,7 @@ impl<'a> Model for Levels<'a> {
     ghost use Rattle.choice_tree.specs.contracts.tree.WProg as prog;
     ghost use Rattle.choice_tree.specs.StatementViews.{weighted_prog};
     ghost use Rattle.cost_levels.specs.Plans.{done, planned};
-    ghost use Rattle.cost_levels.specs.Rows.{Shows};
+    ghost use Rattle.cost_levels.specs.Rows.{IsTable, Shows};
     ghost use Rattle.std.specs.Coded.{codes};
 
     ghost Value = { WProg };
@@ -35,7 +37,8 @@ impl<'a> Model for Levels<'a> {
 
     ghost view = { λ l. l.tree.now };
 
-    ghost invariant = { λ l. Shows l.rows.items l.first (planned (weighted_prog l.tree.now) done) };
+    ghost invariant = { λ l. IsTable l.rows.items
+        × Shows l.rows.items l.first (planned (weighted_prog l.tree.now) done) };
 }
 
 impl<'a> Levels<'a> {
@@ -55,17 +58,38 @@ impl<'a> Levels<'a> {
             (λ v. IsPermutation (level (weighted_prog self.now) cost) v.items) }
         ensures ordered { IfOk result (λ v. IsSorted selection_cmp v.items) }
     {
-        let mut chosen = Vec::new(alloc);
-        let mut listed = Vec::new(alloc);
-        push_listed(
-            self.rows.as_slice(),
-            self.first,
-            cost,
-            &mut chosen,
-            &mut listed,
-        )?;
+        let rows = self.rows.as_slice();
+        let counts = Counts::none(alloc);
+        let walk = Walk {
+            rows,
+            counts: &counts,
+        };
+        let mut listed = listed_from(alloc, &walk, self.first, cost)?;
         sort(&mut listed)?;
         Ok(listed)
+    }
+
+    /// The same selections by their members: the first pick at which two of them differ decides
+    /// their order. Only what leads to one of them is walked, by the table of numbers.
+    pub fn in_order(&self, alloc: Global, cost: u32) -> Result<Vec<Selection>, NoMemory>
+        ensures { IfOk result (λ v. v.items ≡ level (weighted_prog self.now) cost) }
+    {
+        let rows = self.rows.as_slice();
+        let counts = Counts::of(alloc, rows, cost)?;
+        let walk = Walk {
+            rows,
+            counts: &counts,
+        };
+        listed_from(alloc, &walk, self.first, cost)
+    }
+
+    /// How many they are, or [`COUNT_MOST`](crate::COUNT_MOST) where they are as many or more.
+    pub fn count(&self, alloc: Global, cost: u32) -> Result<u32, NoMemory>
+        ensures { IfOk result (λ n. n
+            ≡ min (length (level (weighted_prog self.now) cost)) count_most) }
+    {
+        let counts = Counts::of(alloc, self.rows.as_slice(), cost)?;
+        Ok(counts.at(self.first, cost as usize))
     }
 }
 

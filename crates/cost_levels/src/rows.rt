@@ -3,7 +3,7 @@ ghost use Rattle.std.specs.Prelude.{◌≡◌, ◌≤◌, ◌<◌, ◌^◌, IfOk
 ghost use Rattle.choice_tree.specs.NodeViews.{node_of, pick_of};
 ghost use Rattle.choice_tree.specs.WeightedTrees.{children};
 ghost use Rattle.cost_levels.specs.Plans.{Plan, Ways, at_pick, planned, planned_each, ways_by};
-ghost use Rattle.cost_levels.specs.Rows.{Grows, Shows, ShowWays};
+ghost use Rattle.cost_levels.specs.Rows.{GoesBack, Grows, IsTable, IsTableTo, Shows, ShowWays};
 
 use crate::NoMemory;
 use choice_tree::{Node, Pick};
@@ -35,6 +35,8 @@ pub(crate) fn push_node(
     rows: &mut Vec<Row>,
 ) -> Result<usize, NoMemory>
     ensures grown { OnOk result (Grows rows.old.items rows.new.items) }
+    ensures table { IfOk result (λ e. IsTableTo rows.old.items after
+        → IsTableTo rows.new.items e) }
     ensures shown { IfOk result (λ e. (p : Plan) → Shows rows.old.items after p
         → Shows rows.new.items e (planned (node_of node.entry) p)) }
 {
@@ -53,6 +55,8 @@ fn push_parts(
     rows: &mut Vec<Row>,
 ) -> Result<usize, NoMemory>
     ensures grown { OnOk result (Grows rows.old.items rows.new.items) }
+    ensures table { IfOk result (λ e. IsTableTo rows.old.items after
+        → IsTableTo rows.new.items e) }
     ensures shown { IfOk result (λ e. (p : Plan) → Shows rows.old.items after p
         → Shows rows.new.items e (planned_each (children (node_of node.entry)) p)) }
 {
@@ -90,6 +94,8 @@ fn push_pick(
     rows: &mut Vec<Row>,
 ) -> Result<usize, NoMemory>
     ensures grown { OnOk result (Grows rows.old.items rows.new.items) }
+    ensures table { IfOk result (λ e. IsTableTo rows.old.items after
+        → IsTableTo rows.new.items e) }
     ensures shown { IfOk result (λ e. (p : Plan) → Shows rows.old.items after p
         → Shows rows.new.items e (at_pick (pick_of pick.entry).number
         (planned (pick_of pick.entry).base p) (ways_by (pick_of pick.entry).others p))) }
@@ -116,6 +122,8 @@ fn push_pick(
 // Appends a row; its entry. No memory holds more members than there are numbers for them.
 fn push_row(row: Row, rows: &mut Vec<Row>) -> Result<usize, NoMemory>
     ensures grown { OnOk result (Grows rows.old.items rows.new.items) }
+    ensures table { IfOk result (λ e. IsTable rows.old.items
+        → GoesBack (length rows.old.items) row → IsTableTo rows.new.items e) }
     ensures shown { IfOk result (λ e. (base : Plan) (ws : Ways)
         → Shows rows.old.items row.base base
         → ShowWays rows.old.items (length rows.old.items) row.others.items ws

@@ -14,7 +14,7 @@ decreases-push_chosen l = 2 * l.way.next + 1
 abbrev pub invariant-push_listed-loop-i : goal.invariant-push_listed-loop-i
 invariant-push_listed-loop-i l = record {
   chosen : l.chosen.items ≡ l.fn.chosen.items;
-  going : (p : Plan) → Shows l.fn.rows l.fn.entry p
-      → Going l.fn.rows l.row.number (l.fn.entry - 1) l.way-items l.i l.fn.left
+  going : (p : Plan) → Shows l.fn.walk.rows.now l.fn.entry p
+      → Going l.fn.walk.rows.now l.row.number (l.fn.entry - 1) l.way-items l.i l.fn.left
       l.fn.chosen.items l.fn.out.items l.out.items p;
 }

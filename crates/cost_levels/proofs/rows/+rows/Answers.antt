@@ -10,8 +10,8 @@ use Rattle.choice_tree.proofs.Walking.{child_smaller, member_smaller, next_of}
 use Rattle.cost_levels.specs.declared.rows.Way.{Way}
 use Rattle.cost_levels.specs.Plans.{at_pick, planned, planned_each, ways_by}
 use Rattle.cost_levels.specs.Rows.{Shows, ShowWays}
-use Rattle.cost_levels.proofs.Tables.{grows_on, member_read, parts_planned, pick_planned}
-use Rattle.cost_levels.proofs.Tables.{shows_grown, shows_within, take_more, ways_grown, ways_push}
+use Rattle.cost_levels.proofs.Tables.{grows_on, member_back, member_read, no_members_back, parts_planned, pick_planned}
+use Rattle.cost_levels.proofs.Tables.{shows_grown, shows_within, table_grown, take_more, ways_grown, ways_push}
 use Rattle.cost_levels.proofs.rows.+rows.Goals as goal
 
 pub push_node-returns-in-None-clause-shown : goal.push_node-returns-in-None-clause-shown
@@ -51,6 +51,7 @@ push_parts-parts-preserved t c =
       grown =
           grows_on c.args.rows.now.items c.parts.rows.items new c.parts.invariant.grown
           c.in_ok-entry-in-Some.ensures.grown;
+      table = λ h. c.in_ok-entry-in-Some.ensures.table (c.parts.invariant.table h);
       shown = λ p shows.
           subst (λ (ws : List Weighted). Shows new c.in_ok-entry-in-Some.entry (planned_each ws p))
           (sym next) (c.in_ok-entry-in-Some.ensures.shown (planned_each (drop left xs) p)
@@ -71,6 +72,12 @@ push_pick-push_node-requires-in-loop-i t c =
 pub push_pick-loop-i-init : goal.push_pick-loop-i-init
 push_pick-loop-i-init t c = record {
   grown = c.in_ok-base.ensures.grown;
+  table = λ h.
+      let a = c.in_ok-base.ensures.table h in (
+        a.0,
+        no_members_back (length c.push_node.new.rows.items) c.in_ok-base.base _ a.1
+            c.new-others.ensures.items,
+      );
   base = λ p shows.
       subst (λ (w : Weighted). Shows c.push_node.new.rows.items c.in_ok-base.base (planned w p))
       c.base.ensures (c.in_ok-base.ensures.shown p shows);
@@ -96,6 +103,11 @@ push_pick-loop-i-preserved t c =
     take_more ms i (i + 1) m (omega arith) read.1 in
     record {
       grown = grows_on was rows new before.grown grew;
+      table = λ h.
+          let a = before.table h in
+          let next =
+          c.in_ok-next.ensures.table (table_grown was rows c.args.after before.grown a.0 h) in
+          (next.0, member_back rows new c.in_ok-base.base vs _ v grew a.1 next.1 pushed);
       base = λ p shows.
           shows_grown rows new c.in_ok-base.base (planned (pick_of c.args.pick).base p) grew
           (before.base p shows);
@@ -119,6 +131,14 @@ push_pick-returns-clause-grown t c =
     (λ g. grows_on c.args.rows.now.items c.loop-i.rows.items c.push_row.new.rows.items
     c.loop-i.invariant.grown g)
     c.push_row.ensures.grown
+
+pub push_pick-returns-clause-table : goal.push_pick-returns-clause-table
+push_pick-returns-clause-table t c =
+    if_ok c.push_row.result
+    (λ e h table.
+    let a = c.loop-i.invariant.table table in
+    h a.0 (record { base = a.1.base_back; others = a.1.others_back }))
+    c.push_row.ensures.table
 
 pub push_pick-returns-clause-shown : goal.push_pick-returns-clause-shown
 push_pick-returns-clause-shown t c =
