@@ -12,9 +12,10 @@ ghost use Rattle.bit_words.specs.Results.{IsWordIn};
 ghost use Rattle.bit_words.specs.Words.{int_read};
 ghost use Rattle.sym_values.specs.Forms.{joined};
 ghost use Rattle.sym_nodes.specs.Environments.{HasPicks, OthersHavePicks, PicksRead};
-ghost use Rattle.sym_cost.specs.Notations.{HasRoom, IsCostIn, Spells, Writes, counter, width_of};
+ghost use Rattle.sym_cost.specs.Notations.{HasRoom, IsCostIn, IsNotedIn, Spells, Writes, counter};
 ghost use Rattle.sym_cost.specs.Picked.{HasNoPick, tree_of_pick};
 
+use crate::counters::padded;
 use crate::members::member_or;
 use crate::notation::{Notation, raised, sum_of_both, written};
 use bit_words::NoMemory;
@@ -67,10 +68,12 @@ pub fn cost_reaches<L: Logic>(
         → PicksRead (L.reads g.old vs) picks.now m
         → map (L.reads g.new vs) r ≡ counter bound (cost m (weighted_prog w.now))) }
 {
-    let notation = Notation::Unary(bound as usize);
+    let most = bound as usize;
+    let notation = Notation::Unary(most);
     let cost = node_cost(alloc, g, Node::Prog(w), picks, notation)?;
     let counter = written(alloc, g, notation, cost)?;
-    Ok(Bits::from_vec(counter.into_vec()))
+    let whole = padded(g, counter, most)?;
+    Ok(Bits::from_vec(whole.into_vec()))
 }
 
 // The cost of a node; no bits where there are no picks.
@@ -157,7 +160,7 @@ fn pick_cost<L: Logic>(
     requires base { HasPicks picks.now (pick_of pick).base }
     requires others { OthersHavePicks picks.now (pick_of pick).others }
     ensures extends { Extends L.owns L.reads L.count g.old g.new }
-    ensures made { IfOk result (λ r. IsWordIn L.owns g.new (width_of notation) r) }
+    ensures made { IfOk result (λ r. IsNotedIn L.owns g.new notation r) }
     ensures value { IfOk result (λ r. (vs : List Bool) (m : ℕ → ℕ)
         → PicksRead (L.reads g.old vs) picks.now m
         → HasRoom notation (cost m (tree_of_pick pick.entry))
@@ -169,7 +172,7 @@ fn pick_cost<L: Logic>(
     let mut chosen = written(alloc, g, notation, base)?;
     for i in 0..pick.len() {
         let member = other_cost(alloc, g, pick.cost(i), pick.tree(i), picks, notation)?;
-        chosen = member_or(alloc, g, named, i + 1, &member, &chosen)?;
+        chosen = member_or(alloc, g, named, i + 1, member, chosen)?;
     }
     Ok(chosen)
 }
@@ -188,7 +191,7 @@ fn other_cost<L: Logic>(
     requires owned { OwnsAll L.owns g.old (joined picks.now) }
     requires numbered { HasPicks picks.now (node_of node) }
     ensures extends { Extends L.owns L.reads L.count g.old g.new }
-    ensures made { IfOk result (λ r. IsWordIn L.owns g.new (width_of notation) r) }
+    ensures made { IfOk result (λ r. IsNotedIn L.owns g.new notation r) }
     ensures value { IfOk result (λ r. (vs : List Bool) (m : ℕ → ℕ)
         → PicksRead (L.reads g.old vs) picks.now m
         → HasRoom notation (own + cost m (node_of node.entry))

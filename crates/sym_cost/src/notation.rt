@@ -2,8 +2,7 @@
 
 ghost use Rattle.std.specs.Prelude.{◌≡◌, ◌+◌, ℕ, Bool, List, None, min, pos, map, IfOk};
 ghost use Rattle.bit_words.specs.Logic.{Extends};
-ghost use Rattle.bit_words.specs.Results.{IsWordIn};
-ghost use Rattle.sym_cost.specs.Notations.{HasRoom, IsCostIn, Spells, Writes, width_of};
+ghost use Rattle.sym_cost.specs.Notations.{HasRoom, HasWidth, IsCostIn, IsNotedIn, Spells, Writes};
 
 use crate::counters::{counters_sum, raised_counter};
 use bit_words::NoMemory;
@@ -20,7 +19,7 @@ const WIDTH: usize = 14;
 /// The greatest cost that is written in binary.
 const MOST: u32 = 4096;
 
-/// How a cost is written as bits: in two's complement, or as a counter of so many bits.
+/// How a cost is written as bits: in two's complement, or as a counter of at most so many bits.
 #[derive(Clone, Copy, Drop)]
 pub enum Notation {
     Binary,
@@ -28,13 +27,13 @@ pub enum Notation {
 }
 
 impl Notation {
-    /// The number of bits.
-    fn width(self) -> usize
-        ensures { result ≡ width_of self }
+    /// The number of bits of the cost 0.
+    fn least_width(self) -> usize
+        ensures { HasWidth self result }
     {
         match self {
             Notation::Binary => WIDTH,
-            Notation::Unary(bound) => bound,
+            Notation::Unary(_) => 0,
         }
     }
 }
@@ -47,7 +46,7 @@ pub fn written<L: Logic>(
     cost: Option<Word<L::Bit>>,
 ) -> Result<Word<L::Bit>, NoMemory>
     requires { IsCostIn L.owns g.now notation cost }
-    ensures made { IfOk result (λ r. IsWordIn L.owns g.now (width_of notation) r) }
+    ensures made { IfOk result (λ r. IsNotedIn L.owns g.now notation r) }
     ensures value { IfOk result (λ r. (vs : List Bool) (n : ℕ)
         → Writes (L.reads g.now vs) notation cost n
         → Spells notation (map (L.reads g.now vs) r) n) }
@@ -63,11 +62,11 @@ pub fn written<L: Logic>(
 
 /// The bits of the cost 0.
 fn nothing<L: Logic>(alloc: Global, g: &L, notation: Notation) -> Result<Word<L::Bit>, NoMemory>
-    ensures made { IfOk result (λ r. IsWordIn L.owns g.now (width_of notation) r) }
+    ensures made { IfOk result (λ r. IsNotedIn L.owns g.now notation r) }
     ensures value { IfOk result (λ r. (vs : List Bool)
         → Spells notation (map (L.reads g.now vs) r) 0) }
 {
-    let word = zeros(alloc, g, notation.width())?;
+    let word = zeros(alloc, g, notation.least_width())?;
     Ok(word)
 }
 
@@ -79,10 +78,10 @@ pub fn sum<L: Logic>(
     a: &Word<L::Bit>,
     b: &Word<L::Bit>,
 ) -> Result<Word<L::Bit>, NoMemory>
-    requires left { IsWordIn L.owns g.old (width_of notation) a.now }
-    requires right { IsWordIn L.owns g.old (width_of notation) b.now }
+    requires left { IsNotedIn L.owns g.old notation a.now }
+    requires right { IsNotedIn L.owns g.old notation b.now }
     ensures extends { Extends L.owns L.reads L.count g.old g.new }
-    ensures made { IfOk result (λ r. IsWordIn L.owns g.new (width_of notation) r) }
+    ensures made { IfOk result (λ r. IsNotedIn L.owns g.new notation r) }
     ensures value { IfOk result (λ r. (vs : List Bool) (m n : ℕ) → HasRoom notation (m + n)
         → Spells notation (map (L.reads g.old vs) a.now) m
         → Spells notation (map (L.reads g.old vs) b.now) n
@@ -93,8 +92,8 @@ pub fn sum<L: Logic>(
             let sum = add(alloc, g, a, b)?;
             Ok(sum.word)
         }
-        Notation::Unary(_) => {
-            let sum = counters_sum(alloc, g, a, b)?;
+        Notation::Unary(bound) => {
+            let sum = counters_sum(alloc, g, bound, a, b)?;
             Ok(sum)
         }
     }
@@ -143,9 +142,9 @@ pub fn raised<L: Logic>(
     cost: u32,
     inner: &Word<L::Bit>,
 ) -> Result<Word<L::Bit>, NoMemory>
-    requires { IsWordIn L.owns g.old (width_of notation) inner.now }
+    requires { IsNotedIn L.owns g.old notation inner.now }
     ensures extends { Extends L.owns L.reads L.count g.old g.new }
-    ensures made { IfOk result (λ r. IsWordIn L.owns g.new (width_of notation) r) }
+    ensures made { IfOk result (λ r. IsNotedIn L.owns g.new notation r) }
     ensures value { IfOk result (λ r. (vs : List Bool) (n : ℕ) → HasRoom notation (cost + n)
         → Spells notation (map (L.reads g.old vs) inner.now) n
         → Spells notation (map (L.reads g.new vs) r) (cost + n)) }
@@ -156,8 +155,8 @@ pub fn raised<L: Logic>(
             let sum = add(alloc, g, &own.word, inner)?;
             Ok(sum.word)
         }
-        Notation::Unary(_) => {
-            let sum = raised_counter(alloc, g, cost, inner)?;
+        Notation::Unary(bound) => {
+            let sum = raised_counter(alloc, g, bound, cost, inner)?;
             Ok(sum)
         }
     }

@@ -1,5 +1,6 @@
-use Rattle.std.proofs.Common.{◌≡◌, ◌∙◌, ◌+◌, ℕ, List, map, take, length, eqb, cond, Some}
-use Rattle.std.proofs.Common.{slice_get, refl, sym, ap, subst, arith}
+use Rattle.std.proofs.Common.{◌≡◌, ◌∙◌, ◌+◌, ◌-◌, ◌++◌, ℕ, false, List, map, max, take, length}
+use Rattle.std.proofs.Common.{replicate, eqb, cond, Some, slice_get, refl, sym, ap, subst, arith}
+use Rattle.std.proofs.Math.Nat.{le-max_left, le-max_right}
 use Rattle.bit_words.specs.Logic.{OwnsAll, extends_keeps, extends_refl, extends_trans}
 use Rattle.bit_words.specs.Later.{nat_later, owned_later}
 use Rattle.bit_words.specs.Words.{nat_read}
@@ -13,12 +14,12 @@ use Rattle.choice_tree.proofs.Walking.{parts_cost, sum_next}
 use Rattle.sym_values.specs.Owned.{owns_one}
 use Rattle.sym_nodes.specs.Environments.{HasPicks}
 use Rattle.sym_nodes.proofs.TreeTypes.{child_picks}
-use Rattle.sym_cost.specs.Notations.{HasRoom, Spells, Writes}
+use Rattle.sym_cost.specs.Notations.{HasRoom, HasWidth, Spells, Writes}
 use Rattle.sym_cost.proofs.Choosing.{all_taken, child_free, chosen_more, chosen_spelled, cost_at}
 use Rattle.sym_cost.proofs.Choosing.{length_costs, member_costs, none_chosen, other_picks}
 use Rattle.sym_cost.proofs.Choosing.{pick_free, pick_is, pick_nodes}
 use Rattle.sym_cost.proofs.Kept.{cost_kept, picks_kept, spelled_kept, written_kept}
-use Rattle.sym_cost.proofs.Spelled.{room_below}
+use Rattle.sym_cost.proofs.Spelled.{padded_spelled, room_below, width_of_both}
 use Rattle.sym_cost.proofs.costs.+costs.Goals as goal
 
 pub node_cost-parts_cost-requires : goal.node_cost-parts_cost-requires
@@ -240,7 +241,6 @@ pick_cost-member_or-requires g t c =
     record {
       named = subst (OwnsAll g.L.Logic.owns c.other_cost.new.g) (sym c.as_slice-named.ensures)
           (owned_later until named);
-      alike = before.made.width ∙ sym made.width;
       member = made.owned;
       other = owned_later (extends_keeps one) before.made.owned;
     }
@@ -258,10 +258,16 @@ pick_cost-loop-i-preserved g t c =
     let one = c.other_cost.ensures.extends in
     let until = extends_trans before.extends one in
     let made = c.in_ok-chosen-2.ensures.made in
+    let member = c.in_ok-member.member in
+    let other = c.loop-i.chosen in
+    let wide = c.in_ok-member.ensures.made.width in
+    let widest = max (length member) (length other) in
+    let both = width_of_both form (length member) (length other) wide before.made.width in
     record {
       extends = extends_trans until c.member_or.ensures.extends;
-      made = record { owned = made.owned; width = made.width ∙ c.in_ok-member.ensures.made.width };
+      made = record { owned = made.owned; width = subst (HasWidth form) (sym made.width) both };
       value = λ vs m p room.
+          let rd = reads c.other_cost.new.g vs in
           let costs = member_costs m os in
           let named = owns_one (λ w. w) c.args.picks.now c.number.result c.at-bits.result.now
           c.requires.owned c.at-bits.ensures in
@@ -273,13 +279,17 @@ pick_cost-loop-i-preserved g t c =
           (cost m base) (omega arith)
           (cost_at m os i c.cost.result tree c.cost.ensures c.tree.ensures) in
           let bits = c.in_ok-chosen-2.ensures.value vs
-          ∙ ap (λ (n : ℕ). cond (eqb n (i + 1)) (map (reads c.other_cost.new.g vs)
-          c.in_ok-member.member) (map (reads c.other_cost.new.g vs) c.loop-i.chosen)) read in
+          ∙ ap (λ (n : ℕ). cond (eqb n (i + 1))
+          (map rd member ++ replicate (widest - length member) false)
+          (map rd other ++ replicate (widest - length other) false)) read in
           chosen_spelled form (eqb (m number) (i + 1)) _ _ _ _ _ _ whole room bits
+          (λ h. padded_spelled rd form member widest _ wide both
+          (le-max_left (length member) (length other))
           (c.in_ok-member.ensures.value vs m (picks_kept c.args.picks.now m before.extends
-          c.requires.owned vs p))
-          (λ h. spelled_kept form c.loop-i.chosen _ one before.made.owned vs (before.value vs m p
-          h));
+          c.requires.owned vs p) h))
+          (λ h. padded_spelled rd form other widest _ before.made.width both
+          (le-max_right (length member) (length other))
+          (spelled_kept form other _ one before.made.owned vs (before.value vs m p h)));
     }
 
 pub pick_cost-returns-clause-value : goal.pick_cost-returns-clause-value

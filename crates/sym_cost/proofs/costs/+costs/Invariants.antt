@@ -1,13 +1,12 @@
 use Rattle.std.proofs.Common.{◌≡◌, ◌+◌, ◌-◌, ◌*◌, ℕ, Bool, List, map, take, drop, length, None}
 use Rattle.bit_words.specs.Logic.{Extends}
-use Rattle.bit_words.specs.Results.{IsWordIn}
 use Rattle.choice_tree.specs.Costs.{sum_of}
 use Rattle.choice_tree.specs.NodeViews.{node_of, pick_of}
 use Rattle.choice_tree.specs.PickViews.{others_seen}
 use Rattle.choice_tree.specs.Selections.{chosen, cost}
 use Rattle.choice_tree.specs.WeightedTrees.{children, nodes}
 use Rattle.sym_nodes.specs.Environments.{PicksRead}
-use Rattle.sym_cost.specs.Notations.{HasRoom, IsCostIn, Spells, Writes, width_of}
+use Rattle.sym_cost.specs.Notations.{HasRoom, IsCostIn, IsNotedIn, Spells, Writes}
 use Rattle.sym_cost.specs.Picked.{HasNoPick, tree_of_pick}
 use Rattle.sym_cost.proofs.Choosing.{member_costs}
 use Rattle.sym_cost.proofs.costs.+costs.Given as goal
@@ -49,7 +48,7 @@ invariant-pick_cost-loop-i g l =
     let logic = g.L.Logic in
     record {
       extends : Extends logic.owns logic.reads logic.count l.fn.g l.g;
-      made : IsWordIn logic.owns l.g (width_of l.notation) l.chosen;
+      made : IsNotedIn logic.owns l.g l.notation l.chosen;
       value : (vs : List Bool) (m : ℕ → ℕ) → PicksRead (logic.reads l.fn.g vs) l.fn.picks m
           → HasRoom l.notation (chosen (m (pick_of l.pick).number) (cost m (pick_of l.pick).base)
           (take l.i (member_costs m (others_seen l.pick))))

@@ -10,7 +10,7 @@ invariant-loop-i g l =
       extends : Extends logic.owns logic.reads logic.count l.fn.g l.g;
       owned : OwnsAll logic.owns l.g l.sum;
       width : length l.sum ≡ l.i;
-      value : (vs : List Bool) (m n : ℕ) → Counts (logic.reads l.fn.g vs) l.a m
-          → Counts (logic.reads l.fn.g vs) l.b n
+      value : (vs : List Bool) (m n : ℕ) → Counts l.bound (map (logic.reads l.fn.g vs) l.a) m
+          → Counts l.bound (map (logic.reads l.fn.g vs) l.b) n
           → map (logic.reads l.g vs) l.sum ≡ counter l.i (m + n);
     }

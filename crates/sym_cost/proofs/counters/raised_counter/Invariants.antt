@@ -9,6 +9,6 @@ invariant-loop-i g l =
     record {
       owned : OwnsAll logic.owns l.g l.raised;
       width : length l.raised ≡ l.i;
-      value : (vs : List Bool) (n : ℕ) → Counts (logic.reads l.g vs) l.counter n
+      value : (vs : List Bool) (n : ℕ) → Counts l.bound (map (logic.reads l.g vs) l.counter) n
           → map (logic.reads l.g vs) l.raised ≡ counter l.i (l.number + n);
     }

@@ -1,4 +1,4 @@
-use Rattle.std.proofs.Common.{◌≡◌, ◌+◌, ℕ, Bool, List, min, leb}
+use Rattle.std.proofs.Common.{◌≡◌, ◌+◌, ◌≤◌, ℕ, Bool, List, map, min, leb}
 use Rattle.bit_words.specs.Logic.{Extends}
 use Rattle.sym_cost.specs.Notations.{Counts}
 use Rattle.sym_cost.proofs.counters.sum_reaches.Given as goal
@@ -10,7 +10,8 @@ invariant-loop-i g l =
     record {
       extends : Extends logic.owns logic.reads logic.count l.fn.g l.g;
       owned : logic.owns l.g l.reached;
-      value : (vs : List Bool) (m n : ℕ) → Counts (logic.reads l.fn.g vs) l.a m
-          → Counts (logic.reads l.fn.g vs) l.b n
+      value : (vs : List Bool) (bound m n : ℕ) → l.number ≤ bound
+          → Counts bound (map (logic.reads l.fn.g vs) l.a) m
+          → Counts bound (map (logic.reads l.fn.g vs) l.b) n
           → logic.reads l.g vs l.reached ≡ leb l.number (n + min m l.i);
     }

@@ -1,17 +1,20 @@
-use Rattle.std.proofs.Common.{◌∙◌, ◌+◌, ap, map, sym, arith, rules, w32}
+use Rattle.std.proofs.Common.{◌≡◌, ◌∙◌, ◌+◌, length, map, sym, subst, arith, rules, w32}
 use Rattle.std.proofs.lemmas.Int.{to_z-of_z}
-use Rattle.sym_cost.specs.Notations.{width_of}
-use Rattle.sym_cost.proofs.Spelled.{counts_of, raised_spelled, spells_of}
+use Rattle.sym_cost.specs.declared.notation.Notation.{Notation}
+use Rattle.sym_cost.specs.Notations.{HasWidth, Spells}
+use Rattle.sym_cost.proofs.Spelled.{raised_spelled}
 use Rattle.sym_cost.proofs.notation.raised.Goals as goal
 
 pub add-requires : goal.add-requires
 add-requires g c =
     let own = c.in_ok-own-in-Binary.ensures.made in
-    let wide = ap width_of c.in-Binary.is in
     let first = own.width in
+    let second : length c.args.inner.now ≡ 14 =
+    subst (λ (f : Notation). HasWidth f (length c.args.inner.now)) c.in-Binary.is
+    c.requires.width in
     record {
       some = omega (arith, first);
-      alike = c.requires.width ∙ wide ∙ sym first;
+      alike = second ∙ sym first;
       left = own.owned;
       right = c.requires.owned;
     }
@@ -21,8 +24,8 @@ returns-in_ok-sum-in-Binary-clause-made g c =
     let made = c.in_ok-sum-in-Binary.ensures.made in
     record {
       owned = made.owned;
-      width = made.width ∙ c.in_ok-own-in-Binary.ensures.made.width
-          ∙ sym (ap width_of c.in-Binary.is);
+      width = subst (λ (f : Notation). HasWidth f (length c.in_ok-sum-in-Binary.sum.word))
+          (sym c.in-Binary.is) (made.width ∙ c.in_ok-own-in-Binary.ensures.made.width);
     }
 
 pub returns-in_ok-sum-in-Binary-clause-value : goal.returns-in_ok-sum-in-Binary-clause-value
@@ -36,13 +39,17 @@ returns-in_ok-sum-in-Binary-clause-value g c vs n room x =
 pub returns-in_ok-sum-in-Unary-clause-made : goal.returns-in_ok-sum-in-Unary-clause-made
 returns-in_ok-sum-in-Unary-clause-made g c =
     let made = c.in_ok-sum-in-Unary.ensures.made in
-    record { owned = made.owned; width = made.width ∙ c.requires.width }
+    record {
+      owned = made.owned;
+      width = subst (λ (f : Notation). HasWidth f (length c.in_ok-sum-in-Unary.sum))
+          (sym c.in-Unary.is) (omega (arith, made.width));
+    }
 
 pub returns-in_ok-sum-in-Unary-clause-value : goal.returns-in_ok-sum-in-Unary-clause-value
 returns-in_ok-sum-in-Unary-clause-value g c vs n room x =
     let rd = g.L.Logic.reads c.args.g.now vs in
-    let form = c.args.notation in
-    let inner = counts_of rd c.args.inner.now form _ n c.in-Unary.is c.requires.width x in
-    spells_of rd c.in_ok-sum-in-Unary.sum form _ (c.args.cost + n) c.in-Unary.is
-    (c.in_ok-sum-in-Unary.ensures.made.width
-    ∙ c.requires.width) (c.in_ok-sum-in-Unary.ensures.value vs n inner)
+    let is = c.in-Unary.is in
+    let inner = subst (λ (f : Notation). Spells f (map rd c.args.inner.now) n) is x in
+    subst (λ (f : Notation). Spells f (map (g.L.Logic.reads c.args.g.now vs)
+    c.in_ok-sum-in-Unary.sum) (c.args.cost + n)) (sym is)
+    (c.in_ok-sum-in-Unary.ensures.value vs n inner)

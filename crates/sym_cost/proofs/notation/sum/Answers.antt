@@ -1,30 +1,31 @@
-use Rattle.std.proofs.Common.{◌∙◌, ◌+◌, ap, sym, arith}
-use Rattle.sym_cost.specs.Notations.{width_of}
-use Rattle.sym_cost.proofs.Spelled.{counts_of, spells_of, sum_spelled}
+use Rattle.std.proofs.Common.{◌≡◌, ◌∙◌, ◌+◌, length, map, sym, subst, arith}
+use Rattle.sym_cost.specs.declared.notation.Notation.{Notation}
+use Rattle.sym_cost.specs.Notations.{HasWidth, Spells}
+use Rattle.sym_cost.proofs.Spelled.{sum_spelled}
 use Rattle.sym_cost.proofs.notation.sum.Goals as goal
 
 pub add-requires : goal.add-requires
 add-requires g c =
-    let wide = ap width_of c.in-Binary.is in
-    let first = c.requires.left.width in
+    let first : length c.args.a.now ≡ 14 =
+    subst (λ (f : Notation). HasWidth f (length c.args.a.now)) c.in-Binary.is
+    c.requires.left.width in
+    let second : length c.args.b.now ≡ 14 =
+    subst (λ (f : Notation). HasWidth f (length c.args.b.now)) c.in-Binary.is
+    c.requires.right.width in
     record {
-      some = omega (arith, wide, first);
-      alike = c.requires.right.width ∙ sym first;
+      some = omega (arith, first);
+      alike = second ∙ sym first;
       left = c.requires.left.owned;
       right = c.requires.right.owned;
     }
 
-pub counters_sum-requires : goal.counters_sum-requires
-counters_sum-requires g c = record {
-  alike = c.requires.right.width ∙ sym c.requires.left.width;
-  left = c.requires.left.owned;
-  right = c.requires.right.owned;
-}
-
 pub returns-in_ok-sum-in-Binary-clause-made : goal.returns-in_ok-sum-in-Binary-clause-made
 returns-in_ok-sum-in-Binary-clause-made g c =
     let made = c.in_ok-sum-in-Binary.ensures.made in
-    record { owned = made.owned; width = made.width ∙ c.requires.left.width }
+    record {
+      owned = made.owned;
+      width = subst (HasWidth c.args.notation) (sym made.width) c.requires.left.width;
+    }
 
 pub returns-in_ok-sum-in-Binary-clause-value : goal.returns-in_ok-sum-in-Binary-clause-value
 returns-in_ok-sum-in-Binary-clause-value g c vs m n room x y =
@@ -34,14 +35,18 @@ returns-in_ok-sum-in-Binary-clause-value g c vs m n room x y =
 pub returns-in_ok-sum-in-Unary-clause-made : goal.returns-in_ok-sum-in-Unary-clause-made
 returns-in_ok-sum-in-Unary-clause-made g c =
     let made = c.in_ok-sum-in-Unary.ensures.made in
-    record { owned = made.owned; width = made.width ∙ c.requires.left.width }
+    record {
+      owned = made.owned;
+      width = subst (λ (f : Notation). HasWidth f (length c.in_ok-sum-in-Unary.sum))
+          (sym c.in-Unary.is) (omega (arith, made.width));
+    }
 
 pub returns-in_ok-sum-in-Unary-clause-value : goal.returns-in_ok-sum-in-Unary-clause-value
 returns-in_ok-sum-in-Unary-clause-value g c vs m n room x y =
     let rd = g.L.Logic.reads c.args.g.now vs in
-    let form = c.args.notation in
-    let left = counts_of rd c.args.a.now form _ m c.in-Unary.is c.requires.left.width x in
-    let right = counts_of rd c.args.b.now form _ n c.in-Unary.is c.requires.right.width y in
-    spells_of (g.L.Logic.reads c.counters_sum.new.g vs) c.in_ok-sum-in-Unary.sum form _ (m + n)
-    c.in-Unary.is (c.in_ok-sum-in-Unary.ensures.made.width
-    ∙ c.requires.left.width) (c.in_ok-sum-in-Unary.ensures.value vs m n left right)
+    let is = c.in-Unary.is in
+    let left = subst (λ (f : Notation). Spells f (map rd c.args.a.now) m) is x in
+    let right = subst (λ (f : Notation). Spells f (map rd c.args.b.now) n) is y in
+    subst (λ (f : Notation). Spells f (map (g.L.Logic.reads c.counters_sum.new.g vs)
+    c.in_ok-sum-in-Unary.sum) (m + n)) (sym is)
+    (c.in_ok-sum-in-Unary.ensures.value vs m n left right)
