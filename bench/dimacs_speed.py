@@ -10,6 +10,7 @@ reading. Then each of some formulas without values is solved by `sat`, and its p
 hints. Then one clause of so many literals (500,000) is read. Times are those of the processor, each the least of RUNS runs.
 """
 import argparse
+import multiprocessing
 import os
 import random
 import re
@@ -55,10 +56,18 @@ def a_long_text(rng, megabytes):
     return 'p cnf %d %d\n' % (VARIABLES, len(lines)) + ''.join(lines)
 
 
-def reading(program, folder, megabytes):
-    with open(os.path.join(folder, 'long.cnf'), 'w') as out:
+def write_long_text(path, megabytes):
+    with open(path, 'w') as out:
         out.write(a_long_text(random.Random(1), megabytes))
-    size = os.path.getsize(os.path.join(folder, 'long.cnf')) / MEGABYTE
+
+
+def reading(program, folder, megabytes):
+    path = os.path.join(folder, 'long.cnf')
+    # In a process of its own: the most that this one held would count as memory of each that it starts.
+    writer = multiprocessing.Process(target=write_long_text, args=(path, megabytes))
+    writer.start()
+    writer.join()
+    size = os.path.getsize(path) / MEGABYTE
     with open(os.path.join(folder, 'none'), 'w') as out:
         out.write('end\n')
     ours = least([program, 'unsat', 'long.cnf', 'none'], folder)

@@ -3,6 +3,8 @@ pub mod LineCuts
 pub mod Headers
 pub mod Heads
 pub mod Tidying
+pub mod Distinct
+pub mod Signs
 pub mod DraftsGrow
 pub mod Bodies
 pub mod Whole

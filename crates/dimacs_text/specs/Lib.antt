@@ -1,5 +1,6 @@
 pub mod TextLines
 pub mod CnfTexts
+pub mod Signs
 pub mod Tidy
 pub mod CnfLaws
 pub mod CnfDrafts

@@ -28,7 +28,7 @@ pub fn read_cnf(alloc: Global, bytes: &[u8]) -> Result<Formula, CnfError>
         Ok(head) => head,
         Err(line) => return Err(CnfError::Line(line)),
     };
-    let mut draft = Draft::new(alloc, head.header.vars, head.header.count);
+    let mut draft = Draft::new(alloc, head.header, head.rest.len())?;
     let mut rest = head.rest;
     let mut line = head.line;
     'lines: loop {

@@ -4,6 +4,7 @@ ghost use Rattle.std.specs.List.{list_all};
 ghost use Rattle.clause_base.specs.Formulas.{clauses_in_range, in_range};
 
 use crate::NoMemory;
+use crate::header::Header;
 use crate::lines::{begins, first_word};
 use crate::tidy::with_clause;
 use clause_base::formula::{Clauses, Formula};
@@ -38,19 +39,22 @@ impl Draft {
     ghost use Rattle.dimacs_text.specs.CnfTexts.{body_words, zero_word};
     ghost use Rattle.dimacs_text.specs.TextLines.{words_of};
 
-    /// No clause of a formula with so many variables and clauses.
-    pub(crate) fn new(alloc: Global, vars: u32, count: u32) -> Draft
-        ensures vars { result.vars ≡ vars }
-        ensures count { result.count ≡ count }
-        ensures none { IsDraft [] result }
+    /// No clause of a formula with such a header, with room for as many as a text of so many bytes
+    /// may have: the word that ends a clause takes a byte, and so does what stands before it.
+    pub(crate) fn new(alloc: Global, header: Header, bytes: usize) -> Result<Draft, NoMemory>
+        ensures vars { IfOk result (λ d. d.vars ≡ header.vars) }
+        ensures count { IfOk result (λ d. d.count ≡ header.count) }
+        ensures none { IfOk result (IsDraft []) }
     {
-        Draft {
-            vars,
-            count,
+        let room = (header.count as usize).min(bytes / 2 + 1);
+        let clauses = Clauses::with_capacity(alloc, room)?;
+        Ok(Draft {
+            vars: header.vars,
+            count: header.count,
             done: 0,
-            clauses: Clauses::new(alloc),
+            clauses,
             pending: Lits::new(alloc),
-        }
+        })
     }
 
     fn with_literal(mut self, l: Lit) -> Result<Draft, NoMemory>

@@ -9,6 +9,7 @@ mod heading;
 mod laws;
 mod lines;
 mod proof;
+mod signed;
 mod tidy;
 
 pub use cnf::read_cnf;

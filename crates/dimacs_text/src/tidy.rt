@@ -6,24 +6,33 @@ ghost use Rattle.clause_base.specs.Formulas.{clauses_in_range, in_range};
 ghost use Rattle.dimacs_text.specs.Tidy.{has_both, literals_of, once_onto, stands, tidied};
 
 use crate::NoMemory;
+use crate::signed::Signed;
 use clause_base::clause::Clause;
 use clause_base::formula::Clauses;
 use clause_base::lit::Lit;
 use clause_base::lits::Lits;
 use std::alloc::Global;
+use step_lines::distinct::are_distinct;
 
-// The sign in which a variable stands first among the literals.
-fn sign_of(lits: &[Lit], var: u32) -> Option<bool>
-    ensures { MatchOption result
-        (list_any (λ k. k.var == var) lits.now ≡ false)
-        (λ sign. stands (record { var = var; positive = sign }) lits.now ≡ true) }
+// As `tidied`, where a variable may stand twice. The copy at the end has no room to spare.
+fn without_repeats(alloc: Global, lits: &[Lit]) -> Result<Option<Clause>, NoMemory>
+    ensures { IfOk result (λ o. MatchOption o
+        (has_both lits.now ≡ true)
+        (λ c. (has_both lits.now ≡ false) × (c.lits ≡ once_onto [] lits.now))) }
 {
+    let mut kept = Signed::new(alloc);
     for lit in lits {
-        if lit.var == var {
-            return Some(lit.positive);
+        match kept.sign_of(lit.var) {
+            Some(sign) => {
+                if sign != lit.positive {
+                    return Ok(None);
+                }
+            }
+            None => kept = kept.and(*lit)?,
         }
     }
-    None
+    let exact = kept.lits.copy()?;
+    Ok(Some(Clause::new(exact)))
 }
 
 // The clause of these literals, each where it stands first; none where a variable stands in both
@@ -33,18 +42,11 @@ fn tidied(alloc: Global, lits: &[Lit]) -> Result<Option<Clause>, NoMemory>
         (has_both lits.now ≡ true)
         (λ c. (has_both lits.now ≡ false) × (c.lits ≡ once_onto [] lits.now))) }
 {
-    let mut kept = Lits::new(alloc);
-    for lit in lits {
-        match sign_of(kept.as_slice(), lit.var) {
-            Some(sign) => {
-                if sign != lit.positive {
-                    return Ok(None);
-                }
-            }
-            None => kept.push(*lit)?,
-        }
+    if !are_distinct(alloc, lits)? {
+        return without_repeats(alloc, lits);
     }
-    Ok(Some(Clause::new(kept)))
+    let whole = Lits::from_slice(alloc, lits)?;
+    Ok(Some(Clause::new(whole)))
 }
 
 /// The clauses with what is kept of one more.
