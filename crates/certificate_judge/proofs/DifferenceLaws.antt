@@ -6,7 +6,7 @@ use Rattle.std.proofs.lemmas.List.{take_all}
 use Rattle.std.proofs.lemmas.Option.{slice_get_past}
 use Rattle.clause_base.specs.declared.formula.Formula.{Formula}
 use Rattle.certificate_judge.specs.Places.{DifferAt}
-use Rattle.certificate_judge.proofs.Passes.{take_get}
+use Rattle.log_check.proofs.StepLaws.{take_get}
 
 -- they agree so far and in the next place
 pub more_same : {X : Type 0} (xs ys : List X) (i : ℕ) (x y : X) → slice_get xs i ≡ Some x → slice_get ys i ≡ Some y → x ≡ y → take i xs ≡ take i ys → take (i + 1) xs ≡ take (i + 1) ys

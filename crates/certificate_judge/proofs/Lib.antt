@@ -1,5 +1,4 @@
 mod Passes
-mod StepLaws
 mod DifferenceLaws
 mod FormLaws
 mod LookLaws

@@ -19,7 +19,8 @@ use Rattle.certificate_judge.specs.declared.look.Look.TheVariants as look
 use Rattle.certificate_judge.specs.declared.verdict.Shown.{Shown}
 use Rattle.certificate_judge.specs.declared.verdict.Shown.TheVariants as shown
 use Rattle.certificate_judge.specs.Looks.{IsAsked, IsBad, IsBuilt, IsLeft, IsLook, IsOther, IsShown, session_with}
-use Rattle.certificate_judge.specs.Places.{DifferAt, IsBadPlace}
+use Rattle.log_check.specs.BadSteps.{IsBadPlace}
+use Rattle.certificate_judge.specs.Places.{DifferAt}
 use Rattle.certificate_judge.proofs.DifferenceLaws.{differ_not_same}
 
 pub if_ok : {E : Type 0} {P Q : Look → Type 0} (r : Result Look E) → ((l : Look) → P l → Q l) → IfOk r P → IfOk r Q

@@ -1,9 +1,10 @@
 -- Sessions that pass, one after the other.
-use Rattle.std.proofs.Common.{◌≡◌, ◌≢◌, ℕ, suc, zero, ◌+◌, List, [], ◌∷◌, ◌++◌, take, Some, slice_get, refl, sym, ap, subst, ◌∙◌, arith, ◌≤◌, length}
+use Rattle.std.proofs.Common.{◌≡◌, ◌≢◌, ℕ, ◌+◌, List, [], ◌∷◌, ◌++◌, take, Some, slice_get, refl, sym, subst, arith, ◌≤◌, length}
 use Rattle.std.proofs.Math.Nat.{min-le_left}
 use Rattle.std.proofs.lemmas.List.{length-take}
 use Rattle.std.proofs.lemmas.List.Elements.{All-nil, All-push}
 use Rattle.clause_base.specs.Logs.{Refutes}
+use Rattle.log_check.proofs.StepLaws.{take_get}
 use Rattle.input_space.specs.declared.case.Case.{Case}
 use Rattle.input_space.specs.declared.session.Session.{Session}
 use Rattle.input_space.specs.Sessions.{IsBacked}
@@ -11,14 +12,6 @@ use Rattle.input_space.specs.TaskCoding.{coding}
 use Rattle.input_space.specs.Tasks.{Task}
 use Rattle.input_space.specs.TaskSpace.{space}
 use Rattle.certificate_judge.specs.Passing.{Mended, no_session, as_it_is, made_anew, Pass}
-
--- one element more of a list
-pub take_get : {X : Type 0} (xs : List X) (i : ℕ) (x : X) → slice_get xs i ≡ Some x → take (i + 1) xs ≡ take i xs ++ x ∷ []
-take_get [] i x e = cc
-take_get (y ∷ ys) zero x e = (let p : y ≡ x = cc in ap (λ z. z ∷ []) p)
-take_get (y ∷ ys) (suc i) x e =
-    let more : suc i + 1 ≡ suc (i + 1) = omega arith in
-    ap (λ n. take n (y ∷ ys)) more ∙ ap (λ zs. y ∷ zs) (take_get ys i x e)
 
 push_same : {xs ys : List Session} {n : ℕ} (x : Session) → Mended xs ys n → Mended (xs ++ x ∷ []) (ys ++ x ∷ []) n
 push_same x no_session = as_it_is no_session

@@ -11,7 +11,7 @@ use Rattle.input_space.specs.TaskSpace.{case_of, is_wanted, wanted_inputs}
 use Rattle.input_space.proofs.Elements.{contained_if, map_contains}
 use Rattle.cert_text.specs.declared.cert.Cert.{Cert}
 use Rattle.certificate_judge.specs.Verdicts.{IsWrongCase}
-use Rattle.certificate_judge.proofs.Passes.{take_get}
+use Rattle.log_check.proofs.StepLaws.{take_get}
 
 pub wanted_if : (k : Task) (x : Case) → IsInput k.bounds x.values → is_wanted k x ≡ true → Contains (wanted_inputs k) x
 wanted_if k x input done = contained_if (is_wanted k) (map case_of (inputs k.bounds.params)) x (map_contains case_of (inputs k.bounds.params) x.values input) done

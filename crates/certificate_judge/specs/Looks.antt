@@ -17,7 +17,8 @@ use Rattle.certificate_judge.specs.declared.verdict.Shown.{Shown}
 use Rattle.certificate_judge.specs.declared.verdict.Shown.TheVariants as shown
 use Rattle.certificate_judge.specs.declared.look.Look.{Look}
 use Rattle.certificate_judge.specs.declared.look.Look.TheVariants as look
-use Rattle.certificate_judge.specs.Places.{DifferAt, IsBadPlace}
+use Rattle.log_check.specs.BadSteps.{IsBadPlace}
+use Rattle.certificate_judge.specs.Places.{DifferAt}
 
 -- a formula that is built for a question
 pub record IsBuilt (k : Task) (kept : List Case) (q : Query) (f : Formula) : Type 0 where

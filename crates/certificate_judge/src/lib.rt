@@ -6,7 +6,6 @@ mod difference;
 mod form;
 mod laws;
 mod look;
-mod steps;
 mod trial;
 mod verdict;
 

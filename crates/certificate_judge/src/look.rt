@@ -10,10 +10,10 @@ ghost use Rattle.query_build.specs.Asking.{AreWanted};
 use crate::NoMemory;
 use crate::anew::ask_anew;
 use crate::difference::difference;
-use crate::steps::first_bad;
 use crate::verdict::Shown;
 use clause_base::formula::Formula;
 use input_space::{Cases, Session, Task};
+use log_check::first_bad;
 use query_build::formula;
 use std::alloc::Global;
 

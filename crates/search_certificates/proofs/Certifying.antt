@@ -327,6 +327,15 @@ spent_form k kept xs b n found c few some most asked =
       sessions = sessions_kept (space k b) (coding k) kept xs few (c.search.backed) c.search.numbered asked;
     })
 
+-- sessions without cases
+pub alone_form : (k : Task) (n : ℕ) (xs : List Session) → 1 ≤ n → n ≤ 200000 → All (IsBacked (space k n) (coding k) []) xs
+    → All IsNumbered xs → All (λ x. KeepsAsked x.query) xs → KeepsForm (cert_with (claim.Spent n) [] [] (xs ++ []))
+alone_form k n xs some most backed numbered asked =
+    subst (λ ys. KeepsForm (cert_with (claim.Spent n) [] [] ys)) (sym (append-nil xs)) (record {
+      claimed = (some, most, refl);
+      sessions = sessions_kept (space k n) (coding k) [] xs (omega arith) backed numbered asked;
+    })
+
 -- how many clauses are claimed to be logged
 pub spent_many : (found : Least (List Choice)) (m n : ℕ) → claim_of found m ≡ Some (claim.Spent n) → m ≡ n
 spent_many (Found s j) m n e = absurd cc

@@ -1,17 +1,12 @@
 -- Sessions of a search keep the limits of the form of certificates.
-use Rattle.std.proofs.Common.{◌≡◌, ◌≢◌, ℕ, zero, suc, ◌+◌, ◌<◌, ◌≤◌, Bool, true, ◌&&◌, List, [], ◌∷◌, ◌++◌, length, refl, sym, ap, ◌∙◌, arith, subst, length-append}
-use Rattle.std.specs.Prelude.{All, nat_le, nat_lt}
+use Rattle.std.proofs.Common.{◌≡◌, ℕ, suc, ◌+◌, ◌≤◌, true, List, [], ◌∷◌, ◌++◌, length, refl, ap, ◌∙◌, arith}
+use Rattle.std.specs.Prelude.{All}
 use Rattle.std.specs.List.{list_all}
-use Rattle.std.proofs.lemmas.Bool.{and_from, leb-true, le-leb, lt-ltb}
+use Rattle.std.proofs.lemmas.Bool.{and_from}
 use Rattle.std.proofs.lemmas.List.Elements.{All-head, All-tail}
 use Rattle.choice_tree.specs.declared.selection.Choice.{Choice}
-use Rattle.clause_base.specs.declared.clause.Clause.{Clause}
-use Rattle.clause_base.specs.declared.lit.Lit.{Lit}
-use Rattle.clause_base.specs.declared.log.Step.{Step}
-use Rattle.clause_base.specs.Formulas.{in_range}
-use Rattle.clause_base.specs.Logs.{EachStep, StepFollows}
-use Rattle.step_lines.specs.Limits.{KeepsStep, KeepsSteps, greatest_number, is_hint, is_literal, is_number}
-use Rattle.step_lines.proofs.Apart.{all_append, both}
+use Rattle.log_check.proofs.KeptSteps.{steps_kept}
+use Rattle.step_lines.proofs.Apart.{all_append}
 use Rattle.choice_tree.specs.Choices.{Rises}
 use Rattle.cert_text.proofs.Rising.{behind_picks, picks_more, rises_more}
 use Rattle.cegis_loop.specs.Space.{Space}
@@ -23,35 +18,6 @@ use Rattle.input_space.specs.Sessions.{IsBacked, cases_of}
 use Rattle.input_space.specs.Statements.{Coding}
 use Rattle.cert_text.specs.Limits.{KeepsQuery, KeepsSession, KeepsSessions, is_choice}
 use Rattle.search_certificates.specs.Certified.{KeepsAsked}
-
-literals_kept : (vars : ℕ) (ls : List Lit) → vars ≤ 2147483647 → list_all (in_range vars) ls ≡ true → list_all (is_literal vars) ls ≡ true
-literals_kept vars [] few h = refl
-literals_kept vars (l ∷ ls) few h =
-    let r = both (in_range vars l) (list_all (in_range vars) ls) h in
-    let range = both (nat_lt 0 l.var) (nat_le l.var vars) r.0 in
-    let low = leb-true l.var vars range.1 in
-    and_from (is_literal vars l) (list_all (is_literal vars) ls)
-    (and_from (in_range vars l) (is_number l.var) r.0 (le-leb l.var 2147483647 (omega arith)))
-    (literals_kept vars ls few r.1)
-
-hints_kept : (n : ℕ) (hs : List ℕ) → n ≤ 2147483647 → All (λ h. (0 < h) × (h ≤ n)) hs → list_all (is_hint (suc n)) hs ≡ true
-hints_kept n [] few h = refl
-hints_kept n (k ∷ ks) few h =
-    let one = All-head (λ h. (0 < h) × (h ≤ n)) k ks h in
-    let low = one.1 in
-    and_from (is_hint (suc n) k) (list_all (is_hint (suc n)) ks)
-    (and_from (nat_lt 0 k) (nat_lt k (suc n) && is_number k) (lt-ltb 0 k one.0)
-    (and_from (nat_lt k (suc n)) (is_number k) (lt-ltb k (suc n) (omega arith)) (le-leb k 2147483647 (omega arith))))
-    (hints_kept n ks few (All-tail (λ h. (0 < h) × (h ≤ n)) k ks h))
-
-steps_kept : (vars : ℕ) (known : List Clause) (steps : List Step) → vars ≤ 2147483647 → length known + length steps ≤ 2147483647
-    → EachStep (StepFollows vars) known steps → KeepsSteps vars (suc (length known)) steps
-steps_kept vars known [] few many h = tt
-steps_kept vars known (s ∷ steps) few many h =
-    let n : length (known ++ s.clause ∷ []) ≡ suc (length known) = (let e = length-append known (s.clause ∷ []) in omega arith) in (
-      record { literals = literals_kept vars s.clause.lits few h.0.within; hints = hints_kept (length known) s.hints (omega arith) h.0.named },
-      subst (λ m. KeepsSteps vars (suc m) steps) n (steps_kept vars (known ++ s.clause ∷ []) steps few (omega arith) h.1),
-    )
 
 query_kept : (count : ℕ) (q : Query) → count ≤ 2147483647 → cases_of q ≤ count → KeepsAsked q → KeepsQuery count q
 query_kept count query.First few within h = tt
