@@ -19,30 +19,35 @@ use Rattle.feedback_text.specs.declared.answer.Answer as code
 use Rattle.feedback_text.specs.declared.answer.Failure as code_failure
 use Rattle.feedback_text.specs.Answers.{Corrected, NoCorrection, Spent, edit_tree}
 use Rattle.feedback_text.specs.AnswerViews.{StandsFor, failure_of}
-use Rattle.feedback_text.specs.ReportViews.{edit_of, IsReportOf, ShowsCorrection}
+use Rattle.feedback_text.specs.ReportViews.{edit_of, IsReportOf, ShowsCorrection, ShowsEdits}
 use Rattle.feedback_text.specs.Reports.{edits_text, fails_text}
 
 seen_trees : (es : List code_edit.Edit) → map edit_tree (map edit_of es) ≡ map tree.edit_of es
 seen_trees [] = refl
 seen_trees (e ∷ es) = ap (λ ts. tree.edit_of e ∷ ts) (seen_trees es)
 
--- the lines of the edits and the program of a selection
-pub shows_correction : (k : TaskParts) (s : List Choice) (w v : Weighted) (es : List code_edit.Edit) (p : List Routine) (rules : Rules) (lines text : List ℕ)
+-- the lines of the edits of a selection
+pub shows_edits : (k : TaskParts) (s : List Choice) (w : Weighted) (es : List code_edit.Edit) (rules : Rules) (text : List ℕ)
     → w ≡ tree_of (task_with k) → map tree.edit_of es ≡ edits (member_of s) w 0
-    → v ≡ tree_of (task_with k) → program_shape p ≡ plain (member_of s) v
-    → rules ≡ k.rules → lines ≡ edits_text (corrections_of rules) (map edit_of es)
+    → rules ≡ k.rules → text ≡ edits_text (corrections_of rules) (map edit_of es)
+    → ShowsEdits (task_with k) s text
+shows_edits k s w es rules text at replaced same edited = record {
+  edits = map edit_of es;
+  edits_are = seen_trees es ∙ replaced ∙ ap (λ t. edits (member_of s) t 0) at;
+  text_is = edited ∙ ap (λ rs. edits_text (corrections_of rs) (map edit_of es)) same;
+}
+
+-- and of its program
+pub shows_correction : (k : TaskParts) (s : List Choice) (v : Weighted) (p : List Routine) (lines text : List ℕ)
+    → ShowsEdits (task_with k) s lines → v ≡ tree_of (task_with k) → program_shape p ≡ plain (member_of s) v
     → text ≡ lines ++ codes "program\n" ++ program_text p
     → ShowsCorrection (task_with k) s text
-shows_correction k s w v es p rules lines text at_w replaced at_v made same edited all =
-    record {
-      edits = map edit_of es;
-      program = p;
-      makes = record {
-        program = made ∙ ap (plain (member_of s)) at_v;
-        edits_are = seen_trees es ∙ replaced ∙ ap (λ t. edits (member_of s) t 0) at_w;
-      };
-      text_is = all ∙ ap (λ ls. ls ++ codes "program\n" ++ program_text p) (edited ∙ ap (λ rs. edits_text (corrections_of rs) (map edit_of es)) same);
-    }
+shows_correction k s v p lines text shows at made all = record {
+  edits = shows.edits;
+  program = p;
+  makes = record { program = made ∙ ap (plain (member_of s)) at; edits_are = shows.edits_are };
+  text_is = all ∙ ap (λ ls. ls ++ codes "program\n" ++ program_text p) shows.text_is;
+}
 
 regroup : (a b c d : List ℕ) → a ++ (b ++ c ++ d) ≡ a ++ b ++ c ++ d
 regroup a b c d = simp append_assoc

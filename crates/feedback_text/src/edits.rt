@@ -103,7 +103,7 @@ fn rule_by<'a>(rules: &'a Rules, edit: &Edit) -> Option<&'a Rule>
 ///
 /// The message is what the rule says, read once from left to right, with each `{line}`, `{old}`,
 /// `{new}` and `{cost}` replaced; where the rule says nothing it is `replace OLD by NEW`.
-pub fn edit_lines(alloc: Global, rules: &Rules, edits: &Edits) -> Result<Vec<u8>, NoMemory>
+pub fn rule_lines(alloc: Global, rules: &Rules, edits: &Edits) -> Result<Vec<u8>, NoMemory>
     ensures { IfOk result (λ v. v.items ≡ edits_text (corrections_of rules.now)
         (map edit_of edits.now.items.items)) }
 {

@@ -2,13 +2,13 @@
 ghost use Rattle.std.specs.Prelude.{IfOk};
 ghost use Rattle.choice_tree.specs.Selections.{Fits};
 ghost use Rattle.feedback_text.specs.AnswerViews.{IsReported};
-ghost use Rattle.feedback_text.specs.ReportViews.{IsReportOf, ShowsCorrection};
+ghost use Rattle.feedback_text.specs.ReportViews.{IsReportOf, ShowsCorrection, ShowsEdits};
 ghost use Rattle.input_space.specs.TaskParts.{task_with};
 ghost use Rattle.input_space.specs.Tasks.{tree_of};
 
 use crate::NoMemory;
 use crate::answer::Answer;
-use crate::edits::edit_lines;
+use crate::edits::rule_lines;
 use crate::failures::fails_line;
 use crate::texts::push_number;
 use choice_tree::{Selection, edits, plain};
@@ -16,14 +16,23 @@ use input_space::Task;
 use mpy_printer::print_prog;
 use std::alloc::Global;
 
-/// The lines for what a selection makes: its edits and its program.
-fn correction_lines(alloc: Global, task: &Task, selection: &Selection) -> Result<Vec<u8>, NoMemory>
-    requires { Fits (tree_of (task_with task.now)) selection.now }
-    ensures { IfOk result (λ v. ShowsCorrection (task_with task.now) selection.now v.items) }
+/// The lines for the edits by which a selection makes its program, one for each, in order of place.
+pub fn edit_lines(alloc: Global, t: &Task, s: &Selection) -> Result<Vec<u8>, NoMemory>
+    requires { Fits (tree_of (task_with t.now)) s.now }
+    ensures { IfOk result (λ v. ShowsEdits (task_with t.now) s.now v.items) }
 {
-    let edits = edits(alloc, task.tree(), selection)?;
-    let program = plain(alloc, task.tree(), selection)?;
-    let mut text = edit_lines(alloc, task.rules(), &edits)?;
+    let edits = edits(alloc, t.tree(), s)?;
+    let lines = rule_lines(alloc, t.rules(), &edits)?;
+    Ok(lines)
+}
+
+/// The lines for what a selection makes: its edits, `program` and its program.
+pub fn correction_lines(alloc: Global, t: &Task, s: &Selection) -> Result<Vec<u8>, NoMemory>
+    requires { Fits (tree_of (task_with t.now)) s.now }
+    ensures { IfOk result (λ v. ShowsCorrection (task_with t.now) s.now v.items) }
+{
+    let program = plain(alloc, t.tree(), s)?;
+    let mut text = edit_lines(alloc, t, s)?;
     text.extend_from_slice(b"program\n")?;
     text.extend_from_slice(print_prog(alloc, &program)?.as_slice())?;
     Ok(text)

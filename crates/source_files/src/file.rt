@@ -21,8 +21,8 @@ pub struct File<'a> {
 }
 
 /// How many bytes a file may have that is this to its command: a certificate, or a proof,
-/// 1,073,741,824; a formula, which is no source of a task but named by a word alone, 67,108,864;
-/// and any other source 65,536.
+/// 1,073,741,824; a formula, which is no source of a task but the file that a command's first word
+/// names, 67,108,864; and any other source, also a program that a later word names, 65,536.
 pub fn limit_of(source: Source) -> u64
     ensures value { result ≡ limit_of source }
     ensures fetched { result ≤ 1073741824 }
@@ -30,6 +30,7 @@ pub fn limit_of(source: Source) -> u64
     match source {
         Source::Bounds | Source::Reference | Source::Submission | Source::Rules => SOURCE_LIMIT,
         Source::Cert => CERT_LIMIT,
-        Source::Word(_) => FORMULA_LIMIT,
+        Source::Word(1) => FORMULA_LIMIT,
+        Source::Word(_) => SOURCE_LIMIT,
     }
 }

@@ -20,7 +20,7 @@ pub fn entry_line(bounds: &Bounds, program: &Prog) -> u32
 }
 
 /// The type of what the entry gives, where it has one.
-pub(crate) fn result_type(bounds: &Bounds, program: &Prog, types: &Types) -> Option<Ty>
+pub fn result_type(bounds: &Bounds, program: &Prog, types: &Types) -> Option<Ty>
     ensures { result ≡ result_type bounds.now (routines_of program.now) types.now.facts }
 {
     let known = FactList {

@@ -12,7 +12,7 @@ mod rules;
 mod task;
 
 pub use bounds::read_task_bounds;
-pub use entry::entry_line;
+pub use entry::{entry_line, result_type};
 pub use error::TaskError;
 pub use laws::{
     not_task_and_refused, not_typed_and_refused, one_program_refusal, one_task, one_task_refusal,
