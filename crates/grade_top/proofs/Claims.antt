@@ -1,5 +1,5 @@
 -- What follows from how a command ends.
-use Rattle.std.proofs.Common.{◌≡◌, ℕ, List, [], Option, inl, inr, refl, subst}
+use Rattle.std.proofs.Common.{◌≡◌, ℕ, zero, suc, List, [], Option, inl, inr, refl, subst}
 use Rattle.grade_io.specs.Devices.{Devices, ShelfState, SinkState, devices}
 use Rattle.grade_io.specs.Says.{Says}
 use Rattle.grade_io.specs.Written.{Wrote}
@@ -22,13 +22,15 @@ use Rattle.grade_core.specs.Commands.{Graded, IsGradedAs, answer_text, empty_ref
 use Rattle.grade_core.specs.Decisions.{task_step}
 use Rattle.check_core.proofs.CheckClaims.{said_no_usage}
 use Rattle.formula_commands.proofs.SatClaims as sat
+use Rattle.list_command.specs.Decisions.{AllAnswer, AsGraded, Best, Listed, TooMany, Unlisted}
+use Rattle.list_command.specs.Texts.{all_status}
 use Rattle.formula_commands.proofs.UnsatClaims as unsat
 use Rattle.grade_core.proofs.GradeClaims.{empty_as, empty_found, graded_as}
 use Rattle.grade_core.proofs.OneGrading.{one_task_step}
 use Rattle.grade_top.specs.Commands.{AnswerOf, file_command, files_of, line_of, run_command, run_files, sample_budget, sample_command, sample_word, usage_command}
 use Rattle.grade_top.specs.Decisions.{run_step, sample_texts}
 use Rattle.grade_top.specs.Reports.{run_text, sample_report, usage_text}
-use Rattle.grade_top.specs.Words.{Command, Grade, Check, Run, Sample, Sat, Unsat, Nothing, RunWords}
+use Rattle.grade_top.specs.Words.{Command, Grade, Check, Run, Sample, All, Sat, Unsat, Nothing, RunWords}
 use Rattle.grade_top.proofs.OneOutcome.{not_both, one_refuses, one_run_step}
 
 -- USAGE
@@ -40,11 +42,19 @@ answer_no_usage (NoCorrection fails) e = cc
 answer_no_usage EmptyReference e = cc
 answer_no_usage (Spent n b) e = cc
 
+all_no_usage : (a : AllAnswer) → status.Usage ≡ all_status a → ⊥
+all_no_usage (Listed k zero (Best changes whole)) e = cc
+all_no_usage (Listed k (suc n) (Best changes whole)) e = cc
+all_no_usage (Listed k cost TooMany) e = cc
+all_no_usage (Listed k cost (Unlisted cert)) e = cc
+all_no_usage (AsGraded x) e = answer_no_usage x.answer e
+
 never_usage : (c : Command) → (c ≡ Nothing → ⊥) → (a : AnswerOf c) → status.Usage ≡ (file_command c).status a → ⊥
 never_usage (Grade g) some a e = answer_no_usage a.answer e
 never_usage (Check w) some a e = said_no_usage a.said e
 never_usage (Run w) some a e = cc
 never_usage (Sample n) some a e = answer_no_usage a.answer e
+never_usage (All w) some a e = all_no_usage a e
 never_usage (Sat w) some a e = sat.no_usage a e
 never_usage (Unsat w) some a e = unsat.no_usage a e
 never_usage Nothing some a e = some refl

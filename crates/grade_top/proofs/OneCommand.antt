@@ -1,14 +1,15 @@
 -- Words ask for one command.
-use Rattle.std.proofs.Common.{◌≡◌, sym, ap, ◌∙◌, arith, refl, List, [], ◌∷◌, ℕ, eq-eqb, false, true}
+use Rattle.std.proofs.Common.{◌≡◌, sym, ap, ◌∙◌, arith, refl, List, [], ◌∷◌, ℕ, eq-eqb, false, true, ◌==◌}
 use Rattle.std.specs.Fmt.{decimal}
 use Rattle.std.proofs.lemmas.Fmt.{decimal_injective}
 use Rattle.check_core.specs.Words.{CheckWords}
 use Rattle.formula_commands.specs.Words.{SatWords, UnsatWords}
 use Rattle.grade_core.specs.Words.{GradeWords}
+use Rattle.list_command.specs.Words.{AllWords}
 use Rattle.grade_top.specs.Requests.{command_of}
 use Rattle.grade_top.specs.declared.words.Command as code_command
-use Rattle.grade_top.specs.Words.{Command, Grade, Check, Run, Sample, Sat, Unsat, Nothing, RunWords, Asks, grade_words, check_words, run_words, sample_words, sat_words, unsat_words}
-use Rattle.grade_top.specs.Words.{AsksGrade, AsksCheck, AsksRun, AsksSample, AsksSat, AsksUnsat}
+use Rattle.grade_top.specs.Words.{Command, Grade, Check, Run, Sample, All, Sat, Unsat, Nothing, RunWords, Asks, grade_words, check_words, run_words, sample_words, sat_words, unsat_words, all_words}
+use Rattle.grade_top.specs.Words.{AsksGrade, AsksCheck, AsksRun, AsksSample, AsksAll, AsksSat, AsksUnsat}
 
 make : (bounds reference submission rules cert : List ℕ) (budget : ℕ) → GradeWords
 make bounds reference submission rules cert budget = record { bounds = bounds; reference = reference; submission = submission; rules = rules; cert = cert; budget = budget }
@@ -132,6 +133,30 @@ no_sample_unsat words n w sample unsat = let no : sample_words n ≡ unsat_words
 no_sat_unsat : (words : List (List ℕ)) (v : SatWords) (w : UnsatWords) → AsksSat words v → AsksUnsat words w → ⊥
 no_sat_unsat words v w sat unsat = let no : sat_words v ≡ unsat_words w = sym sat.0 ∙ unsat in cc
 
+-- words that begin otherwise are of another command
+abbrev first_of : List (List ℕ) → ℕ
+first_of words = first_byte (first_word words)
+
+differ : (words xs ys : List (List ℕ)) → words ≡ xs → words ≡ ys → (first_of xs == first_of ys) ≡ false → ⊥
+differ words xs ys here there other = apart (sym other ∙ eq-eqb (first_of xs) (first_of ys) (ap first_of (sym here ∙ there)))
+
+make_all : (bounds reference submission rules : List ℕ) (most budget : ℕ) → AllWords
+make_all bounds reference submission rules most budget = record { bounds = bounds; reference = reference; submission = submission; rules = rules; most = most; budget = budget }
+
+made_all : (w v : AllWords) → all_words w ≡ all_words v → w.most ≡ v.most → w.budget ≡ v.budget
+    → make_all w.bounds w.reference w.submission w.rules w.most w.budget ≡ make_all v.bounds v.reference v.submission v.rules v.most v.budget
+made_all w v words most budget = cc
+
+same_all : (words : List (List ℕ)) (w v : AllWords) → AsksAll words w → AsksAll words v → w ≡ v
+unfolding make_all
+same_all words w v asks other =
+    let e : all_words w ≡ all_words v = sym asks.0 ∙ other.0 in
+    let mosts : decimal w.most ≡ decimal v.most = cc in
+    let budgets : decimal w.budget ≡ decimal v.budget = cc in
+    let most : w.most ≡ v.most = decimal_injective w.most v.most (omega (arith, asks.1.most)) (omega (arith, other.1.most)) mosts in
+    let budget : w.budget ≡ v.budget = decimal_injective w.budget v.budget (omega (arith, asks.2.most)) (omega (arith, other.2.most)) budgets in
+    made_all w v e most budget
+
 pub one_command : (words : List (List ℕ)) (c d : Command) → Asks words c → Asks words d → c ≡ d
 one_command words (Grade g) (Grade h) asks other = ap Grade (same_words words g h asks other)
 one_command words (Grade g) (Check w) asks other = absurd (no_grade_check words g w asks other)
@@ -181,6 +206,21 @@ one_command words (Unsat w) (Unsat v) asks other = ap Unsat (same_unsat words w 
 one_command words (Unsat w) Nothing asks other = absurd (other.no_unsat w asks)
 one_command words Nothing (Sat w) asks other = absurd (asks.no_sat w other)
 one_command words Nothing (Unsat w) asks other = absurd (asks.no_unsat w other)
+one_command words (Grade g) (All p) asks other = absurd (differ words (grade_words g) (all_words p) asks.0 other.0 refl)
+one_command words (All p) (Grade g) asks other = absurd (differ words (all_words p) (grade_words g) asks.0 other.0 refl)
+one_command words (Check w) (All p) asks other = absurd (differ words (check_words w) (all_words p) asks other.0 refl)
+one_command words (All p) (Check w) asks other = absurd (differ words (all_words p) (check_words w) asks.0 other refl)
+one_command words (Run w) (All p) asks other = absurd (differ words (run_words w) (all_words p) asks.0 other.0 refl)
+one_command words (All p) (Run w) asks other = absurd (differ words (all_words p) (run_words w) asks.0 other.0 refl)
+one_command words (Sample n) (All p) asks other = absurd (differ words (sample_words n) (all_words p) asks.0 other.0 refl)
+one_command words (All p) (Sample n) asks other = absurd (differ words (all_words p) (sample_words n) asks.0 other.0 refl)
+one_command words (Sat w) (All p) asks other = absurd (differ words (sat_words w) (all_words p) asks.0 other.0 refl)
+one_command words (All p) (Sat w) asks other = absurd (differ words (all_words p) (sat_words w) asks.0 other.0 refl)
+one_command words (Unsat w) (All p) asks other = absurd (differ words (unsat_words w) (all_words p) asks other.0 refl)
+one_command words (All p) (Unsat w) asks other = absurd (differ words (all_words p) (unsat_words w) asks.0 other refl)
+one_command words (All w) (All v) asks other = ap All (same_all words w v asks other)
+one_command words (All w) Nothing asks other = absurd (other.no_all w asks)
+one_command words Nothing (All w) asks other = absurd (asks.no_all w other)
 one_command words Nothing Nothing asks other = refl
 
 -- a command that was read is one
@@ -190,4 +230,5 @@ asks_something (code_command.TheVariants.Check w) is = cc
 asks_something (code_command.TheVariants.Run w) is = cc
 asks_something (code_command.TheVariants.Sample n) is = cc
 asks_something (code_command.TheVariants.Sat w) is = cc
+asks_something (code_command.TheVariants.All w) is = cc
 asks_something (code_command.TheVariants.Unsat w) is = cc

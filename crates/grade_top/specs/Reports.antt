@@ -20,6 +20,7 @@ usage_text =
     ++ codes "       mpygrade check BOUNDS REF SUB RULES CERT\n"
     ++ codes "       mpygrade run BOUNDS PROG VALUE..\n"
     ++ codes "       mpygrade sample NUMBER\n"
+    ++ codes "       mpygrade all BOUNDS REF SUB RULES MOST BUDGET\n"
     ++ codes "       mpygrade sat CNF LOG BUDGET\n"
     ++ codes "       mpygrade unsat CNF LOG\n"
 

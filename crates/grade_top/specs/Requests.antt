@@ -4,7 +4,9 @@ use Rattle.std.specs.String.{string_bytes}
 use Rattle.check_core.specs.Requests.{check_of}
 use Rattle.formula_commands.specs.Requests.{sat_of, unsat_of}
 use Rattle.grade_core.specs.Requests.{grade_of}
-use Rattle.grade_top.specs.Words.{RunWords, Command, Grade, Check, Run, Sample, Sat, Unsat}
+use Rattle.list_command.specs.Requests.{all_of}
+use Rattle.grade_top.specs.Words.{RunWords, Command, Grade, Check, Run, Sample, All, Sat}
+use Rattle.grade_top.specs.Words.{Unsat}
 use Rattle.grade_top.specs.declared.words.RunWords as code_run
 use Rattle.grade_top.specs.declared.words.Command as code_command
 
@@ -20,5 +22,6 @@ command_of (code_command.TheVariants.Grade w) = Grade (grade_of w)
 command_of (code_command.TheVariants.Check w) = Check (check_of w)
 command_of (code_command.TheVariants.Run w) = Run (run_of w)
 command_of (code_command.TheVariants.Sample n) = Sample n
+command_of (code_command.TheVariants.All w) = All (all_of w)
 command_of (code_command.TheVariants.Sat w) = Sat (sat_of w)
 command_of (code_command.TheVariants.Unsat w) = Unsat (unsat_of w)

@@ -15,6 +15,7 @@ use check_core::check;
 use formula_commands::{sat, unsat};
 use grade_core::grade;
 use grade_io::{Shelf, Sink, Status, say};
+use list_command::all;
 use std::alloc::Global;
 
 const USAGE: &str = concat!(
@@ -22,6 +23,7 @@ const USAGE: &str = concat!(
     "       mpygrade check BOUNDS REF SUB RULES CERT\n",
     "       mpygrade run BOUNDS PROG VALUE..\n",
     "       mpygrade sample NUMBER\n",
+    "       mpygrade all BOUNDS REF SUB RULES MOST BUDGET\n",
     "       mpygrade sat CNF LOG BUDGET\n",
     "       mpygrade unsat CNF LOG\n",
 );
@@ -45,6 +47,7 @@ pub(crate) fn answer<S: Shelf, K: Sink>(
         Command::Check(words) => check(alloc, words, shelf, out),
         Command::Run(words) => run_command(alloc, words, shelf, out),
         Command::Sample(number) => sample_command(alloc, *number as u32, out),
+        Command::All(words) => all(alloc, words, shelf, out),
         Command::Sat(words) => sat(alloc, words, shelf, out),
         Command::Unsat(words) => unsat(alloc, words, shelf, out),
     }

@@ -29,7 +29,9 @@ ghost use Rattle.grade_top.specs.Decisions.{run_step, sample_texts};
 ghost use Rattle.grade_top.specs.PrintedPrograms.{PrintsCorrection};
 ghost use Rattle.grade_top.specs.Reports.{run_text};
 ghost use Rattle.grade_top.specs.Words.{Asks, Check, Command, Grade, Nothing, Run, RunWords};
-ghost use Rattle.grade_top.specs.Words.{Sample, Sat, Unsat};
+ghost use Rattle.grade_top.specs.Words.{All, Sample, Sat, Unsat};
+ghost use Rattle.list_command.specs.Claims.{HasMany, IsListedFor, IsManyOrSpent, PrintsBest};
+ghost use Rattle.list_command.specs.Words.{AllWords};
 
 mod command;
 mod laws;
@@ -52,10 +54,10 @@ use std::alloc::Global;
 /// The files of a command are fetched in order and read, and what they decide is written: by
 /// `grade` the cheapest correction of a submission, behind a certificate of it that is stored
 /// under the word `CERT`; by `check` what is said of a certificate, whatever wrote it; by `run`
-/// what a program gives on values; by `sat` values that satisfy a formula, or that none do, behind
-/// a proof of it that is stored under the word `LOG`; by `unsat` what is said of a proof, whatever
-/// wrote it. By `sample` a task is made from a number and graded, and how large it is and what its
-/// correction costs is written.
+/// what a program gives on values; by `all` every cheapest correction; by `sat` values that satisfy
+/// a formula, or that none do, behind a proof of it that is stored under the word `LOG`; by `unsat`
+/// what is said of a proof, whatever wrote it. By `sample` a task is made from a number and graded,
+/// and how large it is and what its correction costs is written.
 pub fn grade_top<S: Shelf, K: Sink>(
     alloc: Global,
     words: &Vec<String>,
@@ -130,6 +132,39 @@ pub fn grade_top<S: Shelf, K: Sink>(
         → NoFault (devices (S.seen shelf.old) (K.seen out.old))
         (devices (S.seen shelf.new) (K.seen out.new))
         → IsSaid (run_text o) Status.Correct (K.seen out.old) (K.seen out.new) result }
+    // Where `all` ends with Correct or Corrected, the first of the best list were written.
+    ensures all_correct { (w : AllWords) → Asks (map string_bytes words.now.items) (All w)
+        → result ≡ Status.Correct
+        → PrintsBest w (devices (S.seen shelf.old) (K.seen out.old))
+        (devices (S.seen shelf.new) (K.seen out.new)) }
+    ensures all_corrected { (w : AllWords) → Asks (map string_bytes words.now.items) (All w)
+        → result ≡ Status.Corrected
+        → PrintsBest w (devices (S.seen shelf.old) (K.seen out.old))
+        (devices (S.seen shelf.new) (K.seen out.new)) }
+    // A task that nothing refuses is listed, unless a device failed or memory lacked; and where too
+    // many selections have its least cost, that is answered, or the budget is spent.
+    ensures listed { (w : AllWords) (ts : List (List ℕ)) (k : Task)
+        → Asks (map string_bytes words.now.items) (All w)
+        → AreTold (devices (S.seen shelf.old) (K.seen out.old)) (files_of (All w)) ts
+        → (task_step ts).gives k
+        → NoFault (devices (S.seen shelf.old) (K.seen out.old))
+        (devices (S.seen shelf.new) (K.seen out.new))
+        → IsListedFor k result }
+    ensures many { (w : AllWords) (ts : List (List ℕ)) (k : Task)
+        → Asks (map string_bytes words.now.items) (All w)
+        → AreTold (devices (S.seen shelf.old) (K.seen out.old)) (files_of (All w)) ts
+        → (task_step ts).gives k → HasMany k
+        → NoFault (devices (S.seen shelf.old) (K.seen out.old))
+        (devices (S.seen shelf.new) (K.seen out.new))
+        → IsManyOrSpent w k (K.seen out.old) (K.seen out.new) result }
+    ensures empty_list { (w : AllWords) (ts : List (List ℕ)) (k : Task)
+        → Asks (map string_bytes words.now.items) (All w)
+        → AreTold (devices (S.seen shelf.old) (K.seen out.old)) (files_of (All w)) ts
+        → (task_step ts).gives k → (HasWanted k → ⊥)
+        → NoFault (devices (S.seen shelf.old) (K.seen out.old))
+        (devices (S.seen shelf.new) (K.seen out.new))
+        → IsRefusedOrSpent (refusal_text w.reference (empty_reference k))
+        (K.seen out.old) (K.seen out.new) result }
     // Values that `sat` writes make each clause of the file true.
     ensures satisfiable { (w : SatWords) → Asks (map string_bytes words.now.items) (Sat w)
         → result ≡ Status.Correct

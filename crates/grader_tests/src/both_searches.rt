@@ -11,7 +11,7 @@ use task_read::read_task;
 use task_search::search;
 
 /// The task of these texts, if they are short and nothing refuses it.
-fn read(alloc: Global, texts: Texts<'_>) -> Option<Task> {
+pub(crate) fn read(alloc: Global, texts: Texts<'_>) -> Option<Task> {
     let bounds = texts.bounds.as_bytes();
     let reference = texts.reference.as_bytes();
     let submission = texts.submission.as_bytes();

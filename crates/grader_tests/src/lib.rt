@@ -23,6 +23,8 @@ mod host;
 #[cfg(test)]
 mod layout;
 #[cfg(test)]
+mod listings;
+#[cfg(test)]
 mod refusals;
 #[cfg(test)]
 mod requests;

@@ -2,6 +2,8 @@
 #![tactic(auto)]
 
 #[cfg(test)]
+mod live;
+#[cfg(test)]
 mod matching;
 #[cfg(test)]
 mod messages;

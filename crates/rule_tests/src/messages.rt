@@ -2,7 +2,7 @@
 
 use crate::rule_files::read;
 use choice_tree::{Edit, Edits};
-use feedback_text::edit_lines;
+use feedback_text::rule_lines;
 use mpy_tree::{ArithOp, Expr, Name};
 use std::alloc::Global;
 use std::test::Fail;
@@ -51,7 +51,7 @@ fn lines(alloc: Global, file: &str, by: &[u32]) -> Result<Vec<u8>, Fail> {
     for rule in by {
         items.push(replacement(alloc, *rule)?)?;
     }
-    Ok(edit_lines(alloc, &rules, &Edits { items })?)
+    Ok(rule_lines(alloc, &rules, &Edits { items })?)
 }
 
 #[test]

@@ -101,7 +101,7 @@ fn trees_are_counted(rt: HostRuntime) -> Result<(), Fail> {
 }
 
 /// The choices as pairs of a pick and a member.
-fn pairs_of(alloc: Global, s: &Selection) -> Result<Vec<(u32, u32)>, Fail> {
+pub(crate) fn pairs_of(alloc: Global, s: &Selection) -> Result<Vec<(u32, u32)>, Fail> {
     let mut pairs = Vec::new(alloc);
     for choice in s.items() {
         pairs.push((choice.pick, choice.member))?;

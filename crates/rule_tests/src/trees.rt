@@ -85,3 +85,30 @@ pub fn three_rules(alloc: Global) -> Result<WProg, Fail> {
         },
     )
 }
+
+/// 0, or 1 by a member at each of these costs.
+fn zero_or_one(alloc: Global, number: u32, costs: &[u32]) -> Result<WExpr, Fail> {
+    let base = Box::new(alloc, WExpr::Int(0))?;
+    let mut items = Vec::new(alloc);
+    for cost in costs {
+        items.push(member(0, *cost, WExpr::Int(1)))?;
+    }
+    let others = Others { items };
+    Ok(WExpr::Pick {
+        number,
+        base,
+        others,
+    })
+}
+
+/// A sum of picks, each by the costs of its members.
+pub fn sum_of_picks(alloc: Global, picks: &[&[u32]]) -> Result<WProg, Fail> {
+    let mut sum = WExpr::Int(0);
+    for (i, costs) in picks.iter().enumerate() {
+        let number = u32::try_from(i).ok().ok_or("too many picks")?;
+        let left = Box::new(alloc, sum)?;
+        let right = Box::new(alloc, zero_or_one(alloc, number, *costs)?)?;
+        sum = WExpr::Arith(ArithOp::Add, left, right);
+    }
+    returning(alloc, sum)
+}

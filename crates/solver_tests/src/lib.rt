@@ -17,6 +17,8 @@ mod formulas;
 #[cfg(test)]
 mod graph;
 #[cfg(test)]
+mod lanes;
+#[cfg(test)]
 mod numbers;
 #[cfg(test)]
 mod operations;

@@ -28,6 +28,18 @@ returns-in-Run-clause-calls g c = rw c.in-Run.is c.run_command.ensures.calls
 pub returns-in-Sample-clause-ends : goal.returns-in-Sample-clause-ends
 returns-in-Sample-clause-ends g c = rw c.in-Sample.is (c.sample_command.ensures (g.S.Shelf.seen c.args.shelf.now))
 
+pub all-requires-clause-most : goal.all-requires-clause-most
+all-requires-clause-most g c = (rw c.in-All.is at c.requires.asks).1
+
+pub all-requires-clause-budget : goal.all-requires-clause-budget
+all-requires-clause-budget g c = (rw c.in-All.is at c.requires.asks).2
+
+pub returns-in-All-clause-ends : goal.returns-in-All-clause-ends
+returns-in-All-clause-ends g c = rw c.in-All.is c.all.ensures.ends
+
+pub returns-in-All-clause-calls : goal.returns-in-All-clause-calls
+returns-in-All-clause-calls g c = rw c.in-All.is c.all.ensures.calls
+
 pub returns-in-Sat-clause-ends : goal.returns-in-Sat-clause-ends
 returns-in-Sat-clause-ends g c = rw c.in-Sat.is c.sat.ensures.ends
 

@@ -1,0 +1,10 @@
+pub mod FirstLaws
+pub mod Programs
+pub mod Bests
+pub mod Asked
+pub mod LiveFits
+pub mod BestLaws
+pub mod Verdicts
+pub mod Stepping
+pub mod Walked
+pub mod Spending

@@ -1,0 +1,3 @@
+pub mod BestLists
+pub mod Answers
+pub mod Listings

@@ -1,0 +1,2 @@
+pub mod AllClaims
+mod Listed

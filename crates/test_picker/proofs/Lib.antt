@@ -1,0 +1,10 @@
+pub mod Comparisons
+pub mod TypedRuns
+pub mod Places
+pub mod Failures
+pub mod Choices
+pub mod LaneFacts
+pub mod BlockLaws
+pub mod Searches
+pub mod MarkLaws
+pub mod PickAll

@@ -1,0 +1,9 @@
+pub mod Programs
+pub mod Failing
+pub mod Choosing
+pub mod PickLaws
+pub mod Picks
+pub mod Comparing
+pub mod LaneInputs
+pub mod Settings
+pub mod Findings
