@@ -172,16 +172,14 @@ def check_changed(example, output, lines):
 
 DOCUMENT_EXAMPLE = re.compile(r'`examples/(\w+)/([\w-]+)\.py`:\n\n```\n(.*?)```', re.DOTALL)
 DOCUMENT_SENTENCE = re.compile(r'^\| .* \| `([A-Z]\w+)` \| (\S.*\.) \|$', re.MULTILINE)
-README_EXAMPLE = re.compile(r'reference\.py ([\w-]+)\.py [^\n]*\n\$ [^\n]* mpyexplain [^\n]*\n(.*?)```', re.DOTALL)
 
 
 def check_documents():
-    """That `docs/explain.md` and the README show what is told of the examples that they name."""
+    """That `docs/explain.md` shows what is told of the examples that it names."""
     document = (TOP / 'docs' / 'explain.md').read_text()
     for cause, told in DOCUMENT_SENTENCE.findall(document):
         check(any(re.fullmatch(form_of(row.says), told) for row in texts.TABLE[cause]), 'no row of', cause, 'says', told)
     found = DOCUMENT_EXAMPLE.findall(document)
-    found += [('largest', *example) for example in README_EXAMPLE.findall((TOP / 'README.md').read_text())]
     for folder, name, shown in found:
         _, lines = explained(TOP / 'examples' / folder, name)
         told = '\n'.join(lines).replace(str(TOP / 'examples' / folder) + '/', '') + '\n'
