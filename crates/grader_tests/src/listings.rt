@@ -1,11 +1,10 @@
 //! All least corrections of a submission.
 
 use crate::both_searches::read;
-use crate::requests::{Texts, shelf_of, text_of};
-use grade_io::{MemSink, Status};
+use crate::requests::{Texts, answered, shelf_of, words};
+use grade_top::Status;
 use input_space::Task;
 use least_all::{Best, count_live, list_best};
-use list_command::{AllWords, all};
 use std::alloc::Global;
 use std::test::Fail;
 
@@ -17,26 +16,20 @@ const LESS: Texts<'static> = Texts {
     rules: "rule ret: return $a => return {$a + 1, 1 + $a}\n",
 };
 
-/// The status of `all`, and what is written, with these numbers.
-fn listed(
-    alloc: Global,
-    texts: Texts<'_>,
-    most: u32,
-    budget: u32,
-) -> Result<(Status, String), Fail> {
-    let words = AllWords {
-        bounds: "b.txt",
-        reference: "ref.py",
-        submission: "sub.py",
-        rules: "rules.eml",
+/// The status of `all` with so many corrections, and what is written.
+fn listed(alloc: Global, texts: Texts<'_>, most: &str) -> Result<(Status, String), Fail> {
+    let all = [
+        "all",
+        "b.txt",
+        "ref.py",
+        "sub.py",
+        "rules.eml",
         most,
-        budget,
-    };
+        "200000",
+    ];
+    let words = words(alloc, all.as_slice())?;
     let mut shelf = shelf_of(alloc, texts, Vec::new(alloc))?;
-    let mut out = MemSink::new(alloc, 1000, Vec::new(alloc));
-    let status = all(alloc, &words, &mut shelf, &mut out);
-    let text = text_of(Vec::from_slice(alloc, out.bytes())?)?;
-    Ok((status, text))
+    answered(alloc, &words, &mut shelf)
 }
 
 /// Each row: a request, how many corrections are asked for, the status, and what is written. The
@@ -47,19 +40,19 @@ fn corrections_are_listed(rt: HostRuntime) -> Result<(), Fail> {
     let rows = [
         (
             LESS,
-            5,
+            "5",
             Status::Corrected,
             "cost 1\nfound 2, whole\ncorrection 1\nline 2 [ret, 1]: replace x by x + 1\nprogram\ndef f(x):\n    return x + 1\ncorrection 2\nline 2 [ret, 1]: replace x by 1 + x\nprogram\ndef f(x):\n    return 1 + x\n",
         ),
         (
             LESS,
-            1,
+            "1",
             Status::Corrected,
             "cost 1\nfound 1, more\ncorrection 1\nline 2 [ret, 1]: replace x by x + 1\nprogram\ndef f(x):\n    return x + 1\n",
         ),
         (
             LESS,
-            2,
+            "2",
             Status::Corrected,
             "cost 1\nfound 2, whole\ncorrection 1\nline 2 [ret, 1]: replace x by x + 1\nprogram\ndef f(x):\n    return x + 1\ncorrection 2\nline 2 [ret, 1]: replace x by 1 + x\nprogram\ndef f(x):\n    return 1 + x\n",
         ),
@@ -68,7 +61,7 @@ fn corrections_are_listed(rt: HostRuntime) -> Result<(), Fail> {
                 rules: "rule one: return $a => return {$a + 1, $a - 1}\nrule two: return $a => return $a + 1\n",
                 ..LESS
             },
-            5,
+            "5",
             Status::Corrected,
             "cost 1\nfound 1, whole\ncorrection 1\nline 2 [one, 1]: replace x by x + 1\nprogram\ndef f(x):\n    return x + 1\n",
         ),
@@ -77,7 +70,7 @@ fn corrections_are_listed(rt: HostRuntime) -> Result<(), Fail> {
                 rules: "rule less: return $a => return $a - 1\n",
                 ..LESS
             },
-            5,
+            "5",
             Status::NoCorrection,
             "no correction\nfails f(4): gives 4, wanted 5\n",
         ),
@@ -86,13 +79,13 @@ fn corrections_are_listed(rt: HostRuntime) -> Result<(), Fail> {
                 submission: LESS.reference,
                 ..LESS
             },
-            5,
+            "5",
             Status::Correct,
             "cost 0\nfound 1, whole\ncorrection 1\nprogram\ndef f(x):\n    return x + 1\n",
         ),
     ];
     for (texts, most, status, text) in rows {
-        let (ended, written) = listed(alloc, texts, most, 200_000)?;
+        let (ended, written) = listed(alloc, texts, most)?;
         assert_eq!(rt; ended, status);
         assert_eq!(rt; written.as_str(), text);
     }

@@ -80,7 +80,7 @@ pub(crate) fn shelf_of(
 }
 
 /// Bytes as a text.
-pub(crate) fn text_of(bytes: Vec<u8>) -> Result<String, Fail> {
+fn text_of(bytes: Vec<u8>) -> Result<String, Fail> {
     match String::from_utf8(bytes) {
         Ok(text) => Ok(text),
         Err(_) => Err("no text")?,
