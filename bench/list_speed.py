@@ -1,0 +1,112 @@
+#!/usr/bin/env python3
+"""Counts what listing all corrections takes beside solving its questions, in instructions, by callgrind.
+
+    bench/list_speed.py [PROGRAM] [--all]
+
+PROGRAM is crates/grader_cli/out/grader_cli unless it is given; `valgrind` and `nm` are on the path. `all` is run, with MOST 100, on
+one mended submission of each assignment of the examples within the small bounds, and with `--all` on each of them. Counted are the
+instructions within `list_best`, and of these the ones within `solve`, each with all that it calls: neither what the search before
+takes nor the time of the machine has a part in it. For each assignment: the submissions, the questions, the thousands of
+instructions of both, how many times those of `solve` all of the listing takes, and the greatest such ratio of a submission.
+
+Below stand the instructions of `list_best` on a tree with 1,041 picks at cost 40, where it counts the live selections and stops,
+since they are too many.
+"""
+import argparse
+import os
+import re
+import subprocess
+import sys
+import tempfile
+
+sys.path.insert(0, os.path.join(os.path.dirname(os.path.realpath(__file__)), '../examples'))
+from gradings import SMALL, assignments, submissions_in, text_of  # noqa: E402
+
+SOURCES = [SMALL, 'reference.py', 'sub.py', 'rules.eml']
+CORRECTED = 'status 1\n'
+# The names of both functions in the program.
+LISTING, SOLVE = 'least_all::walk::list_best', 'sat_core::solver::solve'
+
+# Zeros that don't matter, and five numbers that do, for 9, 9, 9, 9 and 4.
+PICKS = (
+    'width 8\nturns 1\ndepth 1\ncap 1\nentry f\nparam x int 0..0\n',
+    'def f(x):\n    return 40\n',
+    'def f(x):\n%s    return 2 + 2 + 2 + 2 + 3\n' % ('    z = %s\n' % ' + '.join(['0'] * 28) * 37),
+    'rule zero: 0 => 1\nrule nine cost 9: 2 => 9\nrule four cost 4: 3 => 4\n',
+)
+
+
+class Profile:
+    """The instructions within the listing of one request, those within the calls of `solve` in it, and how many these are."""
+
+    def __init__(self, program, folder):
+        out = os.path.join(folder, 'callgrind.out')
+        words = ['valgrind', '--tool=callgrind', '--collect-atstart=no', '--toggle-collect=' + LISTING,
+                 '--callgrind-out-file=' + out, program, 'all', *SOURCES, '100', '200000']
+        ran = subprocess.run(words, cwd=folder, capture_output=True, text=True)
+        self.status, self.output = ran.returncode, ran.stdout
+        lines = text_of(out).splitlines()
+        self.listing = sum(int(line.split()[1]) for line in lines if re.match(r'(totals|summary): ', line)) // 2
+        self.questions, self.solve = calls_of(SOLVE, lines)
+
+
+def calls_of(name, lines):
+    """How often a function is called in a profile, and the instructions within these calls. A name stands with its number where it
+    comes first; the line behind that of a call has the instructions."""
+    numbers = {re.match(r'c?fn=(\(\d+\))', line)[1] for line in lines if re.fullmatch(r'c?fn=\(\d+\) ' + re.escape(name), line)}
+    calls = instructions = 0
+    for place, line in enumerate(lines):
+        if line.startswith('cfn=') and line[4:].split(' ')[0] in numbers:
+            calls += int(lines[place + 1].removeprefix('calls=').split()[0])
+            instructions += int(lines[place + 2].split()[1])
+    return calls, instructions
+
+
+def profile_of(program, texts):
+    """The profile of one request."""
+    with tempfile.TemporaryDirectory() as folder:
+        for name, text in zip(SOURCES, texts):
+            with open(os.path.join(folder, name), 'w') as out:
+                out.write(text)
+        return Profile(program, folder)
+
+
+def mended(folder):
+    """The submissions of an assignment that are mended within the small bounds, by their stored answers."""
+    answers = {name: text_of(os.path.join(folder, name.removesuffix('.py') + '.out')) for name in submissions_in(folder)}
+    return [name for name, answer in answers.items() if answer.startswith(CORRECTED)]
+
+
+def row(name, profiles):
+    """A line of the table."""
+    listing, solve = (sum(getattr(it, part) for it in profiles) for part in ('listing', 'solve'))
+    most = max(it.listing / max(1, it.solve) for it in profiles)
+    print('%-14s %4d %6d %12.1f %12.1f %8.2f %8.2f' % (
+        name, len(profiles), sum(it.questions for it in profiles), listing / 1000, solve / 1000, listing / max(1, solve), most),
+        flush=True)
+
+
+def main():
+    words = argparse.ArgumentParser(description=__doc__, formatter_class=argparse.RawDescriptionHelpFormatter)
+    words.add_argument('program', nargs='?', default='crates/grader_cli/out/grader_cli')
+    words.add_argument('--all', action='store_true', dest='whole')
+    given = words.parse_args()
+    program = os.path.abspath(given.program)
+    print('%-14s %4s %6s %12s %12s %8s %8s' % ('', 'subs', 'asked', 'listing', 'solve', 'ratio', 'most'))
+    found = []
+    for name in assignments('examples'):
+        folder = os.path.join('examples', name)
+        submissions = mended(folder) if given.whole else mended(folder)[:1]
+        profiles = []
+        for submission in submissions:
+            texts = [text_of(os.path.join(folder, it)) for it in (SMALL, 'reference.py', submission, 'rules.eml')]
+            profiles.append(profile_of(program, texts))
+        row(name, profiles)
+        found += profiles
+    row('all', found)
+    counted = profile_of(program, PICKS)
+    print('1,041 picks at cost 40: %.1f thousand instructions, %r' % (counted.listing / 1000, counted.output))
+
+
+if __name__ == '__main__':
+    sys.exit(main())
