@@ -5,7 +5,7 @@
 
 PROGRAM is crates/grader_cli/out/grader_cli unless it is given; `valgrind` and `nm` are on the path. `all` is run, with MOST 100, on
 one mended submission of each assignment of the examples within the small bounds, and with `--all` on each of them. Counted are the
-instructions within `list_best`, and of these the ones within `solve`, each with all that it calls: neither what the search before
+instructions within `list_best`, and of these the ones within `solve` of `sat_core`, each with all that it calls: neither what the search before
 takes nor the time of the machine has a part in it. For each assignment: the submissions, the questions, the thousands of
 instructions of both, how many times those of `solve` all of the listing takes, and the greatest such ratio of a submission.
 
@@ -24,8 +24,10 @@ from gradings import SMALL, assignments, submissions_in, text_of  # noqa: E402
 
 SOURCES = [SMALL, 'reference.py', 'sub.py', 'rules.eml']
 CORRECTED = 'status 1\n'
-# The names of both functions in the program.
-LISTING, SOLVE = 'least_all::walk::list_best', 'sat_core::solver::solve'
+# The functions by their names in the program. Where a compiler made one a part of its caller or calls none but its inner one, the
+# other is counted: `list_report` also writes the list, and `search` is all of `solve` but for the form of its answer.
+LISTING = 'least_all::walk::list_best', 'list_command::listing::list_report'
+SOLVE = 'sat_core::solver::solve', 'sat_core::solver::search'
 
 # Zeros that don't matter, and five numbers that do, for 9, 9, 9, 9 and 4.
 PICKS = (
@@ -39,15 +41,15 @@ PICKS = (
 class Profile:
     """The instructions within the listing of one request, those within the calls of `solve` in it, and how many these are."""
 
-    def __init__(self, program, folder):
+    def __init__(self, program, functions, folder):
         out = os.path.join(folder, 'callgrind.out')
-        words = ['valgrind', '--tool=callgrind', '--collect-atstart=no', '--toggle-collect=' + LISTING,
+        words = ['valgrind', '--tool=callgrind', '--collect-atstart=no', '--toggle-collect=' + functions[0],
                  '--callgrind-out-file=' + out, program, 'all', *SOURCES, '100', '200000']
         ran = subprocess.run(words, cwd=folder, capture_output=True, text=True)
         self.status, self.output = ran.returncode, ran.stdout
         lines = text_of(out).splitlines()
         self.listing = sum(int(line.split()[1]) for line in lines if re.match(r'(totals|summary): ', line)) // 2
-        self.questions, self.solve = calls_of(SOLVE, lines)
+        self.questions, self.solve = calls_of(functions[1], lines)
 
 
 def calls_of(name, lines):
@@ -62,13 +64,20 @@ def calls_of(name, lines):
     return calls, instructions
 
 
-def profile_of(program, texts):
+def functions_in(program):
+    """Which two functions are counted."""
+    named = {line.split(' ', 2)[-1] for line in subprocess.run(['nm', program], capture_output=True, text=True).stdout.splitlines()}
+    found = [next((name for name in names if name in named), None) for names in (LISTING, SOLVE)]
+    return found if all(found) else sys.exit('the program has no names of functions')
+
+
+def profile_of(program, functions, texts):
     """The profile of one request."""
     with tempfile.TemporaryDirectory() as folder:
         for name, text in zip(SOURCES, texts):
             with open(os.path.join(folder, name), 'w') as out:
                 out.write(text)
-        return Profile(program, folder)
+        return Profile(program, functions, folder)
 
 
 def mended(folder):
@@ -92,6 +101,8 @@ def main():
     words.add_argument('--all', action='store_true', dest='whole')
     given = words.parse_args()
     program = os.path.abspath(given.program)
+    functions = functions_in(program)
+    print('counted are %s and %s' % tuple(functions))
     print('%-14s %4s %6s %12s %12s %8s %8s' % ('', 'subs', 'asked', 'listing', 'solve', 'ratio', 'most'))
     found = []
     for name in assignments('examples'):
@@ -100,11 +111,11 @@ def main():
         profiles = []
         for submission in submissions:
             texts = [text_of(os.path.join(folder, it)) for it in (SMALL, 'reference.py', submission, 'rules.eml')]
-            profiles.append(profile_of(program, texts))
+            profiles.append(profile_of(program, functions, texts))
         row(name, profiles)
         found += profiles
     row('all', found)
-    counted = profile_of(program, PICKS)
+    counted = profile_of(program, functions, PICKS)
     print('1,041 picks at cost 40: %.1f thousand instructions, %r' % (counted.listing / 1000, counted.output))
 
 

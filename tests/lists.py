@@ -12,7 +12,8 @@ examples within the small bounds the lists of at most MOSTS corrections. With `-
 until one suffices. Where the first search spends it, what is written must be what `grade` writes and stores; where the list does,
 what `spent_lists.py` asks for.
 
-SECONDS of the processor are spent by the lister on one task, 20 unless they are given; where they don't suffice it can't be told.
+SECONDS of the processor are spent by the lister on one task, 20 unless they are given; where they don't suffice, or a request at an
+edge takes longer than LONGEST seconds, it can't be told.
 Printed are the counts of the answers, what couldn't be told, and each difference with its files; the exit status is 1 where there
 is one.
 """
@@ -20,6 +21,7 @@ import argparse
 import collections
 import os
 import random
+import subprocess
 import sys
 import tempfile
 import time
@@ -103,9 +105,14 @@ class Comparison:
     def compare_edge(self, edge):
         """One request at an edge: how its answer must begin, without the lister."""
         began = time.monotonic()
-        _, status, output, fault = self.program.answer(edge.request)
-        self.counts[kind_of_list(status, output)] += 1
         self.made += 1
+        try:
+            _, status, output, fault = self.program.answer(edge.request)
+        except subprocess.TimeoutExpired:
+            self.untold += 1
+            print('%s: not ended after %d seconds' % (edge.name, LONGEST), flush=True)
+            return
+        self.counts[kind_of_list(status, output)] += 1
         if not fault and not any(status == wanted and output.startswith(text) for wanted, text in edge.answers):
             fault = 'wanted is one of %r' % (edge.answers,)
         if fault:
@@ -170,7 +177,7 @@ def main():
         run(given, comparison)
     for kind, count in sorted(comparison.counts.items()):
         print('%7d  %s' % (count, kind))
-    print('%d compared, %d of which the lister cannot tell, %d differ' % (comparison.made, comparison.untold, comparison.differing))
+    print('%d compared, %d of which cannot be told, %d differ' % (comparison.made, comparison.untold, comparison.differing))
     return 1 if comparison.differing else 0
 
 
