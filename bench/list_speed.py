@@ -3,14 +3,14 @@
 
     bench/list_speed.py [PROGRAM] [--all]
 
-PROGRAM is crates/grader_cli/out/grader_cli unless it is given; `valgrind` and `nm` are on the path. `all` is run, with MOST 100, on
+PROGRAM is crates/grader_cli/out/grader_cli unless it is given; `valgrind`, `gdb` and `nm` are on the path. `all` is run, with MOST 100, on
 one mended submission of each assignment of the examples within the small bounds, and with `--all` on each of them. Counted are the
 instructions within `list_best`, and of these the ones within `solve` of `sat_core`, each with all that it calls: neither what the search before
 takes nor the time of the machine has a part in it. For each assignment: the submissions, the questions, the thousands of
 instructions of both, how many times those of `solve` all of the listing takes, and the greatest such ratio of a submission.
 
-Below stand the instructions of `list_best` on a tree with 1,041 picks at cost 40, where it counts the live selections and stops,
-since they are too many.
+Below stand the milliseconds of the processor of `list_best` on a tree with 1,041 picks at cost 40, where it counts the live selections
+and stops, since they are too many: `gdb` stops the program where that call begins and ends, and reads its time from /proc.
 """
 import argparse
 import os
@@ -38,6 +38,25 @@ PICKS = (
 )
 
 
+# What gdb does, from a program's name and the place of a function in it.
+STOPS = '''
+import gdb
+def run_time():
+    with open('/proc/%d/schedstat' % gdb.selected_inferior().pid) as told:
+        return int(told.read().split()[0])
+gdb.execute('set startup-with-shell off')
+gdb.execute('starti', to_string=True)
+with open('/proc/%d/maps' % gdb.selected_inferior().pid) as maps:
+    first = next(line for line in maps if line.rstrip().endswith({program!r}))
+gdb.execute('break *%d' % (int(first.split('-')[0], 16) + {place}))
+gdb.execute('continue', to_string=True)
+began = run_time()
+gdb.execute('finish', to_string=True)
+print('nanoseconds', run_time() - began)
+gdb.execute('kill')
+'''
+
+
 class Profile:
     """The instructions within the listing of one request, those within the calls of `solve` in it, and how many these are."""
 
@@ -46,7 +65,8 @@ class Profile:
         words = ['valgrind', '--tool=callgrind', '--collect-atstart=no', '--toggle-collect=' + functions[0],
                  '--callgrind-out-file=' + out, program, 'all', *SOURCES, '100', '200000']
         ran = subprocess.run(words, cwd=folder, capture_output=True, text=True)
-        self.status, self.output = ran.returncode, ran.stdout
+        if not ran.stdout.startswith('cost '):
+            sys.exit('not listed: %r' % ran.stdout)
         lines = text_of(out).splitlines()
         self.listing = sum(int(line.split()[1]) for line in lines if re.match(r'(totals|summary): ', line)) // 2
         self.questions, self.solve = calls_of(functions[1], lines)
@@ -74,10 +94,27 @@ def functions_in(program):
 def profile_of(program, functions, texts):
     """The profile of one request."""
     with tempfile.TemporaryDirectory() as folder:
-        for name, text in zip(SOURCES, texts):
-            with open(os.path.join(folder, name), 'w') as out:
-                out.write(text)
+        put(folder, texts)
         return Profile(program, functions, folder)
+
+
+def milliseconds_of(program, function, texts):
+    """The time of a function in one request."""
+    listed = subprocess.run(['nm', program], capture_output=True, text=True, check=True).stdout.splitlines()
+    place = next(int(line.split()[0], 16) for line in listed if line.endswith(' ' + function))
+    with tempfile.TemporaryDirectory() as folder:
+        put(folder, texts)
+        with open(os.path.join(folder, 'stops.py'), 'w') as out:
+            out.write(STOPS.format(program=os.path.realpath(program), place=place))
+        words = ['gdb', '-batch', '-x', 'stops.py', '--args', program, 'all', *SOURCES, '100', '200000']
+        told = subprocess.run(words, cwd=folder, capture_output=True, text=True).stdout
+        return int(re.search(r'^nanoseconds (\d+)$', told, re.M)[1]) / 1e6
+
+
+def put(folder, texts):
+    for name, text in zip(SOURCES, texts):
+        with open(os.path.join(folder, name), 'w') as out:
+            out.write(text)
 
 
 def mended(folder):
@@ -115,8 +152,7 @@ def main():
         row(name, profiles)
         found += profiles
     row('all', found)
-    counted = profile_of(program, functions, PICKS)
-    print('1,041 picks at cost 40: %.1f thousand instructions, %r' % (counted.listing / 1000, counted.output))
+    print('1,041 picks at cost 40: %.2f ms' % milliseconds_of(program, functions[0], PICKS))
 
 
 if __name__ == '__main__':
