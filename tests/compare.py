@@ -46,7 +46,7 @@ def the_request(kind, seed, number):
 class Program:
     """The built program, run in a folder of its own."""
 
-    def __init__(self, path, folder, seconds=120):
+    def __init__(self, path, folder, seconds=600):
         self.path = os.path.realpath(path)
         self.folder, self.seconds = folder, seconds
 
