@@ -24,14 +24,19 @@ import tempfile
 
 import formula_requests
 import list_requests
+import plain_lists
 import program_requests
+import programs
 import rule_requests
 from edge_requests import EdgeRequest
 
 KINDS = {'run': program_requests.a_run, 'grade': program_requests.a_pair, 'formulas': formula_requests.a_request,
          'rules': rule_requests.a_request, 'all': list_requests.a_request}
-CRATE = os.path.join(os.path.dirname(os.path.realpath(__file__)), '../crates/grader_cli')
+TOP = os.path.join(os.path.dirname(os.path.realpath(__file__)), '..')
+CRATE = os.path.join(TOP, 'crates/grader_cli')
 BATCH = 100
+# So many seconds of the processor has the lister for one request of `all`.
+SECONDS = 20
 
 
 def the_request(kind, seed, number):
@@ -41,9 +46,9 @@ def the_request(kind, seed, number):
 class Program:
     """The built program, run in a folder of its own."""
 
-    def __init__(self, path, folder):
+    def __init__(self, path, folder, seconds=600):
         self.path = os.path.realpath(path)
-        self.folder = folder
+        self.folder, self.seconds = folder, seconds
 
     def answers(self, requests):
         return map(self.answer, requests)
@@ -55,7 +60,7 @@ class Program:
         for name, text in request.files.items():
             with open(os.path.join(self.folder, name), 'wb') as file:
                 file.write(text)
-        ran = subprocess.run([self.path] + request.words, cwd=self.folder, capture_output=True, timeout=120)
+        ran = subprocess.run([self.path] + request.words, cwd=self.folder, capture_output=True, timeout=self.seconds)
         fault = None
         if ran.stderr:
             fault = 'standard error has %r' % ran.stderr
@@ -112,6 +117,8 @@ class Model:
         import grade
         import top
         self.grade, self.top, self.stage = grade, top, stage
+        self.lists = plain_lists.Lists(programs.Model(path), stage, SECONDS)
+        self.usage = stated_usage()
 
     def fault_of(self, request, status, output):
         """None where the answer is allowed, and else what is wrong with it."""
@@ -124,16 +131,29 @@ class Model:
             if said.startswith('cannot tell'):
                 raise self.grade.CannotTell(said)
             return None if said == 'ok' else said
-        if words[:1] == ['all'] and output.startswith(b'no correction'):
-            # Which failing input is shown is open, as it is for `grade`.
-            return self.fault_of(type(request)(['grade'] + words[1:5] + ['cert.txt', words[6]], request.files), status, output)
+        if plain_lists.has_form(words):
+            return self.fault_of_list(request, status, output)
         try:
             wanted, text, _ = self.top.top(words, request.files, self.stage)
         except self.grade.Refused as refused:
             return 'the model refuses it: %s' % refused
+        text = self.usage if wanted == plain_lists.USAGE else text
         if (status, output) == (wanted, text.encode()):
             return None
         return 'expected status %d and %r, got %d and %r' % (wanted, text, status, output)
+
+    def fault_of_list(self, request, status, output):
+        try:
+            return self.lists.fault_of(request.words, request.files, status, output)
+        except plain_lists.Untold as cause:
+            raise self.grade.CannotTell(str(cause)) from cause
+
+
+def stated_usage():
+    """The usage as the document states it."""
+    with open(os.path.join(TOP, 'docs/formats.md')) as document:
+        stated = re.search(r'^    usage: .*\n(?:    .*\n)+', document.read(), re.M)[0]
+    return re.sub('^    ', '', stated, flags=re.M)
 
 
 def kind_of(status, output):
@@ -157,8 +177,8 @@ def show_sides(sides):
         print('%7d within and %d past the limit: %s' % (sides[limit, False], sides[limit, True], limit.replace('_', ' ')))
 
 
-def show(number, request, status, output, fault):
-    print('request %d: %s' % (number, fault))
+def show(case, request, status, output, fault):
+    print('%s: %s' % (case, fault))
     print('  words: %s' % ' '.join(map(repr, request.words)))
     for name, text in request.files.items():
         shown = repr(text) if len(text) <= 3000 else '%r and so on, %d bytes' % (text[:300], len(text))
@@ -181,7 +201,7 @@ def compare(program, model, asked):
             untold += 1
         if fault:
             differing += 1
-            show(number, request, status, output, fault)
+            show('request %d' % number, request, status, output, fault)
     for kind, count in sorted(kinds.items()):
         print('%7d  %s' % (count, kind))
     show_sides(sides)
