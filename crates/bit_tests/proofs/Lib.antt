@@ -1,1 +1,4 @@
-pub mod NextArguments
+pub mod Arguments
+pub mod ExpressionTypes
+pub mod OneOfSeveral
+pub mod SmallCosts

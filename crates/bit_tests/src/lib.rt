@@ -2,9 +2,23 @@
 #![tactic(auto)]
 
 #[cfg(test)]
+mod circuits;
+#[cfg(test)]
+mod costs;
+#[cfg(test)]
+mod expressions;
+#[cfg(test)]
+mod inputs;
+#[cfg(test)]
 mod outcomes;
 #[cfg(test)]
-mod selections;
+mod picks;
+#[cfg(test)]
+mod rows;
+#[cfg(test)]
+mod runs;
+#[cfg(test)]
+mod samples;
 #[cfg(test)]
 mod tasks;
 #[cfg(test)]

@@ -44,6 +44,25 @@ impl Truths {
         source == Some(bit.is_positive())
     }
 
+    /// Whether a value as bits reads as a value.
+    pub(crate) fn read_value(
+        &self,
+        alloc: Global,
+        g: &Graph,
+        limits: &Limits,
+        shown: &SymValue<GraphBit>,
+        value: &Value,
+    ) -> Result<bool, NoMemory> {
+        if !value.fits(limits) {
+            return Ok(false);
+        }
+        let wanted = constant_value(alloc, g, limits, value)?;
+        let items = items_count(value);
+        let wanted = shown_bits(alloc, &wanted, items)?;
+        let shown = shown_bits(alloc, shown, items)?;
+        Ok(self.are_alike(&wanted, &shown))
+    }
+
     /// Whether an outcome reads as the end of a run.
     pub(crate) fn read(
         &self,
@@ -57,14 +76,10 @@ impl Truths {
         match end {
             Outcome::Fault { .. } => Ok(fault),
             Outcome::Value(value) => {
-                if fault || !value.fits(limits) {
+                if fault {
                     return Ok(false);
                 }
-                let wanted = constant_value(alloc, g, limits, value)?;
-                let items = items_count(value);
-                let wanted = shown_bits(alloc, &wanted, items)?;
-                let shown = shown_bits(alloc, &outcome.value, items)?;
-                Ok(self.are_alike(&wanted, &shown))
+                self.read_value(alloc, g, limits, &outcome.value, value)
             }
         }
     }
@@ -79,8 +94,8 @@ impl Truths {
     }
 }
 
-// How many elements or characters a value has.
-fn items_count(value: &Value) -> usize {
+/// How many elements or characters a value has.
+pub(crate) fn items_count(value: &Value) -> usize {
     match value {
         Value::Int(_) | Value::Bool(_) => 0,
         Value::List(numbers) => numbers.len(),

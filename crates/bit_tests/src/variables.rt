@@ -1,75 +1,89 @@
-//! Arguments whose bits are new variables.
+//! Arguments and picks whose bits are new variables.
 
 ghost use Rattle.std.specs.Prelude.{IfOk};
 ghost use Rattle.bit_words.specs.Logic.{Keeps};
-ghost use Rattle.sym_values.specs.Forms.{BoolForm, IntForm, form_for};
-ghost use Rattle.sym_values.specs.Results.{IsValueIn};
-ghost use Rattle.task_bits.specs.Tasks.{AreArgumentsOf};
+ghost use Rattle.input_space.specs.TaskParts.{task_with};
+ghost use Rattle.task_bits.specs.Tasks.{AreArgumentsOf, ArePicksOf};
 
 use bit_words::NoMemory;
-use bit_words::inputs::fresh_bits;
 use bit_words::logic::Variables;
-use bit_words::word::Word;
 use bounds_reader::Bounds;
-use input_space::param_type;
-use mpy_tree::{Limits, Ty};
-use std::alloc::Global;
+use choice_tree::Selection;
+use input_bits::fresh_values;
+use input_space::{Case, Task, in_bounds, signature};
+use pick_bits::{RangedMembers, fresh_members};
+use selection_numbers::MemberCounts;
+use std::alloc::{AllocError, Global};
+use sym_nodes::Picks;
 use sym_values::SymValue;
-use sym_values::constant::zero_value;
+use task_bits::{constant_case, constant_picks};
 
-/// A number.
-fn variable_number<V: Variables>(
-    alloc: Global,
-    g: &mut V,
-    limits: &Limits,
-) -> Result<SymValue<V::Bit>, NoMemory>
-    ensures keeps { Keeps V.owns V.reads g.old g.new }
-    ensures made { IfOk result (λ r. IsValueIn V.owns g.new (IntForm limits.now.width) r) }
-{
-    let bits = fresh_bits(alloc, g, limits.width as usize)?;
-    let word = Word::from_vec(bits.into_vec());
-    Ok(SymValue::Int(word))
-}
-
-/// A truth value.
-fn variable_truth<V: Variables>(g: &mut V) -> Result<SymValue<V::Bit>, NoMemory>
-    ensures keeps { Keeps V.owns V.reads g.old g.new }
-    ensures made { IfOk result (λ r. IsValueIn V.owns g.new BoolForm r) }
-{
-    let bit = g.variable()?;
-    Ok(SymValue::Bool(bit))
-}
-
-/// A value of a type: a number or a truth value, or else a constant.
-fn variable_value<V: Variables>(
-    alloc: Global,
-    g: &mut V,
-    limits: &Limits,
-    ty: Ty,
-) -> Result<SymValue<V::Bit>, NoMemory>
-    ensures keeps { Keeps V.owns V.reads g.old g.new }
-    ensures made { IfOk result (λ r. IsValueIn V.owns g.new (form_for limits.now ty) r) }
-{
-    match ty {
-        Ty::Int => variable_number(alloc, g, limits),
-        Ty::Bool => variable_truth(g),
-        Ty::List => zero_value(alloc, g, limits, Ty::List),
-        Ty::Text => zero_value(alloc, g, limits, Ty::Text),
-    }
-}
-
-/// Arguments for the parameters of bounds, of which numbers and truth values are variables.
-pub(crate) fn variable_arguments<V: Variables>(
+/// Arguments for the parameters of bounds.
+fn variable_arguments<V: Variables>(
     alloc: Global,
     g: &mut V,
     bounds: &Bounds,
 ) -> Result<Vec<SymValue<V::Bit>>, NoMemory>
-    ensures { IfOk result (λ r. AreArgumentsOf V.owns g.new bounds.now r.items) }
+    ensures keeps { Keeps V.owns V.reads g.old g.new }
+    ensures made { IfOk result (λ r. AreArgumentsOf V.owns g.new bounds.now r.items) }
 {
-    let mut args = Vec::new(alloc);
-    for param in bounds.params.items() {
-        let arg = variable_value(alloc, g, &bounds.limits, param_type(param))?;
-        args.push(arg)?;
+    let signature = signature(alloc, bounds)?;
+    let values = fresh_values(alloc, g, &bounds.limits, signature.params.items())?;
+    Ok(values.into_vec())
+}
+
+/// Those of an input within the bounds as constants, if one is given. The variables are added all
+/// the same.
+pub(crate) fn arguments<V: Variables>(
+    alloc: Global,
+    g: &mut V,
+    bounds: &Bounds,
+    case: Option<&Case>,
+) -> Result<Vec<SymValue<V::Bit>>, NoMemory>
+    ensures keeps { Keeps V.owns V.reads g.old g.new }
+    ensures made { IfOk result (λ r. AreArgumentsOf V.owns g.new bounds.now r.items) }
+{
+    let variables = variable_arguments(alloc, g, bounds)?;
+    match case {
+        None => Ok(variables),
+        Some(given) => {
+            if in_bounds(bounds, given) {
+                constant_case(alloc, g, bounds, given)
+            } else {
+                Err(AllocError)
+            }
+        }
     }
-    Ok(args)
+}
+
+/// The members of the picks of a task's weighted tree.
+pub(crate) fn variable_members<V: Variables>(
+    alloc: Global,
+    g: &mut V,
+    task: &Task,
+) -> Result<RangedMembers<V::Bit>, NoMemory>
+    ensures keeps { Keeps V.owns V.reads g.old g.new }
+    ensures made { IfOk result (λ r. ArePicksOf V.owns g.new (task_with task.now)
+        r.members.items) }
+{
+    let counts = MemberCounts::of(alloc, task.tree())?;
+    let ranged = fresh_members(alloc, g, &counts)?;
+    Ok(ranged)
+}
+
+/// The picks, as constants if a selection is given. The variables are added all the same.
+pub(crate) fn picks_of<V: Variables>(
+    alloc: Global,
+    g: &mut V,
+    task: &Task,
+    selection: Option<&Selection>,
+) -> Result<Picks<V::Bit>, NoMemory>
+    ensures keeps { Keeps V.owns V.reads g.old g.new }
+    ensures made { IfOk result (λ r. ArePicksOf V.owns g.new (task_with task.now) r) }
+{
+    let ranged = variable_members(alloc, g, task)?;
+    match selection {
+        None => Ok(Picks::from_vec(ranged.members)),
+        Some(chosen) => constant_picks(alloc, g, task, chosen),
+    }
 }
