@@ -40,6 +40,15 @@ returns-in-All-clause-ends g c = rw c.in-All.is c.all.ensures.ends
 pub returns-in-All-clause-calls : goal.returns-in-All-clause-calls
 returns-in-All-clause-calls g c = rw c.in-All.is c.all.ensures.calls
 
+pub pick-requires : goal.pick-requires
+pick-requires g c = (rw c.in-Pick.is at c.requires.asks).2
+
+pub returns-in-Pick-clause-ends : goal.returns-in-Pick-clause-ends
+returns-in-Pick-clause-ends g c = rw c.in-Pick.is c.pick.ensures.ends
+
+pub returns-in-Pick-clause-calls : goal.returns-in-Pick-clause-calls
+returns-in-Pick-clause-calls g c = rw c.in-Pick.is c.pick.ensures.calls
+
 pub returns-in-Sat-clause-ends : goal.returns-in-Sat-clause-ends
 returns-in-Sat-clause-ends g c = rw c.in-Sat.is c.sat.ensures.ends
 
