@@ -25,6 +25,8 @@ mod layout;
 #[cfg(test)]
 mod listings;
 #[cfg(test)]
+mod many;
+#[cfg(test)]
 mod picks;
 #[cfg(test)]
 mod refusals;

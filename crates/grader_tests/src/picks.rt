@@ -24,9 +24,9 @@ struct Request<'a> {
 /// The names of submissions.
 const FILES: [&str; 4] = ["a.py", "b.py", "c.py", "d.py"];
 
-/// A shelf of the sources, the calls with these numbers of which fail.
-fn shelf_of(alloc: Global, request: Request<'_>, fails: Vec<u64>) -> Result<MemShelf, Fail> {
-    let mut shelf = MemShelf::new(alloc, fails);
+/// A shelf of the sources.
+fn shelf_of(alloc: Global, request: Request<'_>) -> Result<MemShelf, Fail> {
+    let mut shelf = MemShelf::new(alloc, Vec::new(alloc));
     shelf.add("b.txt", request.bounds.as_bytes())?;
     shelf.add("ref.py", request.reference.as_bytes())?;
     for (i, submission) in request.submissions.iter().enumerate() {
@@ -36,8 +36,8 @@ fn shelf_of(alloc: Global, request: Request<'_>, fails: Vec<u64>) -> Result<MemS
 }
 
 /// The status of a request, and what is written.
-fn picked(alloc: Global, request: Request<'_>, fails: Vec<u64>) -> Result<(Status, String), Fail> {
-    let mut shelf = shelf_of(alloc, request, fails)?;
+fn picked(alloc: Global, request: Request<'_>) -> Result<(Status, String), Fail> {
+    let mut shelf = shelf_of(alloc, request)?;
     let mut out = MemSink::new(alloc, 8, Vec::new(alloc));
     let mut names = Vec::new(alloc);
     for i in 0..request.submissions.len() {
@@ -73,7 +73,7 @@ const SOMETIMES_ZERO: &str = concat!(
 );
 
 /// Each with its status and with what is written.
-const PICKS: [(Request<'_>, Status, &str); 15] = [
+const PICKS: [(Request<'_>, Status, &str); 16] = [
     // A case for each of two faults, and one that agrees.
     (
         Request {
@@ -101,6 +101,16 @@ const PICKS: [(Request<'_>, Status, &str); 15] = [
     (
         Request {
             bounds: "width 6\nturns 4\ndepth 2\ncap 8\nentry f\nparam v list 0..8 of -8..7\n",
+            reference: "def f(v):\n    return 1\n",
+            submissions: &["def f(v):\n    return 1\n"],
+        },
+        Status::Refused,
+        "refused ref.py line 1: TooLarge\n",
+    ),
+    // More than are counted.
+    (
+        Request {
+            bounds: "width 6\nturns 4\ndepth 2\ncap 16\nentry f\nparam v list 0..16 of -8..7\n",
             reference: "def f(v):\n    return 1\n",
             submissions: &["def f(v):\n    return 1\n"],
         },
@@ -244,7 +254,7 @@ const PICKS: [(Request<'_>, Status, &str); 15] = [
 #[test]
 fn answers_are_written(rt: HostRuntime) -> Result<(), Fail> {
     for (request, status, text) in PICKS {
-        let (ended, written) = picked(rt.alloc(), request, Vec::new(rt.alloc()))?;
+        let (ended, written) = picked(rt.alloc(), request)?;
         assert_eq!(rt; written.as_str(), text);
         assert_eq!(rt; ended, status);
     }

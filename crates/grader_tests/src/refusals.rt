@@ -16,7 +16,7 @@ fn long_text(alloc: Global, part: &str, times: usize) -> Result<String, AllocErr
 }
 
 /// Texts that are refused, each with the line and the cause.
-const REFUSED: [(&str, u32, &str); 28] = [
+pub(crate) const REFUSED: [(&str, u32, &str); 28] = [
     ("def f(x):\n    return x \u{7}\n", 2, "Byte"),
     ("# fine\ndef f(x):\n\treturn x\n", 3, "Tab"),
     ("def f(x):\n    return x / 2\n", 2, "Token"),

@@ -1,14 +1,15 @@
 -- What holds of a request that was read: its programs can be compared on all inputs.
-use Rattle.std.proofs.Common.{◌≡◌, ◌∙◌, ℕ, suc, ◌<◌, List, [], ◌∷◌, inl, inr, sym, ap, subst, map, length, arith}
+use Rattle.std.proofs.Common.{◌≡◌, ◌∙◌, ℕ, zero, suc, ◌<◌, List, [], ◌∷◌, Option, Some, None, refl, inl, inr, sym, ap, subst, map, length, arith}
 use Rattle.std.specs.List.{All}
 use Rattle.std.proofs.lemmas.Bool.{cases_lt}
 use Rattle.std.proofs.lemmas.List.Elements.{All-cons, All-nil}
 use Rattle.bounds_reader.specs.declared.bounds.Bounds.{Bounds}
 use Rattle.input_space.specs.Inputs.{inputs}
 use Rattle.input_space.specs.Tasks.{result_type}
+use Rattle.mpy_tree.specs.declared.typing.Ty.{Ty}
+use Rattle.mpy_tree.specs.declared.typing.Ty.TheVariants as ty
 use Rattle.task_read.specs.Sources.{Typed, entry_at}
 use Rattle.task_read.specs.TypedPrograms.{IsTypedProgram}
-use Rattle.task_read.proofs.Judged.{one_or_not}
 use Rattle.test_picker.specs.declared.typed_list.Typed as code_typed
 use Rattle.test_picker.specs.Programs.{GiveOneType, IsTypedFor}
 use Rattle.pick_command.specs.Decisions.{Request, first_place, parts_step, programs_step, request_step, types_step}
@@ -16,6 +17,44 @@ use Rattle.pick_command.specs.Requests.{request_of, typed_of}
 use Rattle.pick_command.specs.Weights.{AreTooLarge, most_counted}
 use Rattle.pick_command.specs.declared.request.Request as code_request
 use Rattle.pick_command.proofs.EntryWeights.{many_inputs}
+
+-- TYPES
+
+type_number : Option Ty → ℕ
+type_number None = 0
+type_number (Some ty.Int) = 1
+type_number (Some ty.Bool) = 2
+type_number (Some ty.List) = 3
+type_number (Some ty.Text) = 4
+
+type_of_number : ℕ → Option Ty
+type_of_number zero = None
+type_of_number (suc zero) = Some ty.Int
+type_of_number (suc (suc zero)) = Some ty.Bool
+type_of_number (suc (suc (suc zero))) = Some ty.List
+type_of_number (suc (suc (suc (suc n)))) = Some ty.Text
+
+by_number : (t : Option Ty) → type_of_number (type_number t) ≡ t
+unfolding type_number type_of_number
+by_number None = refl
+by_number (Some ty.Int) = refl
+by_number (Some ty.Bool) = refl
+by_number (Some ty.List) = refl
+by_number (Some ty.Text) = refl
+
+-- types that can't differ are one
+same_type : (a b : Option Ty) → ((a ≡ b → ⊥) → ⊥) → a ≡ b
+same_type a b one = elim (cases_lt (type_number a) (type_number b)) [
+  | inl less ↦ absurd (one (λ same. let numbers = ap type_number same in omega (arith, less, numbers)))
+  | inr more ↦ elim (cases_lt (type_number b) (type_number a)) [
+    | inl less ↦ absurd (one (λ same. let numbers = ap type_number same in omega (arith, less, numbers)))
+    | inr other ↦ (
+        let numbers : type_number a ≡ type_number b = omega (arith, more, other) in
+        sym (by_number a) ∙ ap type_of_number numbers ∙ by_number b)
+  ]
+]
+
+-- PROGRAMS
 
 -- the programs are spelled by texts
 record AreSpelled (k : Request) : Type 0 where
@@ -48,10 +87,7 @@ all_one_type : (b : Bounds) (r : code_typed.Typed) (n : ℕ) (ps : List code_typ
 all_one_type b r n [] u h = All-nil (GiveOneType b r)
 all_one_type b r n (p ∷ ps) u h =
     All-cons (GiveOneType b r) p ps
-    (elim (one_or_not (result_type b (typed_of p).program (typed_of p).types) (result_type b (typed_of r).program (typed_of r).types)) [
-      | inl same ↦ same
-      | inr differ ↦ absurd (h.given differ)
-    ])
+    (same_type (result_type b (typed_of p).program (typed_of p).types) (result_type b (typed_of r).program (typed_of r).types) h.given)
     (all_one_type b r (suc n) ps u h.second)
 
 few_inputs : (k : Request) → AreSpelled k → (AreTooLarge k.bounds (k.reference ∷ k.submissions) → ⊥)

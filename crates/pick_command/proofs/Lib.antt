@@ -1,4 +1,6 @@
 mod Reading
+mod FileLists
+mod Lines
 mod WeightSums
 mod EntryWeights
 mod Steps
