@@ -1,6 +1,8 @@
 -- What holds of a request that was read: its programs can be compared on all inputs.
-use Rattle.std.proofs.Common.{◌≡◌, ◌∙◌, ℕ, zero, suc, ◌<◌, List, [], ◌∷◌, Option, Some, None, refl, inl, inr, sym, ap, subst, map, length, arith}
+use Rattle.std.proofs.Common.{◌≡◌, ◌∙◌, ℕ, zero, suc, ◌<◌, List, [], ◌∷◌, Option, Some, None, refl, inl, inr, sym, ap, subst, map, length, arith, Vec}
+use Rattle.std.specs.declared.alloc.Global.{Global}
 use Rattle.std.specs.List.{All}
+use Rattle.std.proofs.lemmas.List.{length-map}
 use Rattle.std.proofs.lemmas.Bool.{cases_lt}
 use Rattle.std.proofs.lemmas.List.Elements.{All-cons, All-nil}
 use Rattle.bounds_reader.specs.declared.bounds.Bounds.{Bounds}
@@ -9,9 +11,13 @@ use Rattle.input_space.specs.Tasks.{result_type}
 use Rattle.mpy_tree.specs.declared.typing.Ty.{Ty}
 use Rattle.mpy_tree.specs.declared.typing.Ty.TheVariants as ty
 use Rattle.task_read.specs.Sources.{Typed, entry_at}
-use Rattle.task_read.specs.TypedPrograms.{IsTypedProgram}
+use Rattle.mpy_tree.specs.declared.value.Value.{Value}
+use Rattle.mpy_tree.specs.Syntax.{Routine}
+use Rattle.source_files.specs.Views.{texts_of}
+use Rattle.task_read.specs.TypedPrograms.{Entry, IsTypedProgram}
 use Rattle.test_picker.specs.declared.typed_list.Typed as code_typed
-use Rattle.test_picker.specs.Programs.{GiveOneType, IsTypedFor}
+use Rattle.test_picker.specs.Choosing.{Chooses, none, more}
+use Rattle.test_picker.specs.Programs.{GiveOneType, IsTypedFor, program_of}
 use Rattle.pick_command.specs.Decisions.{Request, first_place, parts_step, programs_step, request_step, types_step}
 use Rattle.pick_command.specs.Requests.{request_of, typed_of}
 use Rattle.pick_command.specs.Weights.{AreTooLarge, most_counted}
@@ -127,3 +133,49 @@ are_asked texts k h =
       one_type = all_one_type k.bounds k.reference first_place k.submissions read.unit read.same;
       counted = few_inputs (request_of k) spelled read.small;
     }
+
+-- HOW MANY THEY ARE
+
+programs_many : (n : ℕ) (texts : List (List ℕ)) (e : Entry) (ps : List Typed)
+    → (programs_step n texts e).gives ps → length ps ≡ length texts
+programs_many n [] e ps h = ap length h
+programs_many n (text ∷ texts) e ps h =
+    let rest = programs_many (suc n) texts e h.second.first h.second.given in
+    ap length h.second.second ∙ ap suc rest
+
+parts_many : (texts : List (List ℕ)) (k : Request) → (parts_step texts).gives k
+    → length texts ≡ suc (suc (length k.submissions))
+parts_many [] k h = absurd h
+parts_many (a ∷ []) k h = absurd h
+parts_many (a ∷ text ∷ texts) k h =
+    let many = programs_many first_place texts (entry_at h.first) h.second.second.first h.second.second.given in
+    ap (λ n. suc (suc n)) (sym many)
+    ∙ ap (λ q. suc (suc (length q.submissions))) (sym h.second.second.second)
+
+pub few_submissions : (xs : List (Vec ℕ Global)) (k : code_request.Request)
+    → (parts_step (texts_of xs)).gives (request_of k)
+    → length xs ≡ suc (suc (length k.submissions))
+few_submissions xs k h =
+    let all = parts_many (texts_of xs) (request_of k) h in
+    let texts = length-map xs (λ v. v.items) in
+    let programs = length-map k.submissions typed_of in
+    omega (arith, all, texts, programs)
+
+pub asked_many : (xs : List (Vec ℕ Global)) (k : code_request.Request)
+    → (request_step (texts_of xs)).gives (request_of k)
+    → length xs ≡ suc (suc (length k.submissions))
+asked_many xs k h = few_submissions xs k (is_read (texts_of xs) (request_of k) h).spelled
+
+-- the programs, in both views
+pub programs_are : (ps : List code_typed.Typed)
+    → map program_of ps ≡ map (λ (p : Typed). p.program) (map typed_of ps)
+programs_are [] = refl
+programs_are (p ∷ ps) = ap (λ z. program_of p ∷ z) (programs_are ps)
+
+-- one mark for each program
+pub marks_many : (b : Bounds) (r : List Routine) (cases : List (List Value))
+    (ps : List (List Routine)) (end : List (List Value)) (marks : List ℕ)
+    → Chooses b r cases ps end marks → length marks ≡ length ps
+marks_many b r cases ps end marks (none _) = refl
+marks_many b r cases ps end marks (more _ next _ p qs m ms adds rest) =
+    ap suc (marks_many b r next qs end ms rest)

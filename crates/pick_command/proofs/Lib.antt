@@ -1,4 +1,5 @@
 mod Reading
+mod Fitting
 mod FileLists
 mod Lines
 mod WeightSums

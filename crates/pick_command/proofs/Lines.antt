@@ -1,9 +1,8 @@
 -- The lines of an answer, one after the other.
-use Rattle.std.proofs.Common.{◌≡◌, ◌∙◌, ℕ, zero, suc, ◌+◌, ◌<◌, ◌≤◌, List, [], ◌∷◌, ◌++◌, sym, ap, subst, arith, length, drop, take, map, get_or, append_assoc, append-nil}
+use Rattle.std.proofs.Common.{◌≡◌, ◌∙◌, ℕ, zero, suc, ◌+◌, ◌<◌, ◌≤◌, List, [], ◌∷◌, ◌++◌, refl, sym, ap, subst, arith, length, drop, take, map, get_or, append_assoc, append-nil}
 use Rattle.std.proofs.Math.ListN.{drop_of_length-le}
 use Rattle.std.specs.List.{flat_map}
-use Rattle.std.proofs.lemmas.List.{take_all}
-use Rattle.std.proofs.lemmas.List.{length-map}
+use Rattle.std.proofs.lemmas.List.{length-map, take_all}
 use Rattle.pick_command.specs.Texts.{mark_line, mark_lines, mark_text}
 
 -- CASES
@@ -34,6 +33,15 @@ module _ {C X : Type 0} (g : C → X) (f : X → List ℕ) where
       before ∙ ap (flat_map f) (take_all i (map g cs) (omega (arith, many, past)))
 
 -- MARKS
+
+pub number_at : (xs : List ℕ) (i : ℕ) → i < length xs
+    → drop i xs ≡ get_or xs i 0 ∷ drop (i + 1) xs
+number_at [] i below = absurd (omega arith)
+number_at (x ∷ xs) zero below = refl
+number_at (x ∷ xs) (suc i) below =
+    let rest = number_at xs i (omega arith) in
+    let next : suc i + 1 ≡ suc (i + 1) = omega arith in
+    rest ∙ ap (λ n. get_or xs i 0 ∷ drop n (x ∷ xs)) (sym next)
 
 pub marks_more : (fs : List (List ℕ)) (ms : List ℕ) (i : ℕ) (f : List ℕ) (m : ℕ)
     (out new all : List ℕ) → drop i fs ≡ f ∷ drop (i + 1) fs → drop i ms ≡ m ∷ drop (i + 1) ms

@@ -1,5 +1,7 @@
 -- Weights that stop, and the work of all runs.
-use Rattle.std.proofs.Common.{◌≡◌, ◌⊎◌, ◌↔◌, ◌∙◌, ℕ, ◌+◌, ◌*◌, ◌<◌, ◌≤◌, Bool, true, false, ◌||◌, List, [], ◌∷◌, ◌++◌, sym, ap, subst, arith, refl, inl, inr, min, max, length, length-append}
+use Rattle.std.proofs.Common.{◌≡◌, ◌⊎◌, ◌↔◌, ◌∙◌, ℕ, ◌+◌, ◌*◌, ◌<◌, ◌≤◌, Bool, true, false, ◌||◌, List, [], ◌∷◌, ◌++◌, sym, ap, subst, arith, refl, inl, inr, min, max, length, length-append, get_or, map, take, zero, suc, IsTrue}
+use Rattle.std.proofs.lemmas.List.{length-map, take_all}
+use Rattle.std.proofs.lemmas.Bool.{cases_lt}
 use Rattle.std.specs.Prelude.{nat_lt, sum_by}
 use Rattle.std.specs.List.{list_any}
 use Rattle.std.proofs.lemmas.Bool.{true≢false}
@@ -39,10 +41,10 @@ one_weighed b r n is = record {
     sum_one : stopped b r ≡ sum_by (stopped b) (r ∷ [])
     sum_one = let e = sum_by-cons (stopped b) r [] in omega (arith, e)
 
-pub more_weighed : (b : Bounds) (ps : List Typed) (heaviest sum : ℕ) (p : Typed) (n most all : ℕ)
+one_more : (b : Bounds) (ps : List Typed) (heaviest sum : ℕ) (p : Typed) (n most all : ℕ)
     → AreWeighed b ps heaviest sum → n ≡ stopped b p → most ≡ max heaviest n → all ≡ sum + n
     → AreWeighed b (ps ++ p ∷ []) most all
-more_weighed b ps heaviest sum p n most all h is max_is all_is = record {
+one_more b ps heaviest sum p n most all h is max_is all_is = record {
   heavy = ap (nat_lt 1000000) max_is ∙ either_above heaviest n
       ∙ ap (λ t. t || nat_lt 1000000 n) h.heavy
       ∙ ap (λ t. list_any (is_heavy b) ps || t) (ap (nat_lt 1000000) is ∙ stops_above (weight_of b p)
@@ -51,8 +53,34 @@ more_weighed b ps heaviest sum p n most all h is max_is all_is = record {
   sum_is = all_is ∙ ap (λ z. z + n) h.sum_is ∙ ap (λ z. sum_by (stopped b) ps + z) is
       ∙ sym (sum_by_push (stopped b) ps p);
   few = (let long : length (ps ++ p ∷ []) ≡ length ps + 1 = length-append ps (p ∷ []) in
-      omega (arith, long, h.few, is, all_is));
+      let less = h.few in
+      omega (arith, long, less, is, all_is));
 }
+
+-- the programs up to one more
+taken_more : {X Y : Type 0} (f : X → Y) (xs : List X) (i : ℕ) (x : X) → i < length xs
+    → x ≡ get_or xs i x → take (i + 1) (map f xs) ≡ take i (map f xs) ++ f x ∷ []
+taken_more f [] i x below is = absurd (omega arith)
+taken_more f (y ∷ xs) zero x below is = ap (λ z. f z ∷ []) (sym is)
+taken_more f (y ∷ xs) (suc i) x below is =
+    let rest = taken_more f xs i x (omega arith) is in
+    let next : suc i + 1 ≡ suc (i + 1) = omega arith in
+    ap (λ n. take n (f y ∷ map f xs)) next ∙ ap (λ zs. f y ∷ zs) rest
+
+pub more_weighed : {X : Type 0} (f : X → Typed) (b : Bounds) (r : Typed) (xs : List X) (i : ℕ)
+    (x : X) (heaviest sum n most all : ℕ) → i < length xs → x ≡ get_or xs i x
+    → AreWeighed b (r ∷ take i (map f xs)) heaviest sum → n ≡ stopped b (f x)
+    → most ≡ max heaviest n → all ≡ sum + n → AreWeighed b (r ∷ take (i + 1) (map f xs)) most all
+more_weighed f b r xs i x heaviest sum n most all below at h is max_is all_is =
+    subst (λ ps. AreWeighed b (r ∷ ps) most all) (sym (taken_more f xs i x below at))
+    (one_more b (r ∷ take i (map f xs)) heaviest sum (f x) n most all h is max_is all_is)
+
+pub all_weighed : {X : Type 0} (f : X → Typed) (b : Bounds) (r : Typed) (xs : List X) (i : ℕ)
+    (heaviest sum : ℕ) → length xs ≤ i → AreWeighed b (r ∷ take i (map f xs)) heaviest sum
+    → AreWeighed b (r ∷ map f xs) heaviest sum
+all_weighed f b r xs i heaviest sum past h =
+    let many = length-map xs f in
+    subst (λ ps. AreWeighed b (r ∷ ps) heaviest sum) (take_all i (map f xs) (omega (arith, many, past))) h
 
 or_false : (a b : Bool) → (a || b) ≡ false → (a ≡ false) × (b ≡ false)
 or_false true b e = absurd (true≢false e)
@@ -77,6 +105,12 @@ above m n h = grind (arith, h)
 not_above : (m n : ℕ) → n ≤ m → nat_lt m n ≡ false
 not_above m n h = grind (arith, h)
 
+below_it : (m n : ℕ) → nat_lt m n ≡ true → m < n
+below_it m n h = elim (cases_lt m n) [
+  | inl less ↦ less
+  | inr more ↦ absurd (true≢false (sym h ∙ not_above m n more))
+]
+
 -- what the tests say
 module _ (b : Bounds) (ps : List Typed) (heaviest sum : ℕ) (h : AreWeighed b ps heaviest sum) where
   pub large_by_one : 1000000 < heaviest → AreTooLarge b ps
@@ -97,3 +131,14 @@ module _ (b : Bounds) (ps : List Typed) (heaviest sum : ℕ) (h : AreWeighed b p
             ap (λ n. n * runs b) (h.sum_is ∙ sums_are b ps none) in
             omega (arith, same, all, work)
       ]
+
+  -- what the last test says, where no program is too heavy by itself
+  pub large_exactly : (work : ℕ) → heaviest ≤ 1000000 → work ≡ sum * runs b
+      → IsTrue (nat_lt 500000000 work) ↔ AreTooLarge b ps
+  large_exactly work light_all is = (
+    λ more. large_by_all light_all (subst (λ n. 500000000 < n) is (below_it 500000000 work more)),
+    λ large. elim (cases_lt 500000000 work) [
+      | inl more ↦ above 500000000 work more
+      | inr less ↦ absurd (not_large light_all (subst (λ n. n ≤ 500000000) is less) large)
+    ],
+  )

@@ -44,7 +44,9 @@ fn files<'a>(alloc: Global, words: &PickWords<'a>) -> Result<Vec<File<'a>>, NoMe
     files.push(file(Source::Bounds, words.bounds))?;
     files.push(file(Source::Reference, words.reference))?;
     for (i, word) in words.submissions.iter().enumerate() {
-        files.push(file(submission(i), word.as_str()))?;
+        let source = submission(i);
+        let next = file(source, word.as_str());
+        files.push(next)?;
     }
     Ok(files)
 }

@@ -1,10 +1,15 @@
 //! The programs of a request, read from their texts.
-ghost use Rattle.std.specs.Prelude.{◌≡◌, ◌≤◌, ◌++◌, ◌∷◌, [], All, MatchResult, OnOk, length, map};
+ghost use Rattle.std.specs.Prelude.{◌≡◌, ◌≤◌, ◌++◌, ◌∷◌, [], All, IfErr, MatchResult, OnOk, length};
+ghost use Rattle.std.specs.Prelude.{map};
+ghost use Rattle.mpy_tree.specs.declared.refusal.Cause.TheVariants as cause;
+ghost use Rattle.input_space.specs.Tasks.{entry_line};
 ghost use Rattle.source_files.specs.Fetches.{StopsAs};
 ghost use Rattle.source_files.specs.Views.{texts_of};
 ghost use Rattle.source_files.specs.declared.stop.Stop.TheVariants as stop;
-ghost use Rattle.task_read.specs.Sources.{entry_at, program_step};
-ghost use Rattle.pick_command.specs.Decisions.{at_reference, first_place, parts_step};
+ghost use Rattle.task_read.specs.Sources.{entry_at, program_step, refusal};
+ghost use Rattle.task_read.specs.Steps.{refuse_if};
+ghost use Rattle.pick_command.specs.Decisions.{GiveOneType, at_reference, first_place};
+ghost use Rattle.pick_command.specs.Decisions.{parts_step};
 ghost use Rattle.pick_command.specs.Decisions.{programs_step, types_step};
 ghost use Rattle.pick_command.specs.Requests.{request_of, typed_of};
 
@@ -55,7 +60,8 @@ fn read_submissions(alloc: Global, bounds: &Bounds, texts: &[Vec<u8>]) -> Result
 {
     let mut programs = Vec::new(alloc);
     for (i, text) in texts.iter().enumerate() {
-        let typed = read_typed(alloc, bounds, text.as_slice(), submission(i))?;
+        let source = submission(i);
+        let typed = read_typed(alloc, bounds, text.as_slice(), source)?;
         push(&mut programs, typed)?;
     }
     Ok(TypedList::from_vec(programs))
@@ -82,7 +88,27 @@ pub(crate) fn read_parts(alloc: Global, texts: &[Vec<u8>]) -> Result<Request, St
     })
 }
 
-/// That each submission gives results of the reference's type.
+// That a submission gives results of the reference's type.
+fn compare_type(request: &Request, typed: &Typed, source: Source) -> Result<(), Stop>
+    ensures one_type { OnOk result (GiveOneType request.now.bounds
+        (typed_of request.now.reference) (typed_of typed.now)) }
+    ensures refused { IfErr result (StopsAs (refuse_if (GiveOneType request.now.bounds
+        (typed_of request.now.reference) (typed_of typed.now) → ⊥)
+        (refusal source cause.ResultType (entry_line request.now.bounds
+        (typed_of typed.now).program))).refuses) }
+{
+    let bounds = &request.bounds;
+    let wanted = result_type(bounds, &request.reference.prog, &request.reference.types);
+    let given = result_type(bounds, &typed.prog, &typed.types);
+    if given == wanted {
+        Ok(())
+    } else {
+        let line = entry_line(bounds, &typed.prog);
+        Err(refused(source, Cause::ResultType, line))
+    }
+}
+
+/// That each submission does.
 pub(crate) fn compare_types(request: &Request) -> Result<(), Stop>
     requires { length request.now.submissions ≤ 16 }
     ensures { MatchResult result
@@ -91,13 +117,9 @@ pub(crate) fn compare_types(request: &Request) -> Result<(), Stop>
         (StopsAs (types_step (request_of request.now).bounds (request_of request.now).reference
         first_place (request_of request.now).submissions).refuses) }
 {
-    let bounds = &request.bounds;
-    let wanted = result_type(bounds, &request.reference.prog, &request.reference.types);
     for (i, typed) in request.submissions.items().iter().enumerate() {
-        if result_type(bounds, &typed.prog, &typed.types) != wanted {
-            let line = entry_line(bounds, &typed.prog);
-            return Err(refused(submission(i), Cause::ResultType, line));
-        }
+        let source = submission(i);
+        compare_type(request, typed, source)?;
     }
     Ok(())
 }
