@@ -52,10 +52,10 @@ by_number (Some ty.Text) = refl
 same_type : (a b : Option Ty) → ((a ≡ b → ⊥) → ⊥) → a ≡ b
 same_type a b one = elim (cases_lt (type_number a) (type_number b)) [
   | inl less ↦ absurd (one (λ same. let numbers = ap type_number same in omega (arith, less, numbers)))
-  | inr more ↦ elim (cases_lt (type_number b) (type_number a)) [
+  | inr at_least ↦ elim (cases_lt (type_number b) (type_number a)) [
     | inl less ↦ absurd (one (λ same. let numbers = ap type_number same in omega (arith, less, numbers)))
     | inr other ↦ (
-        let numbers : type_number a ≡ type_number b = omega (arith, more, other) in
+        let numbers : type_number a ≡ type_number b = omega (arith, at_least, other) in
         sym (by_number a) ∙ ap type_of_number numbers ∙ by_number b)
   ]
 ]

@@ -1,6 +1,6 @@
 -- A program whose entry takes an argument weighs something. So where there are more inputs than are
 -- counted, programs are too large.
-use Rattle.std.proofs.Common.{◌≡◌, ℕ, zero, suc, ◌+◌, ◌-◌, ◌*◌, ◌<◌, ◌≤◌, ◌==◌, Bool, true, false, not, ◌&&◌, ◌||◌, if◌then◌else◌, List, [], ◌∷◌, ◌++◌, Option, Some, None, IsTrue, length, map, min, sum, refl, sym, ap, subst, ◌∙◌, inl, inr, arith, length-append}
+use Rattle.std.proofs.Common.{◌≡◌, ℕ, suc, ◌+◌, ◌-◌, ◌*◌, ◌≤◌, ◌==◌, Bool, true, false, not, ◌&&◌, ◌||◌, if◌then◌else◌, List, [], ◌∷◌, ◌++◌, Option, Some, None, length, map, min, sum, refl, sym, ap, subst, ◌∙◌, inr, arith, length-append}
 use Rattle.std.specs.Prelude.{sum_by}
 use Rattle.std.specs.Int.{div_ceil}
 use Rattle.std.specs.List.{list_any}
@@ -14,28 +14,28 @@ use Rattle.mpy_tree.specs.declared.typing.Slot.{Slot}
 use Rattle.mpy_tree.specs.declared.typing.Slot.TheVariants as slot
 use Rattle.mpy_tree.specs.declared.typing.Ty.{Ty}
 use Rattle.mpy_tree.specs.declared.typing.Ty.TheVariants as ty
+use Rattle.mpy_tree.specs.declared.refusal.Cause.TheVariants as cause
 use Rattle.mpy_tree.specs.declared.typing.TypeError.{TypeError}
+use Rattle.mpy_tree.specs.declared.typing.TypeError.TheVariants.{Fault}
 use Rattle.mpy_tree.specs.Faults.{Place, place, entry_fault, fact, facts_at, facts_with, listed, local_line, nodes_fault, or_fault, routine_slots, slot_fault, slots, slots_fault, slots_from, names_fault}
-use Rattle.mpy_tree.specs.Locals.{and_new, is_among, locals, site_assigned, site_names}
+use Rattle.mpy_tree.specs.Locals.{and_new, is_among, locals}
 use Rattle.mpy_tree.specs.Rules.{single}
 use Rattle.mpy_tree.specs.Running.{found}
 use Rattle.mpy_tree.specs.SetTypes.{FactSet, same_place}
-use Rattle.mpy_tree.specs.Shapes.{action_shape, block_shape, program_shape, routine_shape, routine_shapes, statement_shape, statement_shapes}
+use Rattle.mpy_tree.specs.Shapes.{action_shape, block_shape, routine_shape, routine_shapes, statement_shape, statement_shapes}
 use Rattle.mpy_tree.specs.Syntax.{Action, Block, end, step, Routine, Statement, at}
 use Rattle.mpy_tree.specs.Syntax as ast
-use Rattle.mpy_tree.specs.TypeSets.{only, only_of}
-use Rattle.mpy_tree.specs.Typings.{IsTyping}
+use Rattle.mpy_tree.specs.TypeSets.{only_of}
 use Rattle.mpy_tree.specs.Values.{same_bytes}
 use Rattle.mpy_scopes.proofs.Places.{at_place}
 use Rattle.mpy_parser.specs.Nesting.{ItemLine, IsBlock, IsBody, AreRoutines, no_lines, a_simple, a_loop, an_each, a_test, behind_colon, below, no_routines, a_routine}
-use Rattle.mpy_parser.specs.Programs.{IsProgram}
-use Rattle.choice_tree.specs.WeightedTrees.{Weighted, Weighteds, lifted, lifted_all}
+use Rattle.choice_tree.specs.WeightedTrees.{lifted, lifted_all}
 use Rattle.bounds_reader.specs.declared.bounds.Bounds.{Bounds}
 use Rattle.bounds_reader.specs.declared.params.Param.{Param}
 use Rattle.input_space.specs.Inputs.{inputs, param_type}
 use Rattle.task_read.specs.Sources.{Typed, entry_at}
 use Rattle.task_read.specs.TypedPrograms.{IsTypedProgram}
-use Rattle.tree_weights.specs.Functions.{Function, function, function_from, function_of}
+use Rattle.tree_weights.specs.Functions.{function, function_from}
 use Rattle.tree_weights.specs.RootTypes.{WeightedScope}
 use Rattle.tree_weights.specs.Weights.{Bodies, bits, function_weight, is_local, is_local_of, levels_weight, locals_weight, statement_weight, weight, weights}
 use Rattle.pick_command.specs.Weights.{AreTooLarge, most_counted, runs, weight_of}
@@ -240,15 +240,15 @@ is_entered (q ∷ p) f n r is some bodies =
     entered_first q p f n r (same_bytes f q.name) refl is some bodies.0
     (λ later. is_entered p f (n + 1) r later some bodies.1)
 
+counted : (r : Routine) (n : ℕ) (fault : TypeError) (b : Bool) → (length r.params == n) ≡ b
+    → (if b then None else Some fault) ≡ None → length r.params ≡ n
+counted r n fault true is none = eqb-true (length r.params) n is
+counted r n fault false is none = absurd (cc)
+
 entry_found : (o : Option Routine) (n : ℕ) → entry_fault o n ≡ None
     → (r : Routine) × (o ≡ Some r) × (length r.params ≡ n)
 entry_found None n e = absurd (cc)
-entry_found (Some r) n e = (r, refl, counted (length r.params == n) refl e)
-  where
-    counted : (b : Bool) → (length r.params == n) ≡ b → (if b then None else Some _) ≡ None
-        → length r.params ≡ n
-    counted true is none = eqb-true (length r.params) n is
-    counted false is none = absurd (cc)
+entry_found (Some r) n e = (r, refl, counted r n (Fault cause.Entry r.line) (length r.params == n) refl e)
 
 -- WEIGHTS
 

@@ -1,11 +1,10 @@
 -- The texts of the files of the command fit.
-use Rattle.std.proofs.Common.{◌≡◌, ◌==◌, Bool, true, false, if◌then◌else◌, ℕ, suc, ◌≤◌, ◌∙◌, List, [], ◌∷◌, Ok, Err, Result, IfErr, IfOk, Vec, ap, arith, inr, length, map, refl}
+use Rattle.std.proofs.Common.{◌≡◌, ◌==◌, Bool, true, false, if◌then◌else◌, ℕ, suc, ◌≤◌, List, [], ◌∷◌, Ok, Err, Result, IfErr, Vec, ap, arith, inr, length, refl}
 use Rattle.std.specs.declared.alloc.Global.{Global}
 use Rattle.std.specs.List.{All}
 use Rattle.std.proofs.lemmas.List.{length-map}
 use Rattle.std.proofs.lemmas.List.Elements.{All-cons, All-nil}
 use Rattle.grade_io.specs.Devices.{ShelfState}
-use Rattle.mpy_tree.specs.declared.refusal.Refusal.{Refusal}
 use Rattle.mpy_tree.specs.declared.refusal.Source.{Source}
 use Rattle.mpy_tree.specs.declared.refusal.Source.TheVariants as source
 use Rattle.source_files.specs.Fetches.{OnRefused}

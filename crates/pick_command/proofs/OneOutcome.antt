@@ -1,14 +1,13 @@
 -- What the texts of a request decide is one thing, and so is their refusal.
-use Rattle.std.proofs.Common.{◌≡◌, ℕ, suc, List, [], ◌∷◌}
+use Rattle.std.proofs.Common.{ℕ, suc, List, [], ◌∷◌}
 use Rattle.mpy_tree.specs.declared.refusal.Source.TheVariants as source
-use Rattle.mpy_tree.specs.declared.refusal.Refusal.{Refusal}
 use Rattle.bounds_reader.specs.declared.bounds.Bounds.{Bounds}
 use Rattle.task_read.specs.Sources.{Typed, entry_at}
 use Rattle.task_read.specs.Steps.{IsOne}
 use Rattle.task_read.specs.TypedPrograms.{Entry}
 use Rattle.task_read.proofs.OneStep.{one_bounds_step, one_program_step}
 use Rattle.task_read.proofs.Steps.{one_done, one_refuse, one_then}
-use Rattle.pick_command.specs.Decisions.{Request, first_place, parts_step, pick_step, programs_step, request_step, types_step}
+use Rattle.pick_command.specs.Decisions.{first_place, parts_step, pick_step, programs_step, request_step, types_step}
 
 one_programs : (n : ℕ) (texts : List (List ℕ)) (e : Entry) → IsOne (programs_step n texts e)
 one_programs n [] e = one_done []

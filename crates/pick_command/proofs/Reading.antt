@@ -1,5 +1,5 @@
 -- The submissions of texts, one after the other.
-use Rattle.std.proofs.Common.{◌≡◌, ◌∙◌, ℕ, zero, suc, ◌+◌, ◌-◌, ◌<◌, ◌≤◌, List, [], ◌∷◌, ◌++◌, Some, sym, ap, subst, arith, refl, inl, inr, map, length, drop, take, get_or, append_assoc, append-nil, Vec}
+use Rattle.std.proofs.Common.{◌≡◌, ◌∙◌, ℕ, zero, suc, ◌+◌, ◌-◌, ◌<◌, ◌≤◌, List, [], ◌∷◌, ◌++◌, sym, ap, subst, arith, refl, inl, inr, map, length, drop, take, get_or, append_assoc, append-nil, Vec}
 use Rattle.std.specs.declared.alloc.Global.{Global}
 use Rattle.std.specs.List.{All}
 use Rattle.std.proofs.lemmas.List.{get_or-map, length-map, map-append}
@@ -15,7 +15,7 @@ use Rattle.input_space.specs.Tasks.{entry_line}
 use Rattle.task_read.specs.Sources.{Typed, bounds_step, entry_at, program_step, refusal}
 use Rattle.task_read.specs.Steps.{refuse_if}
 use Rattle.task_read.specs.TypedPrograms.{Entry}
-use Rattle.pick_command.specs.Decisions.{GiveOneType, Request, first_place, parts_step, programs_step, types_step}
+use Rattle.pick_command.specs.Decisions.{GiveOneType, first_place, parts_step, programs_step, types_step}
 
 pub item_at : {X : Type 0} (xs : List X) (i : ℕ) (x : X) → i < length xs → x ≡ get_or xs i x
     → drop i xs ≡ x ∷ drop (i + 1) xs

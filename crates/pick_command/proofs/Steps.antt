@@ -1,5 +1,5 @@
 -- What the texts of a request are read to, step after step.
-use Rattle.std.proofs.Common.{◌≡◌, ℕ, List, ◌∷◌, refl, inl, inr}
+use Rattle.std.proofs.Common.{ℕ, List, ◌∷◌, refl, inl, inr}
 use Rattle.mpy_tree.specs.declared.refusal.Cause.TheVariants as cause
 use Rattle.mpy_tree.specs.declared.refusal.Refusal.{Refusal}
 use Rattle.input_space.specs.Agreement.{EndsSomewhere}

@@ -1,8 +1,7 @@
 -- the report is that of the request
-use Rattle.std.proofs.Common.{◌∙◌, arith, length, map, refl, subst}
+use Rattle.std.proofs.Common.{arith, refl, subst}
 use Rattle.std.specs.String.{string_bytes}
 use Rattle.std.proofs.lemmas.List.{length-map}
-use Rattle.mpy_tree.specs.Syntax.{Routine}
 use Rattle.source_files.specs.Files.{sources_of}
 use Rattle.source_files.specs.Views.{texts_of}
 use Rattle.test_picker.specs.Choosing.{IsChoice}
@@ -69,7 +68,7 @@ returns-in-Picked c =
               (programs_are c.in_ok-request.request.submissions) c.in-Picked.ensures.0;
         };
       };
-      shows = record { text = c.in_ok-text.ensures; status = refl; kept = refl };
+      shows = record { text = c.in_ok-text-in-Picked.ensures; status = refl; kept = refl };
     }
 
 pub returns-in-EmptyReference : goal.returns-in-EmptyReference

@@ -1,5 +1,4 @@
 -- the line of a case more
-use Rattle.std.proofs.Common.{arith}
 use Rattle.input_space.specs.declared.case.Case.{Case}
 use Rattle.pick_command.specs.Texts.{input_line}
 use Rattle.pick_command.proofs.Lines.{lines_more}

@@ -1,5 +1,4 @@
 -- a submission more, and one that differs
-use Rattle.std.proofs.Common.{map, rules}
 use Rattle.file_commands.proofs.Stopping.{stopped}
 use Rattle.pick_command.specs.Requests.{request_of, typed_of}
 use Rattle.pick_command.proofs.Reading.{compare_on, mapped_at, one_differs}

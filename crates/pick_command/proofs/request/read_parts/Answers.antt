@@ -1,5 +1,5 @@
 -- each source that isn't read stops all, and those before it are read
-use Rattle.std.proofs.Common.{◌≡◌, ◌∷◌, ◌-◌, arith, drop, length, map, take}
+use Rattle.std.proofs.Common.{arith, map}
 use Rattle.file_commands.proofs.Stopping.{stopped}
 use Rattle.source_files.specs.Views.{texts_of}
 use Rattle.pick_command.specs.Requests.{typed_of}

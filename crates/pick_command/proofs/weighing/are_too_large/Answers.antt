@@ -1,5 +1,5 @@
 -- a program more, and what the sum says
-use Rattle.std.proofs.Common.{◌*◌, ap, arith, map}
+use Rattle.std.proofs.Common.{◌*◌, ap, arith}
 use Rattle.pick_command.specs.Requests.{typed_of}
 use Rattle.pick_command.proofs.WeightSums.{all_weighed, large_exactly, more_weighed}
 use Rattle.pick_command.proofs.weighing.are_too_large.Goals as goal
