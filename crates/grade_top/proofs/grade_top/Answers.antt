@@ -96,7 +96,7 @@ returns-in-Some-clause-picked g c = λ w asks is.
 
 pub returns-in-Some-clause-compared : goal.returns-in-Some-clause-compared
 returns-in-Some-clause-compared g c = λ w ts k asks told given sure.
-    pick.answered w ts k _ _ c.answer.result (rw (one_command _ (command_of c.in-Some.command) (Pick w) (rw c.deref.ensures.value at c.in-Some.ensures.found) asks) at c.answer.ensures.ends) told given sure
+    pick.answered w _ _ c.answer.result ts k (rw (one_command _ (command_of c.in-Some.command) (Pick w) (rw c.deref.ensures.value at c.in-Some.ensures.found) asks) at c.answer.ensures.ends) told given sure
 
 pub returns-in-Some-clause-satisfiable : goal.returns-in-Some-clause-satisfiable
 returns-in-Some-clause-satisfiable g c = λ w asks is.
