@@ -30,7 +30,7 @@ use Rattle.grade_core.proofs.OneGrading.{one_task_step}
 use Rattle.grade_top.specs.Commands.{AnswerOf, file_command, files_of, line_of, run_command, run_files, sample_budget, sample_command, sample_word, usage_command}
 use Rattle.grade_top.specs.Decisions.{run_step, sample_texts}
 use Rattle.grade_top.specs.Reports.{run_text, sample_report, usage_text}
-use Rattle.grade_top.specs.Words.{Command, Grade, Check, Run, Sample, All, Sat, Unsat, Nothing, RunWords}
+use Rattle.grade_top.specs.Words.{Command, Grade, Check, Run, Sample, All, Pick, Sat, Unsat, Nothing, RunWords}
 use Rattle.grade_top.proofs.OneOutcome.{not_both, one_refuses, one_run_step}
 
 -- USAGE
@@ -55,6 +55,7 @@ never_usage (Check w) some a e = said_no_usage a.said e
 never_usage (Run w) some a e = cc
 never_usage (Sample n) some a e = answer_no_usage a.answer e
 never_usage (All w) some a e = all_no_usage a e
+never_usage (Pick w) some a e = cc
 never_usage (Sat w) some a e = sat.no_usage a e
 never_usage (Unsat w) some a e = unsat.no_usage a e
 never_usage Nothing some a e = some refl

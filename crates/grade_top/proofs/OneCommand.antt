@@ -6,10 +6,11 @@ use Rattle.check_core.specs.Words.{CheckWords}
 use Rattle.formula_commands.specs.Words.{SatWords, UnsatWords}
 use Rattle.grade_core.specs.Words.{GradeWords}
 use Rattle.list_command.specs.Words.{AllWords}
+use Rattle.pick_command.specs.Words.{PickWords}
 use Rattle.grade_top.specs.Requests.{command_of}
 use Rattle.grade_top.specs.declared.words.Command as code_command
-use Rattle.grade_top.specs.Words.{Command, Grade, Check, Run, Sample, All, Sat, Unsat, Nothing, RunWords, Asks, grade_words, check_words, run_words, sample_words, sat_words, unsat_words, all_words}
-use Rattle.grade_top.specs.Words.{AsksGrade, AsksCheck, AsksRun, AsksSample, AsksAll, AsksSat, AsksUnsat}
+use Rattle.grade_top.specs.Words.{Command, Grade, Check, Run, Sample, All, Pick, Sat, Unsat, Nothing, RunWords, Asks, grade_words, check_words, run_words, sample_words, sat_words, unsat_words, pick_words, all_words}
+use Rattle.grade_top.specs.Words.{AsksGrade, AsksCheck, AsksRun, AsksSample, AsksAll, AsksPick, AsksSat, AsksUnsat}
 
 make : (bounds reference submission rules cert : List ℕ) (budget : ℕ) → GradeWords
 make bounds reference submission rules cert budget = record { bounds = bounds; reference = reference; submission = submission; rules = rules; cert = cert; budget = budget }
@@ -140,6 +141,16 @@ first_of words = first_byte (first_word words)
 differ : (words xs ys : List (List ℕ)) → words ≡ xs → words ≡ ys → (first_of xs == first_of ys) ≡ false → ⊥
 differ words xs ys here there other = apart (sym other ∙ eq-eqb (first_of xs) (first_of ys) (ap first_of (sym here ∙ there)))
 
+make_pick : (bounds reference : List ℕ) (submissions : List (List ℕ)) → PickWords
+make_pick bounds reference submissions = record { bounds = bounds; reference = reference; submissions = submissions }
+
+made_pick : (w v : PickWords) → pick_words w ≡ pick_words v → make_pick w.bounds w.reference w.submissions ≡ make_pick v.bounds v.reference v.submissions
+made_pick w v words = cc
+
+same_pick : (words : List (List ℕ)) (w v : PickWords) → AsksPick words w → AsksPick words v → w ≡ v
+unfolding make_pick
+same_pick words w v asks other = made_pick w v (sym asks.0 ∙ other.0)
+
 make_all : (bounds reference submission rules : List ℕ) (most budget : ℕ) → AllWords
 make_all bounds reference submission rules most budget = record { bounds = bounds; reference = reference; submission = submission; rules = rules; most = most; budget = budget }
 
@@ -206,6 +217,21 @@ one_command words (Unsat w) (Unsat v) asks other = ap Unsat (same_unsat words w 
 one_command words (Unsat w) Nothing asks other = absurd (other.no_unsat w asks)
 one_command words Nothing (Sat w) asks other = absurd (asks.no_sat w other)
 one_command words Nothing (Unsat w) asks other = absurd (asks.no_unsat w other)
+one_command words (Grade g) (Pick p) asks other = absurd (differ words (grade_words g) (pick_words p) asks.0 other.0 refl)
+one_command words (Pick p) (Grade g) asks other = absurd (differ words (pick_words p) (grade_words g) asks.0 other.0 refl)
+one_command words (Check w) (Pick p) asks other = absurd (differ words (check_words w) (pick_words p) asks other.0 refl)
+one_command words (Pick p) (Check w) asks other = absurd (differ words (pick_words p) (check_words w) asks.0 other refl)
+one_command words (Run w) (Pick p) asks other = absurd (differ words (run_words w) (pick_words p) asks.0 other.0 refl)
+one_command words (Pick p) (Run w) asks other = absurd (differ words (pick_words p) (run_words w) asks.0 other.0 refl)
+one_command words (Sample n) (Pick p) asks other = absurd (differ words (sample_words n) (pick_words p) asks.0 other.0 refl)
+one_command words (Pick p) (Sample n) asks other = absurd (differ words (pick_words p) (sample_words n) asks.0 other.0 refl)
+one_command words (Sat w) (Pick p) asks other = absurd (differ words (sat_words w) (pick_words p) asks.0 other.0 refl)
+one_command words (Pick p) (Sat w) asks other = absurd (differ words (pick_words p) (sat_words w) asks.0 other.0 refl)
+one_command words (Unsat w) (Pick p) asks other = absurd (differ words (unsat_words w) (pick_words p) asks other.0 refl)
+one_command words (Pick p) (Unsat w) asks other = absurd (differ words (pick_words p) (unsat_words w) asks.0 other refl)
+one_command words (Pick w) (Pick v) asks other = ap Pick (same_pick words w v asks other)
+one_command words (Pick w) Nothing asks other = absurd (other.no_pick w asks)
+one_command words Nothing (Pick w) asks other = absurd (asks.no_pick w other)
 one_command words (Grade g) (All p) asks other = absurd (differ words (grade_words g) (all_words p) asks.0 other.0 refl)
 one_command words (All p) (Grade g) asks other = absurd (differ words (all_words p) (grade_words g) asks.0 other.0 refl)
 one_command words (Check w) (All p) asks other = absurd (differ words (check_words w) (all_words p) asks other.0 refl)
@@ -214,6 +240,8 @@ one_command words (Run w) (All p) asks other = absurd (differ words (run_words w
 one_command words (All p) (Run w) asks other = absurd (differ words (all_words p) (run_words w) asks.0 other.0 refl)
 one_command words (Sample n) (All p) asks other = absurd (differ words (sample_words n) (all_words p) asks.0 other.0 refl)
 one_command words (All p) (Sample n) asks other = absurd (differ words (all_words p) (sample_words n) asks.0 other.0 refl)
+one_command words (Pick w) (All p) asks other = absurd (differ words (pick_words w) (all_words p) asks.0 other.0 refl)
+one_command words (All p) (Pick w) asks other = absurd (differ words (all_words p) (pick_words w) asks.0 other.0 refl)
 one_command words (Sat w) (All p) asks other = absurd (differ words (sat_words w) (all_words p) asks.0 other.0 refl)
 one_command words (All p) (Sat w) asks other = absurd (differ words (all_words p) (sat_words w) asks.0 other.0 refl)
 one_command words (Unsat w) (All p) asks other = absurd (differ words (unsat_words w) (all_words p) asks other.0 refl)
@@ -231,4 +259,5 @@ asks_something (code_command.TheVariants.Run w) is = cc
 asks_something (code_command.TheVariants.Sample n) is = cc
 asks_something (code_command.TheVariants.Sat w) is = cc
 asks_something (code_command.TheVariants.All w) is = cc
+asks_something (code_command.TheVariants.Pick w) is = cc
 asks_something (code_command.TheVariants.Unsat w) is = cc

@@ -19,9 +19,10 @@ use Rattle.grade_core.specs.Decisions.{task_step}
 use Rattle.check_core.proofs.OneChecking.{one_sources_step}
 use Rattle.grade_core.proofs.OneGrading.{one_never, one_task_step}
 use Rattle.list_command.specs.Decisions.{AsGraded, Listed}
+use Rattle.pick_command.proofs.OneOutcome.{one_pick}
 use Rattle.grade_top.specs.Commands.{AnswerOf, file_command, files_of}
 use Rattle.grade_top.specs.Decisions.{run_step, sample_texts, spelled_step, value_step, values_step}
-use Rattle.grade_top.specs.Words.{Command, Grade, Check, Run, Sample, All, Sat, Unsat, Nothing, RunWords}
+use Rattle.grade_top.specs.Words.{Command, Grade, Check, Run, Sample, All, Pick, Sat, Unsat, Nothing, RunWords}
 
 same_first : (v w : Value) → v ∷ [] ≡ w ∷ [] → v ≡ w
 same_first v w h = cc
@@ -62,6 +63,7 @@ one_refuses (Sample n) ts q r a b = (one_task_step (sample_texts n)).refuses q r
 one_refuses (Check w) ts q r a b = (one_sources_step ts).refuses q r a b
 one_refuses (Run w) ts q r a b = (one_run_step w ts).refuses q r a b
 one_refuses (All w) ts q r a b = (one_task_step ts).refuses q r a b
+one_refuses (Pick w) ts q r a b = (one_pick ts).refuses q r a b
 one_refuses (Sat w) ts q r a b = absurd a
 one_refuses (Unsat w) ts q r a b = absurd a
 one_refuses Nothing ts q r a b = absurd a
@@ -73,6 +75,7 @@ not_both (Check w) ts r a decided refused = (one_sources_step ts).not_both a.tas
 not_both (Run w) ts r a decided refused = (one_run_step w ts).not_both a r decided refused
 not_both (All w) ts r (Listed k cost l) decided refused = (one_task_step ts).not_both k r decided.task refused
 not_both (All w) ts r (AsGraded x) decided refused = (one_task_step ts).not_both x.task r decided.0.task refused
+not_both (Pick w) ts r a decided refused = (one_pick ts).not_both decided.request r decided.read refused
 not_both (Sat w) ts r a decided refused = refused
 not_both (Unsat w) ts r a decided refused = refused
 not_both Nothing ts r a decided refused = refused

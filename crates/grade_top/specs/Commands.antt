@@ -16,9 +16,11 @@ use Rattle.grade_core.specs.Commands.{Graded, IsGradedAs, grade_command, status_
 use Rattle.grade_core.specs.Decisions.{task_step}
 use Rattle.list_command.specs.Commands.{all_command}
 use Rattle.list_command.specs.Decisions.{AllAnswer}
+use Rattle.pick_command.specs.Commands.{pick_command}
+use Rattle.pick_command.specs.Decisions.{PickAnswer}
 use Rattle.grade_top.specs.Decisions.{run_step, sample_texts}
 use Rattle.grade_top.specs.Reports.{run_text, sample_report, usage_text, value_refusal_text}
-use Rattle.grade_top.specs.Words.{Command, Grade, Check, Run, Sample, All, Sat, Unsat}
+use Rattle.grade_top.specs.Words.{Command, Grade, Check, Run, Sample, All, Pick, Sat, Unsat}
 use Rattle.grade_top.specs.Words.{Nothing, RunWords}
 
 -- the program of `run` stands in the place of a reference
@@ -95,7 +97,7 @@ usage_command = record {
 }
 
 -- what a command answers: a task with an answer to it, or with what is said of a certificate; the
--- outcome of a run; what is listed of a task; or what is found of a formula, or
+-- outcome of a run; what is listed of a task; cases and marks; or what is found of a formula, or
 -- of a proof
 abbrev pub AnswerOf : Command → Type 0
 AnswerOf (Grade g) = Graded
@@ -103,6 +105,7 @@ AnswerOf (Check w) = Checked
 AnswerOf (Run w) = run.Outcome
 AnswerOf (Sample n) = Graded
 AnswerOf (All w) = AllAnswer
+AnswerOf (Pick w) = PickAnswer
 AnswerOf (Sat w) = SatAnswer
 AnswerOf (Unsat w) = UnsatAnswer
 AnswerOf Nothing = Unit {0}
@@ -113,6 +116,7 @@ file_command (Check w) = check_command w
 file_command (Run w) = run_command w
 file_command (Sample n) = sample_command n
 file_command (All w) = all_command w
+file_command (Pick w) = pick_command w
 file_command (Sat w) = sat_command w
 file_command (Unsat w) = unsat_command w
 file_command Nothing = usage_command

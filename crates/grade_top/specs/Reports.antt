@@ -21,6 +21,7 @@ usage_text =
     ++ codes "       mpygrade run BOUNDS PROG VALUE..\n"
     ++ codes "       mpygrade sample NUMBER\n"
     ++ codes "       mpygrade all BOUNDS REF SUB RULES MOST BUDGET\n"
+    ++ codes "       mpygrade pick BOUNDS REF SUB..\n"
     ++ codes "       mpygrade sat CNF LOG BUDGET\n"
     ++ codes "       mpygrade unsat CNF LOG\n"
 

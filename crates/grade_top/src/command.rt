@@ -16,6 +16,7 @@ use formula_commands::{sat, unsat};
 use grade_core::grade;
 use grade_io::{Shelf, Sink, Status, say};
 use list_command::all;
+use pick_command::pick;
 use std::alloc::Global;
 
 const USAGE: &str = concat!(
@@ -24,6 +25,7 @@ const USAGE: &str = concat!(
     "       mpygrade run BOUNDS PROG VALUE..\n",
     "       mpygrade sample NUMBER\n",
     "       mpygrade all BOUNDS REF SUB RULES MOST BUDGET\n",
+    "       mpygrade pick BOUNDS REF SUB..\n",
     "       mpygrade sat CNF LOG BUDGET\n",
     "       mpygrade unsat CNF LOG\n",
 );
@@ -48,6 +50,7 @@ pub(crate) fn answer<S: Shelf, K: Sink>(
         Command::Run(words) => run_command(alloc, words, shelf, out),
         Command::Sample(number) => sample_command(alloc, *number as u32, out),
         Command::All(words) => all(alloc, words, shelf, out),
+        Command::Pick(words) => pick(alloc, words, shelf, out),
         Command::Sat(words) => sat(alloc, words, shelf, out),
         Command::Unsat(words) => unsat(alloc, words, shelf, out),
     }

@@ -29,9 +29,12 @@ ghost use Rattle.grade_top.specs.Decisions.{run_step, sample_texts};
 ghost use Rattle.grade_top.specs.PrintedPrograms.{PrintsCorrection};
 ghost use Rattle.grade_top.specs.Reports.{run_text};
 ghost use Rattle.grade_top.specs.Words.{Asks, Check, Command, Grade, Nothing, Run, RunWords};
-ghost use Rattle.grade_top.specs.Words.{All, Sample, Sat, Unsat};
+ghost use Rattle.grade_top.specs.Words.{All, Pick, Sample, Sat, Unsat};
 ghost use Rattle.list_command.specs.Claims.{HasMany, IsListedFor, IsManyOrSpent, PrintsBest};
 ghost use Rattle.list_command.specs.Words.{AllWords};
+ghost use Rattle.pick_command.specs.Claims.{IsAnswered, TellsPick};
+ghost use Rattle.pick_command.specs.Decisions.{Request, pick_step};
+ghost use Rattle.pick_command.specs.Words.{PickWords};
 
 mod command;
 mod laws;
@@ -54,10 +57,11 @@ use std::alloc::Global;
 /// The files of a command are fetched in order and read, and what they decide is written: by
 /// `grade` the cheapest correction of a submission, behind a certificate of it that is stored
 /// under the word `CERT`; by `check` what is said of a certificate, whatever wrote it; by `run`
-/// what a program gives on values; by `all` every cheapest correction; by `sat` values that satisfy
-/// a formula, or that none do, behind a proof of it that is stored under the word `LOG`; by `unsat`
-/// what is said of a proof, whatever wrote it. By `sample` a task is made from a number and graded,
-/// and how large it is and what its correction costs is written.
+/// what a program gives on values; by `all` every cheapest correction; by `pick` few inputs that
+/// show the faults of submissions; by `sat` values that satisfy a formula, or that none do, behind
+/// a proof of it that is stored under the word `LOG`; by `unsat` what is said of a proof, whatever
+/// wrote it. By `sample` a task is made from a number and graded, and how large it is and what its
+/// correction costs is written.
 pub fn grade_top<S: Shelf, K: Sink>(
     alloc: Global,
     words: &Vec<String>,
@@ -165,6 +169,19 @@ pub fn grade_top<S: Shelf, K: Sink>(
         (devices (S.seen shelf.new) (K.seen out.new))
         → IsRefusedOrSpent (refusal_text w.reference (empty_reference k))
         (K.seen out.old) (K.seen out.new) result }
+    // Where `pick` ends with Correct, the cases and marks were written that its programs choose.
+    ensures picked { (w : PickWords) → Asks (map string_bytes words.now.items) (Pick w)
+        → result ≡ Status.Correct
+        → TellsPick w (devices (S.seen shelf.old) (K.seen out.old))
+        (devices (S.seen shelf.new) (K.seen out.new)) }
+    // Programs that nothing refuses are compared, unless a device failed or memory lacked.
+    ensures compared { (w : PickWords) (ts : List (List ℕ)) (k : Request)
+        → Asks (map string_bytes words.now.items) (Pick w)
+        → AreTold (devices (S.seen shelf.old) (K.seen out.old)) (files_of (Pick w)) ts
+        → (pick_step ts).gives k
+        → NoFault (devices (S.seen shelf.old) (K.seen out.old))
+        (devices (S.seen shelf.new) (K.seen out.new))
+        → IsAnswered result }
     // Values that `sat` writes make each clause of the file true.
     ensures satisfiable { (w : SatWords) → Asks (map string_bytes words.now.items) (Sat w)
         → result ≡ Status.Correct

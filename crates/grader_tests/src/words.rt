@@ -23,12 +23,13 @@ fn other_words_get_the_usage(rt: HostRuntime) -> Result<(), Fail> {
 }
 
 /// So it is for a run of more than four values, or without a program, for a sample of no number up
-/// to 65535 or of two, for `check` without a certificate, for `sat` without a budget or with none
-/// of the form, for `unsat` without a proof, and for no words.
+/// to 65535 or of two, for `check` without a certificate, for `pick` without a submission or with
+/// 17, for `sat` without a budget or with none of the form, for `unsat` without a proof, and for no
+/// words.
 #[test]
 fn other_commands_get_the_usage(rt: HostRuntime) -> Result<(), Fail> {
     let alloc = rt.alloc();
-    let rows: [&[&str]; 11] = [
+    let rows: [&[&str]; 13] = [
         &["run", "b.txt", "p.py", "1", "2", "3", "4", "5"],
         &["run", "b.txt"],
         &["check", "b.txt", "ref.py", "sub.py", "rules.eml"],
@@ -36,6 +37,11 @@ fn other_commands_get_the_usage(rt: HostRuntime) -> Result<(), Fail> {
         &["sample", "65536"],
         &["sample", "07"],
         &["sample", "1", "2"],
+        &["pick", "b.txt", "ref.py"],
+        &[
+            "pick", "b.txt", "ref.py", "1", "2", "3", "4", "5", "6", "7", "8", "9", "10", "11",
+            "12", "13", "14", "15", "16", "17",
+        ],
         &["sat", "c.cnf", "log"],
         &["sat", "c.cnf", "log", "0"],
         &["unsat", "c.cnf"],

@@ -1,7 +1,7 @@
 -- the words ask for the command that was read, or for nothing
 use Rattle.std.proofs.Common.{subst}
 use Rattle.grade_top.specs.Requests.{command_of}
-use Rattle.grade_top.specs.Words.{All, Check, Grade, Nothing, Run, Sample, Sat, Unsat}
+use Rattle.grade_top.specs.Words.{All, Check, Grade, Nothing, Pick, Run, Sample, Sat, Unsat}
 use Rattle.grade_io.specs.Devices.{devices}
 use Rattle.file_commands.specs.Ends.{Ends}
 use Rattle.file_commands.proofs.Claims.{read_failed}
@@ -10,6 +10,7 @@ use Rattle.formula_commands.proofs.SatClaims as sat
 use Rattle.formula_commands.proofs.UnsatClaims as unsat
 use Rattle.grade_core.proofs.GradeClaims.{empty, graded}
 use Rattle.list_command.proofs.AllClaims as all
+use Rattle.pick_command.proofs.PickClaims as pick
 use Rattle.grade_top.specs.Commands.{file_command}
 use Rattle.grade_top.proofs.Claims.{empty_sample, no_usage, ran, refused, sampled, usage_ends}
 use Rattle.grade_top.proofs.OneCommand.{asks_something, one_command}
@@ -88,6 +89,14 @@ returns-in-Some-clause-many g c = λ w ts k asks told given many sure.
 pub returns-in-Some-clause-empty_list : goal.returns-in-Some-clause-empty_list
 returns-in-Some-clause-empty_list g c = λ w ts k asks told given none sure.
     all.empty w ts k _ _ c.answer.result (rw (one_command _ (command_of c.in-Some.command) (All w) (rw c.deref.ensures.value at c.in-Some.ensures.found) asks) at c.answer.ensures.ends) told given none sure
+
+pub returns-in-Some-clause-picked : goal.returns-in-Some-clause-picked
+returns-in-Some-clause-picked g c = λ w asks is.
+    pick.picked w _ _ c.answer.result (rw (one_command _ (command_of c.in-Some.command) (Pick w) (rw c.deref.ensures.value at c.in-Some.ensures.found) asks) at c.answer.ensures.ends) is
+
+pub returns-in-Some-clause-compared : goal.returns-in-Some-clause-compared
+returns-in-Some-clause-compared g c = λ w ts k asks told given sure.
+    pick.answered w _ _ c.answer.result ts k (rw (one_command _ (command_of c.in-Some.command) (Pick w) (rw c.deref.ensures.value at c.in-Some.ensures.found) asks) at c.answer.ensures.ends) told given sure
 
 pub returns-in-Some-clause-satisfiable : goal.returns-in-Some-clause-satisfiable
 returns-in-Some-clause-satisfiable g c = λ w asks is.

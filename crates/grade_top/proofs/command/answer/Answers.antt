@@ -1,7 +1,9 @@
 -- each command ends as its own call does
+use Rattle.std.specs.String.{string_bytes}
 use Rattle.file_commands.proofs.Calling.{no_calls}
 use Rattle.grade_top.specs.Commands.{file_command}
 use Rattle.grade_top.specs.Requests.{command_of}
+use Rattle.grade_top.proofs.KnownLengths.{few_before}
 use Rattle.grade_top.proofs.command.answer.Goals as goal
 
 pub grade-requires : goal.grade-requires
@@ -39,6 +41,15 @@ returns-in-All-clause-ends g c = rw c.in-All.is c.all.ensures.ends
 
 pub returns-in-All-clause-calls : goal.returns-in-All-clause-calls
 returns-in-All-clause-calls g c = rw c.in-All.is c.all.ensures.calls
+
+pub pick-requires : goal.pick-requires
+pick-requires g c = few_before string_bytes c.in-Pick.words.submissions.now 16 (rw c.in-Pick.is at c.requires.asks).2
+
+pub returns-in-Pick-clause-ends : goal.returns-in-Pick-clause-ends
+returns-in-Pick-clause-ends g c = rw c.in-Pick.is c.pick.ensures.ends
+
+pub returns-in-Pick-clause-calls : goal.returns-in-Pick-clause-calls
+returns-in-Pick-clause-calls g c = rw c.in-Pick.is c.pick.ensures.calls
 
 pub returns-in-Sat-clause-ends : goal.returns-in-Sat-clause-ends
 returns-in-Sat-clause-ends g c = rw c.in-Sat.is c.sat.ensures.ends
