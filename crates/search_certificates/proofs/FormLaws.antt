@@ -1,5 +1,6 @@
 -- Sessions of a search keep the limits of the form of certificates.
-use Rattle.std.proofs.Common.{◌≡◌, ℕ, suc, ◌+◌, ◌≤◌, true, List, [], ◌∷◌, ◌++◌, length, refl, ap, ◌∙◌, arith}
+use Rattle.std.proofs.Common.{◌≡◌, ℕ, suc, ◌+◌, ◌≤◌, ◌<◌, true, List, [], ◌∷◌, ◌++◌, length, refl, ap, ◌∙◌, arith}
+use Rattle.std.proofs.Common.{subst, sym, take, drop, get_or, drop-cons, take-append-drop}
 use Rattle.std.specs.Prelude.{All}
 use Rattle.std.specs.List.{list_all}
 use Rattle.std.proofs.lemmas.Bool.{and_from}
@@ -8,7 +9,7 @@ use Rattle.choice_tree.specs.declared.selection.Choice.{Choice}
 use Rattle.log_check.proofs.KeptSteps.{steps_kept}
 use Rattle.step_lines.proofs.Apart.{all_append}
 use Rattle.choice_tree.specs.Choices.{Rises}
-use Rattle.cert_text.proofs.Rising.{behind_picks, picks_more, rises_more}
+use Rattle.cert_text.proofs.Rising.{behind_picks, picks_more, rises_at, rises_more}
 use Rattle.cegis_loop.specs.Space.{Space}
 use Rattle.input_space.specs.declared.case.Case.{Case}
 use Rattle.input_space.specs.declared.session.Query.{Query}
@@ -55,3 +56,9 @@ choice_more cs c least rises all behind low own small = (
   picks_more 0 cs c ∙ (let e : suc c.pick ≡ c.pick + 1 = omega arith in e),
   omega arith,
 )
+
+-- a choice that rises stands behind those before it
+pub choice_behind : (cs : List Choice) (i : ℕ) (d : Choice) → i < length cs → Rises 0 cs → behind_picks 0 (take i cs) ≤ (get_or cs i d).pick
+choice_behind cs i d here rises =
+    rises_at 0 (take i cs) (get_or cs i d) (drop (suc i) cs)
+    (subst (λ ys. Rises 0 (take i cs ++ ys)) (drop-cons cs i d here) (subst (Rises 0) (sym (take-append-drop i cs)) rises))

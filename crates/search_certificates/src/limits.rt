@@ -1,6 +1,6 @@
 //! What the form of a certificate can hold.
 
-ghost use Rattle.std.specs.Prelude.{◌≡◌, ◌≤◌, All, IsTrue};
+ghost use Rattle.std.specs.Prelude.{◌≡◌, ◌≤◌, ◌↔◌, All, IsTrue};
 ghost use Rattle.cert_text.specs.Limits.{KeepsChoices, is_choice};
 ghost use Rattle.search_certificates.specs.Certified.{KeepsAsked};
 
@@ -23,7 +23,7 @@ fn is_choice(choice: &Choice) -> bool
 
 // Whether picks rise, and they and their members can be written.
 fn keep_choices(choices: &[Choice]) -> bool
-    ensures { IsTrue result → KeepsChoices choices.now }
+    ensures { IsTrue result ↔ KeepsChoices choices.now }
 {
     let mut least = 0u32;
     for choice in choices {
@@ -37,7 +37,7 @@ fn keep_choices(choices: &[Choice]) -> bool
 
 // Whether what a question names can be written.
 fn keeps_asked(query: &Query) -> bool
-    ensures { IsTrue result → KeepsAsked query.now }
+    ensures { IsTrue result ↔ KeepsAsked query.now }
 {
     match query {
         Query::First => true,
@@ -51,7 +51,7 @@ fn keeps_asked(query: &Query) -> bool
 
 /// Whether what the questions of sessions name can be written. Those of a task can.
 pub(crate) fn keep_asked(sessions: &[Session]) -> bool
-    ensures { IsTrue result → All (λ x. KeepsAsked x.query) sessions.now }
+    ensures { IsTrue result ↔ All (λ x. KeepsAsked x.query) sessions.now }
 {
     for session in sessions {
         if !keeps_asked(&session.query) {

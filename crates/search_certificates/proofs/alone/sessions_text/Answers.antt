@@ -19,7 +19,7 @@ write_parts-requires c =
     let n = c.args.clauses in
     let r = c.requires in
     let asked : All (λ (x : Session). KeepsAsked x.query) xs =
-    subst (All (λ (x : Session). KeepsAsked x.query)) c.items.ensures (c.keep_asked.ensures c.if-not-keep_asked.false) in
+    subst (All (λ (x : Session). KeepsAsked x.query)) c.items.ensures (c.keep_asked.ensures.0 c.if-not-keep_asked.false) in
     subst (λ ys. KeepsForm (cert_with (claim.Spent n) c.from_vec-none.result c.from_vec-cases.result (ys ++ []))) (sym c.items-2.ensures)
     (subst (λ (x : List Case). KeepsForm (cert_with (claim.Spent n) c.from_vec-none.result x (xs ++ []))) (sym (c.from_vec-cases.ensures ∙ c.new-2.ensures.items))
     (subst (λ (s : List Choice). KeepsForm (cert_with (claim.Spent n) s [] (xs ++ []))) (sym (c.from_vec-none.ensures ∙ c.new.ensures.items))

@@ -47,7 +47,7 @@ write_parts-requires c =
     let small = c.if-cost-gt-MOST_COST.false in
     cost_form k kept xs own more r.budget c.args.cost r.found c.in-Fail.selection r.claims c.count-cases.ensures.few (omega arith) one
     (first_asks xs own c.index-failing-0.result c.in-Fail.selection one c.in-Fail.is) low
-    (c.keep_asked.ensures c.if-not-keep_asked.false) (c.keep_asked-else-not-keep_asked.ensures c.if-not-keep_asked-2.false)
+    (c.keep_asked.ensures.0 c.if-not-keep_asked.false) (c.keep_asked-else-not-keep_asked.ensures.0 c.if-not-keep_asked-2.false)
 
 pub returns : goal.returns
 returns c =

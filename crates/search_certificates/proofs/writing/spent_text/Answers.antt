@@ -22,7 +22,7 @@ write_parts-requires c =
     let many : logged xs ≡ n = spent_many r.found (logged xs) n r.claims.claimed in
     let most = r.few in
     let asked : All (λ (x : Session). KeepsAsked x.query) xs =
-    subst (All (λ (x : Session). KeepsAsked x.query)) c.items.ensures (c.keep_asked.ensures c.if-not-keep_asked.false) in
+    subst (All (λ (x : Session). KeepsAsked x.query)) c.items.ensures (c.keep_asked.ensures.0 c.if-not-keep_asked.false) in
     subst (λ ys. KeepsForm (cert_with (claim.Spent n) c.from_vec-none.result kept (ys ++ []))) (sym c.items-2.ensures)
     (subst (λ (s : List Choice). KeepsForm (cert_with (claim.Spent n) s kept (xs ++ []))) (sym (c.from_vec-none.ensures ∙ c.new.ensures.items))
     (spent_form k kept xs r.budget n r.found r.claims c.count-cases.ensures.few (r.some n refl) (omega arith) asked))
