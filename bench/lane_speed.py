@@ -1,5 +1,5 @@
 #!/usr/bin/env python3
-"""Running 64 inputs at once beside the interpreter, in instructions, which a busy machine repeats.
+"""Running 64 inputs at once beside the interpreter, in instructions, which a busy machine repeats; and the picker, by time.
 
     python3 bench/lane_speed.py [--program PROGRAM] [NAME ..]
 
@@ -7,11 +7,12 @@ Run it at the top of the repository, with `rt` and `valgrind` on the path. The p
 built one is named. The programs are the references of the examples within the bounds of `large.txt`, on all their inputs; those of
 `every_second` are too many, so its elements are -2..2 here. Then come some small programs that compute on numbers.
 
-Each program is picked for beside itself, once and twice more, over lanes and by the interpreter. What one more costs is one run of
-64 inputs over lanes, and what the rest costs without making the inputs is the reference's run on each input by the interpreter. Then
-the submissions of an example that are read to programs are picked for. Both ways must print the same cases and marks; the exit status
-is 1 where they don't. Printed are the instructions of 64 runs of the interpreter and of one over lanes, how many of the second the first
-is, and the same of the picker for all submissions.
+Inputs are picked for each program beside itself, once and twice, over lanes and by the interpreter. What it costs more to have it
+twice is one run over lanes for each 64 inputs, with a comparison; and by the interpreter what is left of the cost of once, without
+that and without making the inputs, is one run on each input. Then inputs are picked for up to 16 submissions of an example that
+are read to programs, and the least times of some runs are compared. Both ways must print the same cases and marks: the exit status
+is 1 where they don't. Printed are how many inputs there are, the instructions of 64 runs of the interpreter and of one over lanes,
+the ratio, and for how many submissions the picker takes how many milliseconds by the interpreter and over lanes.
 """
 import argparse
 import contextlib
@@ -26,7 +27,7 @@ sys.path.insert(0, os.path.dirname(os.path.realpath(__file__)))
 from built import Built
 
 USES = ['mpy_tree', 'mpy_interp', 'bounds_reader', 'input_space', 'task_read', 'test_picker']
-WAYS = ('interpreter', 'lanes')
+RUNS = 7
 # As many programs as a command picks for.
 MOST = 16
 FEWER = {'every_second': ('-4..4', '-2..2')}
@@ -47,31 +48,35 @@ SMALL = {
 
 
 class Program:
-    """The built program under valgrind."""
+    """The built program."""
 
     def __init__(self, path):
         self.path = path
 
     def instructions(self, *words):
-        """How many it takes, and the lines that it prints; none where it refuses its files."""
-        run = subprocess.run(['valgrind', '--tool=callgrind', '--callgrind-out-file=/dev/null', self.path] + list(words),
-                             stdout=subprocess.PIPE, stderr=subprocess.PIPE, text=True)
-        if run.returncode != 0:
-            return None
+        """How many it takes, and what it prints but for times."""
+        words = ['valgrind', '--tool=callgrind', '--callgrind-out-file=/dev/null', self.path] + list(words)
+        run = subprocess.run(words, stdout=subprocess.PIPE, stderr=subprocess.PIPE, text=True, check=True)
         lines = [line for line in run.stdout.splitlines() if not line.startswith('time ')]
         return int(re.search(r'Collected : (\d+)', run.stderr)[1]), lines
 
+    def milliseconds(self, *words):
+        """The least time of some runs, and what it prints but for times."""
+        runs = [subprocess.run([self.path] + list(words), stdout=subprocess.PIPE, text=True, check=True).stdout for _ in range(RUNS)]
+        least = min(int(re.search(r'^time (\d+)', it, re.MULTILINE)[1]) for it in runs)
+        return least / 1000, [line for line in runs[0].splitlines() if not line.startswith('time ')]
+
     def reads(self, *words):
-        return subprocess.run([self.path, 'read'] + list(words), stdout=subprocess.DEVNULL, stderr=subprocess.DEVNULL).returncode == 0
+        words = [self.path, 'read'] + list(words)
+        return subprocess.run(words, stdout=subprocess.DEVNULL, stderr=subprocess.DEVNULL).returncode == 0
 
 
 class Measured:
-    """What programs cost by both ways beside a reference."""
+    """What both ways take, and whether they print the same."""
 
-    def __init__(self, program, bounds, reference, others):
-        costs, told = zip(*(program.instructions(way, bounds, reference, *others) for way in WAYS))
-        self.costs = dict(zip(WAYS, costs))
-        self.alike = told[0] == told[1]
+    def __init__(self, measure, *files):
+        (self.interpreter, told), (self.lanes, other) = (measure(way, *files) for way in ('interpreter', 'lanes'))
+        self.alike = told == other
 
 
 class Row:
@@ -81,24 +86,21 @@ class Row:
         self.name = name
         first, told = program.instructions('inputs', bounds, reference)
         self.inputs = int(told[0].split()[1])
-        once = Measured(program, bounds, reference, [reference])
-        twice = Measured(program, bounds, reference, [reference] * 2)
-        more = {way: twice.costs[way] - once.costs[way] for way in WAYS}
-        self.interpreter = (once.costs['interpreter'] - more['interpreter'] - first) * 64 // self.inputs
-        self.lanes = more['lanes'] // -(-self.inputs // 64)
-        good = [it for it in submissions if program.reads(bounds, reference, it)][:MOST]
-        picked = Measured(program, bounds, reference, good) if good else None
-        self.picked = picked.costs['interpreter'] / picked.costs['lanes'] if picked else None
-        self.many = len(good)
-        self.alike = once.alike and twice.alike and (picked is None or picked.alike)
+        once = Measured(program.instructions, bounds, reference, reference)
+        twice = Measured(program.instructions, bounds, reference, reference, reference)
+        more = twice.interpreter - once.interpreter
+        self.interpreter = (once.interpreter - more - first) * 64 // self.inputs
+        self.lanes = (twice.lanes - once.lanes) // -(-self.inputs // 64)
+        self.good = [it for it in submissions if program.reads(bounds, reference, it)][:MOST]
+        self.picked = Measured(program.milliseconds, bounds, reference, *self.good) if self.good else None
+        self.alike = once.alike and twice.alike and (not self.good or self.picked.alike)
 
     def ratio(self):
         return self.interpreter / self.lanes
 
     def cells(self):
-        picked = '%d: %.2f' % (self.many, self.picked) if self.picked else ''
-        return '`%s` | %s | %s | %s | %.2f | %s' % (self.name, '{:,}'.format(self.inputs), '{:,}'.format(self.interpreter),
-                                                    '{:,}'.format(self.lanes), self.ratio(), picked)
+        picked = '%d: %.1f, %.1f' % (len(self.good), self.picked.interpreter, self.picked.lanes) if self.good else ''
+        return ['`%s`' % self.name] + ['{:,}'.format(it) for it in (self.inputs, self.interpreter, self.lanes)] + ['%.2f' % self.ratio(), picked]
 
 
 def write(folder, name, text):
@@ -134,12 +136,12 @@ def main():
     with contextlib.ExitStack() as open_:
         work, texts = (open_.enter_context(tempfile.TemporaryDirectory()) for _ in range(2))
         program = Program(given.program or Built(work, 'lanes', USES).program)
-        print('| program | inputs | 64 runs of the interpreter | a run over lanes | ratio | picking for submissions |')
+        print('| program | inputs | 64 runs of the interpreter | a run over lanes | ratio | picking for submissions: ms |')
         print('|---|---|---|---|---|---|', flush=True)
         for task in tasks(texts):
             if not given.names or task[0] in given.names:
                 rows.append(Row(program, *task))
-                print('| %s |%s' % (rows[-1].cells(), '' if rows[-1].alike else '  the answers differ'), flush=True)
+                print('| %s |%s' % (' | '.join(rows[-1].cells()), '' if rows[-1].alike else '  the answers differ'), flush=True)
     if rows:
         print('in the mean %.2f' % mean(rows))
     return 0 if all(it.alike for it in rows) else 1
