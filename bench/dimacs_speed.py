@@ -7,8 +7,8 @@ PROGRAM is crates/grader_cli/out/grader_cli unless it is given. `minisat` and `c
 path. A text of N megabytes (64) has random clauses of three literals over 100,000 variables, some of 20 literals where there would be
 too many. `unsat` reads it and rejects a proof without steps; cadical reads it and decides nothing; minisat tells the seconds of its own
 reading. Then each of some formulas without values is solved by `sat`, and its proof is judged by `unsat`, and by drat-trim without its
-hints. Then one clause of so many literals (500,000) is read by `unsat`, and solved by `sat` with a fiftieth of them, with the memory of
-the process: with each variable once, and twice in three orders. Times are those of the processor, each the least of RUNS runs.
+hints. Then one clause of so many literals (500,000) is read by `unsat` and solved by `sat`, with the memory of the process: with each
+variable once, and twice in three orders. Times are those of the processor, each the least of RUNS runs.
 """
 import argparse
 import multiprocessing
@@ -119,14 +119,14 @@ def write_clause(path, count, order):
 def long_clause(program, folder, count):
     path = os.path.join(folder, 'wide.cnf')
     for order in ORDERS:
-        for literals, words in ((count, ['unsat', 'wide.cnf', 'none']), (count // 50, ['sat', 'wide.cnf', 'log', '1'])):
-            # In a process of its own, as above.
-            writer = multiprocessing.Process(target=write_clause, args=(path, literals, order))
-            writer.start()
-            writer.join()
+        # In a process of its own, as above.
+        writer = multiprocessing.Process(target=write_clause, args=(path, count, order))
+        writer.start()
+        writer.join()
+        for words in (['unsat', 'wide.cnf', 'none'], ['sat', 'wide.cnf', 'log', '1']):
             run = Run([program] + words, folder)
             print('a clause of %d literals, %s, %.1f MB: %s %.2f s, %.1f MB of memory, %r' % (
-                literals, order, os.path.getsize(path) / MEGABYTE, words[0], run.seconds, run.megabytes, run.output[:20]))
+                count, order, os.path.getsize(path) / MEGABYTE, words[0], run.seconds, run.megabytes, run.output[:20]))
 
 
 def main():

@@ -11,4 +11,5 @@ pub mod Growing
 pub mod Backing
 pub mod Values
 pub mod Visiting
+pub mod Rounds
 pub mod Bounded

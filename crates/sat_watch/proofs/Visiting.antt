@@ -44,7 +44,7 @@ pub scan_quiet : (vars v : ℕ) (es : List Entry) (lits : List Lit) (scan : Scan
     → IsScan (literals_of es) lits scan → FindsNone v scan → IsUnitAt v (literals_of es) lits → ⊥
 scan_quiet vars v es lits Closed ordered unset distinct closed none = quiet_closed v (literals_of es) lits unset closed
 scan_quiet vars v es lits (One l) ordered unset distinct one none = quiet_one v (literals_of es) lits l unset one.0 (none l refl)
-scan_quiet vars v es lits (Other l) ordered unset distinct other none = quiet_other v (literals_of es) lits (λ k h. consistent vars es k ordered h) unset distinct other.0
+scan_quiet vars v es lits (Other l place) ordered unset distinct other none = quiet_other v (literals_of es) lits (λ k h. consistent vars es k ordered h) unset distinct other.0
 
 -- what doesn't give the variable its value is the clause at a place
 pub quiet_at : (clauses : List Clause) (k v : ℕ) (c : Clause) (known lits : List Lit) → slice_get clauses k ≡ Some c → lits ≡ c.lits → (has_no_variable_twice lits ≡ true → IsUnitAt v known lits → ⊥)

@@ -21,8 +21,9 @@ pub enum Seen {
     Closed,
     /// One wasn't false, and became true.
     Implied,
-    /// One is true, or two and more aren't false: here is one of them.
-    Other(Lit),
+    /// One is true, or two and more aren't false: here is one of them, and the place in the clause
+    /// where the look ended, counted from 0.
+    Other(Lit, usize),
 }
 
 /// A clause whose other literals are false, and the literal that is left.
@@ -32,9 +33,15 @@ pub struct Given {
     pub lit: Lit,
 }
 
-/// Looks at the clause of a number. One with a single literal that isn't false makes that literal
-/// true.
-pub fn visit(known: &Known<'_>, trail: &mut Trail, number: u32, other: Lit) -> Seen
+/// Looks at the clause of a number, from a place on and then from its front. One with a single
+/// literal that isn't false makes that literal true.
+pub fn visit(
+    known: &Known<'_>,
+    trail: &mut Trail,
+    number: u32,
+    from: usize,
+    other: Lit,
+) -> Seen
     requires vars { trail.old.vars ≡ known.now.vars }
     requires some { 0 < number }
     requires within { number ≤ length (all_of known.now) }
@@ -45,13 +52,13 @@ pub fn visit(known: &Known<'_>, trail: &mut Trail, number: u32, other: Lit) -> S
     ensures seen { IsSeen known.now trail.new.entries number result }
 {
     let clause = known.at(number);
-    match trail.look_over(clause.lits.as_slice(), other) {
+    match trail.look_over(clause.lits.as_slice(), from, other) {
         Scan::Closed => Seen::Closed,
         Scan::One(lit) => {
             trail.imply(lit, number);
             Seen::Implied
         }
-        Scan::Other(lit) => Seen::Other(lit),
+        Scan::Other(lit, place) => Seen::Other(lit, place),
     }
 }
 
@@ -90,10 +97,10 @@ pub fn go_over(known: &Known<'_>, trail: &mut Trail, watches: &mut Watches, lit:
             before = item;
         } else {
             let number = number_of(item);
-            match visit(known, trail, number, other) {
+            match visit(known, trail, number, watches.place(item), other) {
                 Seen::Closed => return Some(number),
                 Seen::Implied => before = item,
-                Seen::Other(to) => watches.rewatch(lit, before, item, to),
+                Seen::Other(to, place) => watches.rewatch(lit, before, item, to, place),
             }
         }
         item = next;
@@ -159,7 +166,7 @@ fn look_at(
         listing.remember(number, place);
         return None;
     }
-    if let Scan::One(lit) = trail.look_over(lits, Lit::default()) {
+    if let Scan::One(lit) = trail.look_over(lits, 0, Lit::default()) {
         if lit.var == var {
             return Some(lit);
         }

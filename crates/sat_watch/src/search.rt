@@ -131,7 +131,7 @@ impl<'a> Search<'a> {
         ensures grows { Grows self.old.entries self.new.entries }
         ensures seen { IsSeen self.new.base self.new.entries number result }
     {
-        visit(&self.known, &mut self.trail, number, Lit::default())
+        visit(&self.known, &mut self.trail, number, 0, Lit::default())
     }
 
     /// Looks once at each clause of the formula, up to one whose literals are all false: gives its

@@ -2,7 +2,7 @@
 
 ghost use Rattle.std.specs.Prelude.{◌≡◌, ◌⊎◌, ◌+◌, ◌<◌, ◌≤◌, ◌≢◌, true, false, [], ◌∷◌};
 ghost use Rattle.std.specs.Prelude.{IfOk, IfSome, IsSomeAnd, MatchOption, None, Some, length};
-ghost use Rattle.std.specs.Prelude.{reverse, slice_get};
+ghost use Rattle.std.specs.Prelude.{◌++◌, ◌^◌, option_to_list, reverse, slice_get};
 ghost use Rattle.std.specs.List.{list_any};
 ghost use Rattle.clause_base.specs.declared.lit.Lit.{Lit};
 ghost use Rattle.clause_base.specs.Follows.{is_false, open_literals};
@@ -32,8 +32,9 @@ pub struct Entry {
 pub enum Scan {
     Closed,
     One(Lit),
-    /// One is true, or two and more aren't false: here is one of them.
-    Other(Lit),
+    /// One is true, or two and more aren't false: here is one of them, and the place in the clause
+    /// where the look ended, counted from 0. Nothing is claimed of the place.
+    Other(Lit, usize),
 }
 
 /// The literals that are true, and the values that they give the variables. There is room for one
@@ -156,26 +157,45 @@ impl Trail {
         None
     }
 
-    /// Looks for the literals of a clause that aren't false, up to a true one or the second; of
-    /// two it gives one that isn't `other`.
-    pub fn look_over(&self, lits: &[Lit], other: Lit) -> Scan
-        requires { IsCovered self.now.vars lits.now }
-        ensures { IsScan (literals_of self.now.entries) lits.now result }
+    /// Goes on with a look over a clause, of which at most one literal that isn't false was found:
+    /// looks over a part of it, whose first literal has the place `start`.
+    fn look_on(&self, part: &[Lit], start: usize, before: Option<Lit>, other: Lit) -> Scan
+        requires covered { IsCovered self.now.vars part.now }
+        requires places { start + length part.now < 2 ^ 64 }
+        requires unset { IfSome before (λ l. standing (literals_of self.now.entries) l ≡ None) }
+        ensures { IsScan (literals_of self.now.entries) (option_to_list before ++ part.now) result }
     {
-        let mut found: Option<Lit> = None;
-        for lit in lits {
-            match self.standing(*lit) {
-                Some(true) => return Scan::Other(*lit),
+        let mut found = before;
+        for place in 0..part.len() {
+            let lit = part[place];
+            match self.standing(lit) {
+                Some(true) => return Scan::Other(lit, start + place),
                 Some(false) => {}
                 None => match found {
-                    None => found = Some(*lit),
-                    Some(first) => return Scan::Other(one_of(first, *lit, other)),
+                    None => found = Some(lit),
+                    Some(first) => return Scan::Other(one_of(first, lit, other), start + place),
                 },
             }
         }
         match found {
             None => Scan::Closed,
             Some(lit) => Scan::One(lit),
+        }
+    }
+
+    /// Looks for the literals of a clause that aren't false, up to a true one or the second; of
+    /// two it gives one that isn't `other`. It begins at the place `from`, or at 0 where there is
+    /// no such place, goes to the end, and then from the front on.
+    pub fn look_over(&self, lits: &[Lit], from: usize, other: Lit) -> Scan
+        requires { IsCovered self.now.vars lits.now }
+        ensures { IsScan (literals_of self.now.entries) lits.now result }
+    {
+        let start = if from < lits.len() { from } else { 0 };
+        let (front, back) = lits.split_at(start);
+        match self.look_on(back, start, None, other) {
+            Scan::Closed => self.look_on(front, 0, None, other),
+            Scan::One(lit) => self.look_on(front, 0, Some(lit), other),
+            Scan::Other(lit, place) => Scan::Other(lit, place),
         }
     }
 

@@ -11,11 +11,14 @@ use std::marker::Model;
 /// How many clauses have items whose numbers are within 32 bits.
 const MOST_CLAUSES: u32 = 2147483647;
 
-/// A literal that a clause watches, and the number of the next item of its list, or 0.
+/// A literal that a clause watches, and the number of the next item of its list, or 0. A place is
+/// remembered where the look at the clause ended by which this literal was found; nothing is
+/// claimed of it.
 #[derive(Clone, Copy)]
 pub struct Watch {
     lit: Lit,
     next: u32,
+    place: u32,
 }
 
 /// For each literal the list of the clauses that watch it. A clause watches two literals and has an
@@ -106,6 +109,14 @@ impl Watches {
         self.items[other_place(item)].lit
     }
 
+    /// The place in its clause that is remembered with an item, counted from 0.
+    pub fn place(&self, item: u32) -> usize
+        requires some { 0 < item }
+        requires within { item ≤ 2 * self.now.clauses }
+    {
+        self.items[item as usize - 1].place as usize
+    }
+
     /// One clause more, which watches two literals. With 2147483647 clauses it is want of memory.
     pub fn watch(&mut self, first: Lit, second: Lit) -> Result<(), NoMemory>
         requires first { in_range self.old.vars first ≡ true }
@@ -116,8 +127,8 @@ impl Watches {
     {
         self.watch_none()?;
         let item = 2 * self.clauses;
-        self.link(item - 1, first);
-        self.link(item, second);
+        self.link(item - 1, first, 0);
+        self.link(item, second, 0);
         Ok(())
     }
 
@@ -133,6 +144,7 @@ impl Watches {
         let none = Watch {
             lit: Lit::default(),
             next: 0,
+            place: 0,
         };
         self.items.reserve(2)?;
         self.items.push_reserved(none);
@@ -141,8 +153,9 @@ impl Watches {
         Ok(())
     }
 
-    /// Puts an item, which is in no list, before the others that watch a literal.
-    fn link(&mut self, item: u32, lit: Lit)
+    /// Puts an item, which is in no list, before the others that watch a literal, and remembers a
+    /// place with it.
+    fn link(&mut self, item: u32, lit: Lit, place: usize)
         requires range { in_range self.old.vars lit ≡ true }
         requires some { 0 < item }
         requires within { item ≤ 2 * self.old.clauses }
@@ -152,13 +165,14 @@ impl Watches {
         self.items[item as usize - 1] = Watch {
             lit,
             next: self.heads[list],
+            place: u32::try_from(place).unwrap_or(0),
         };
         self.heads[list] = item;
     }
 
     /// Takes an item out of a literal's list, behind the item `before`, or the first where that is
-    /// 0; from here on it watches another literal.
-    pub fn rewatch(&mut self, lit: Lit, before: u32, item: u32, to: Lit)
+    /// 0; from here on it watches another literal, and remembers a place.
+    pub fn rewatch(&mut self, lit: Lit, before: u32, item: u32, to: Lit, place: usize)
         requires from { in_range self.old.vars lit ≡ true }
         requires to { in_range self.old.vars to ≡ true }
         requires before { before ≤ 2 * self.old.clauses }
@@ -173,6 +187,6 @@ impl Watches {
         } else {
             self.items[before as usize - 1].next = next;
         }
-        self.link(item, to);
+        self.link(item, to, place);
     }
 }
