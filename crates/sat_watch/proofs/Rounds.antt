@@ -1,5 +1,5 @@
 -- A clause that is looked over in two parts.
-use Rattle.std.proofs.Common.{◌≡◌, ℕ, ◌<◌, ◌≤◌, ◌+◌, Bool, true, false, not, ◌||◌, List, [], ◌∷◌, ◌++◌, append_assoc, append-nil, filter, take, take-append-drop, drop, get_or, length, length-append, refl, sym, ap, ◌∙◌, subst, inl, inr, arith}
+use Rattle.std.proofs.Common.{◌≡◌, ℕ, ◌<◌, ◌≤◌, ◌+◌, Bool, true, false, not, ◌||◌, List, [], ◌∷◌, ◌++◌, append_assoc, append-nil, take, take-append-drop, drop, get_or, length, length-append, refl, sym, ap, ◌∙◌, inl, inr, arith}
 use Rattle.std.specs.Prelude.{IfSome, None, Option, Some, option_to_list}
 use Rattle.std.specs.List.{list_any}
 use Rattle.std.proofs.lemmas.List.{take_more}
@@ -40,14 +40,14 @@ pub false_more : (known before part found : List Lit) (i : ℕ) (d : Lit) → i 
 false_more known before part found i d within is down =
     let none : open_literals known (get_or part i d ∷ []) ≡ [] = rw down refl in
     ap (open_literals known) (seen_more before part i d within) ∙ open_append known (before ++ take i part) (get_or part i d ∷ [])
-        ∙ ap (λ (xs : List Lit). xs ++ open_literals known (get_or part i d ∷ [])) is ∙ ap (λ (xs : List Lit). found ++ xs) none ∙ append-nil found
+    ∙ ap (λ (xs : List Lit). xs ++ open_literals known (get_or part i d ∷ [])) is ∙ ap (λ (xs : List Lit). found ++ xs) none ∙ append-nil found
 
 pub open_more : (known before part : List Lit) (i : ℕ) (d : Lit) → i < length part → open_literals known (before ++ take i part) ≡ [] → is_false known (get_or part i d) ≡ false
     → open_literals known (before ++ take (i + 1) part) ≡ get_or part i d ∷ []
 open_more known before part i d within is up =
     let one : open_literals known (get_or part i d ∷ []) ≡ get_or part i d ∷ [] = rw up refl in
     ap (open_literals known) (seen_more before part i d within) ∙ open_append known (before ++ take i part) (get_or part i d ∷ [])
-        ∙ ap (λ (xs : List Lit). xs ++ open_literals known (get_or part i d ∷ [])) is ∙ one
+    ∙ ap (λ (xs : List Lit). xs ++ open_literals known (get_or part i d ∷ [])) is ∙ one
 
 -- what was found before a part is looked over
 pub open_found : (known : List Lit) (found : Option Lit) → IfSome found (λ l. standing known l ≡ None) → open_literals known (option_to_list found ++ []) ≡ option_to_list found

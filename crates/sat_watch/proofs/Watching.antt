@@ -18,5 +18,5 @@ second_open known before part i d x within one up =
     let next : drop i part ≡ get_or part i d ∷ drop (i + 1) part = drop_more part i d within in
     let back : filter p (drop i part) ≡ get_or part i d ∷ filter p (drop (i + 1) part) = ap (filter p) next ∙ rw here refl in
     let whole : filter p (before ++ part) ≡ x ∷ get_or part i d ∷ filter p (drop (i + 1) part) = ap (filter p) (sym (cut_at before part i)) ∙ filter-append p (before ++ take i part) (drop i part) ∙ ap (λ (ys : List Lit). ys ++ filter p (drop i part)) one
-        ∙ ap (λ (ys : List Lit). x ∷ ys) back in
+    ∙ ap (λ (ys : List Lit). x ∷ ys) back in
     two_open known x (get_or part i d) (filter p (drop (i + 1) part)) (before ++ part) whole

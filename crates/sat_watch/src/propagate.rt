@@ -35,13 +35,7 @@ pub struct Given {
 
 /// Looks at the clause of a number, from a place on and then from its front. One with a single
 /// literal that isn't false makes that literal true.
-pub fn visit(
-    known: &Known<'_>,
-    trail: &mut Trail,
-    number: u32,
-    from: usize,
-    other: Lit,
-) -> Seen
+pub fn visit(known: &Known<'_>, trail: &mut Trail, number: u32, from: usize, other: Lit) -> Seen
     requires vars { trail.old.vars ≡ known.now.vars }
     requires some { 0 < number }
     requires within { number ≤ length (all_of known.now) }
