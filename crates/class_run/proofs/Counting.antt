@@ -1,5 +1,5 @@
--- Each entry of a file that wasn't read was counted as a fault.
-use Rattle.std.proofs.Common.{◌≡◌, ◌≢◌, ◌⊎◌, ℕ, ◌+◌, ◌-◌, ◌^◌, ◌<◌, ◌≤◌, ◌==◌, Bool, true, false, cond, List, [], ◌∷◌, refl, ap, ◌∙◌, inl, inr, arith}
+-- Each entry of a file that wasn't read was counted as a fault, and nothing else.
+use Rattle.std.proofs.Common.{◌≡◌, ◌≢◌, ◌⊎◌, ℕ, ◌+◌, ◌-◌, ◌^◌, ◌<◌, ◌≤◌, ◌==◌, Bool, true, false, cond, List, [], ◌∷◌, length, refl, ap, sym, subst, ◌∙◌, inl, inr, arith}
 use Rattle.std.proofs.lemmas.Bool.{cases_lt}
 use Rattle.std.proofs.lemmas.List.Sums.{sum_by-cons}
 use Rattle.grade_io.specs.Devices.{ShelfState, Rose}
@@ -8,7 +8,7 @@ use Rattle.grade_io.specs.declared.status.Status.{Status}
 use Rattle.grade_io.specs.declared.status.Status.TheVariants as status
 use Rattle.class_text.specs.Entries.{Entry, count_of}
 use Rattle.class_run.specs.Classes.{Class, Got, Unread, TooLong, Bytes, Shared, Tells}
-use Rattle.class_run.specs.Listed.{AreEntries, Gave}
+use Rattle.class_run.specs.Listed.{AreEntries, FaultsIn, Gave}
 use Rattle.class_run.specs.Outcomes.{RoseBy}
 
 -- an entry of a file that wasn't read, and any other
@@ -73,3 +73,33 @@ rose_by c t first (n ∷ ns) [] before after so = absurd so
 rose_by c t first (n ∷ ns) (x ∷ xs) before after so =
     step x xs before.faults so.0.faults after.faults (is_one_or_none c t first n x before so.0 so.1.0.got so.1.0.gave so.1.0.tells)
     (rose_by c t first ns xs so.0 after so.1.1)
+
+-- FAULTS BEHIND FETCHES
+
+rose_on : (a b c : ℕ) → Rose a b → Rose b c → Rose a c
+rose_on a b c one two = omega (arith, one, two)
+
+-- faults are counted in fetches and in others behind them
+pub joined : (k m n : ℕ) (a b c : ShelfState) → 0 < k → FaultsIn m a b → FaultsIn n b c → FaultsIn k a c
+joined k m n a b c some (inl still) (inl also) = inl (also ∙ still)
+joined k m n a b c some (inl still) (inr rose) = inr (some, subst (λ x. Rose x c.faults) still rose.1)
+joined k m n a b c some (inr rose) (inl still) = inr (some, subst (λ x. Rose a.faults x) (sym still) rose.1)
+joined k m n a b c some (inr rose) (inr more) = inr (some, rose_on a.faults b.faults c.faults rose.1 more.1)
+
+pub unchanged : (m n : ℕ) (a b c : ShelfState) → m ≡ n → FaultsIn m a b → c.faults ≡ b.faults → FaultsIn n a c
+unchanged m n a b c same (inl still) also = inl (also ∙ still)
+unchanged m n a b c same (inr rose) also = inr (omega (arith, same, rose.0), subst (λ x. Rose a.faults x) (sym also) rose.1)
+
+one_fault : (x : Entry) (before now : ShelfState) → IsOneOrNone x before.faults now.faults → FaultsIn 1 before now
+one_fault x before now (inl one) = inr (omega arith, one.1)
+one_fault x before now (inr none) = inl none.1
+
+pub faults_in : (c : Class) (t : Shared) (first : ShelfState) (ns : List (List ℕ)) (xs : List Entry) (before after : ShelfState) → AreEntries c t first ns xs before after
+    → FaultsIn (length ns) before after
+faults_in c t first [] [] before after same = inl (ap (λ (s : ShelfState). s.faults) same)
+faults_in c t first [] (x ∷ xs) before after so = absurd so
+faults_in c t first (n ∷ ns) [] before after so = absurd so
+faults_in c t first (n ∷ ns) (x ∷ xs) before after so =
+    joined (length (n ∷ ns)) 1 (length ns) before so.0 after (omega arith)
+    (one_fault x before so.0 (is_one_or_none c t first n x before so.0 so.1.0.got so.1.0.gave so.1.0.tells))
+    (faults_in c t first ns xs so.0 after so.1.1)

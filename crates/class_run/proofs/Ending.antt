@@ -43,4 +43,5 @@ module _ (c : Class) (before after : Devices) where
   ends_so (Err (class.NoList line)) s is told = said (NoList line) s is told
   ends_so (Err class.Failed) s is told =
       subst (Ends c before after) (sym told.0) (record { rose = is.rose; calls = is.calls; silent = silent before.sink after.sink told.1 })
-  ends_so (Err class.NoMemory) s is told = subst (Ends c before after) (sym told.0) (inl (silent before.sink after.sink told.1))
+  ends_so (Err class.NoMemory) s is told =
+      subst (Ends c before after) (sym told.0) (inl (record { well = is; silent = silent before.sink after.sink told.1 }))

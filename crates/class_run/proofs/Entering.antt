@@ -1,8 +1,9 @@
 -- The entry of a listed file, and entries in turn.
-use Rattle.std.proofs.Common.{◌≡◌, ◌≢◌, ◌⊎◌, ℕ, ◌<◌, ◌+◌, List, [], ◌∷◌, ◌++◌, length, map, take, get_or, Result, Ok, Err, IfOk, None, Some, append-nil, ap, refl, sym, subst, ◌∙◌, inl, inr}
+use Rattle.std.proofs.Common.{◌≡◌, ◌≢◌, ◌⊎◌, ℕ, ◌<◌, ◌+◌, List, [], ◌∷◌, ◌++◌, length, map, take, get_or, Result, Ok, Err, IfOk, None, Some, append-nil, ap, refl, sym, subst, ◌∙◌, inl, inr, arith}
 use Rattle.std.specs.Prelude.{Option}
 use Rattle.std.specs.String.{string_bytes}
-use Rattle.std.proofs.lemmas.List.{map-append, take-map, take_more}
+use Rattle.std.proofs.lemmas.List.{length-map, length-take-le, map-append, take-map, take_more}
+use lib.Seq.{take-length}
 use Rattle.grade_io.specs.Devices.{ShelfCall, ShelfState, Fetch, Rose, added}
 use Rattle.grade_io.specs.Kept.{FilesLeft, Holds}
 use Rattle.grade_io.proofs.CallList.{go_on}
@@ -15,7 +16,8 @@ use Rattle.class_text.specs.Entries.{Entry}
 use Rattle.class_text.specs.declared.entry.Entry as code
 use Rattle.class_text.specs.EntryViews.{entry_of}
 use Rattle.class_run.specs.Classes.{Class, Got, Unread, TooLong, Bytes, IsRefusedLong, IsUnread, Shared}
-use Rattle.class_run.specs.Listed.{AreEntries, Gave, IsEntry}
+use Rattle.class_run.specs.Listed.{AreEntries, CountsIn, FaultsIn, FetchesFirst, Gave, IsEntry}
+use Rattle.class_run.proofs.Counting.{faults_in, joined, unchanged}
 
 -- ONE ENTRY
 
@@ -132,19 +134,55 @@ pub calls_so_far : {S : Type 0} (bytes : S → List ℕ) (names : List S) (i : �
 calls_so_far bytes names i first now made =
     made ∙ ap (added first) (ap (map Fetch) (sym (take-map bytes i names)) ∙ sym (take-map Fetch i (map bytes names)))
 
--- those of an entry that wasn't had
-pub calls_at_stop : {S : Type 0} (bytes : S → List ℕ) (names : List S) (i : ℕ) (d : S) (name : List ℕ) (first now after : Option (List ShelfCall))
-    → i < length names → bytes (get_or names i d) ≡ name → now ≡ added first (map Fetch (map bytes (take i names)))
-    → (after ≡ added now (Fetch name ∷ [])) ⊎ (after ≡ now) → (n : ℕ) × (after ≡ added first (take n (map Fetch (map bytes names))))
-calls_at_stop bytes names i d name first now after within is made call =
-    let front : map bytes (take (i + 1) names) ≡ map bytes (take i names) ++ name ∷ [] =
-    ap (map bytes) (take_more names i d within) ∙ map-append bytes (take i names) (get_or names i d ∷ []) ∙ ap (λ n. map bytes (take i names) ++ n ∷ []) is in
-    elim call [
-      | inl one ↦ (
-        i + 1,
-        calls_so_far bytes names (i + 1) first after
-            (go_on first now after (map Fetch (map bytes (take i names))) (Fetch name) made one
-            ∙ ap (added first) (sym (map-append Fetch (map bytes (take i names)) (name ∷ []))) ∙ ap (λ ns. added first (map Fetch ns)) (sym front)),
-      )
-      | inr same ↦ (i, calls_so_far bytes names i first after (same ∙ made))
-    ]
+-- ALL FETCHES, OR THE FIRST
+
+-- all names were fetched
+all_fetched : (ns : List (List ℕ)) (first now : ShelfState) → now.calls ≡ added first.calls (map Fetch ns) → FaultsIn (length ns) first now → FetchesFirst ns first now
+all_fetched ns first now made faults = record {
+  count = length ns;
+  within = omega arith;
+  made = made ∙ ap (added first.calls) (sym (ap (λ k. take k (map Fetch ns)) (sym (length-map ns Fetch)) ∙ take-length (map Fetch ns)));
+  faults = faults;
+}
+
+pub fetched_at_end : {S : Type 0} (bytes : S → List ℕ) (c : Class) (t : Shared) (names : List S) (i : ℕ) (xs : List Entry) (first now : ShelfState) → take i names ≡ names
+    → AreSoFar c t (map bytes (take i names)) xs first now → FetchesFirst (map bytes names) first now
+fetched_at_end bytes c t names i xs first now all so =
+    let ns = map bytes (take i names) in
+    subst (λ vs. FetchesFirst (map bytes vs) first now) all (all_fetched ns first now so.calls (faults_in c t first ns xs first now so.entries))
+
+-- where an entry wasn't had, its file was fetched at most
+module _ {S : Type 0} (bytes : S → List ℕ) (c : Class) (t : Shared) (names : List S) (i : ℕ) (d : S) (name : List ℕ) (xs : List Entry) (first now after : ShelfState) (within : i < length names)
+    (is : bytes (get_or names i d) ≡ name) (so : AreSoFar c t (map bytes (take i names)) xs first now) where
+  abbrev front : List (List ℕ)
+  front = map bytes (take i names)
+
+  one_more : map bytes (take (i + 1) names) ≡ front ++ name ∷ []
+  one_more =
+      ap (map bytes) (take_more names i d within) ∙ map-append bytes (take i names) (get_or names i d ∷ []) ∙ ap (λ n. front ++ n ∷ []) is
+
+  fetched_one : after.calls ≡ added now.calls (Fetch name ∷ []) → FaultsIn 1 now after → FetchesFirst (map bytes names) first after
+  fetched_one made faults = record {
+    count = i + 1;
+    within = omega (arith, within, length-map names bytes);
+    made =
+        calls_so_far bytes names (i + 1) first.calls after.calls
+        (go_on first.calls now.calls after.calls (map Fetch front) (Fetch name) so.calls made
+        ∙ ap (added first.calls) (sym (map-append Fetch front (name ∷ []))) ∙ ap (λ ns. added first.calls (map Fetch ns)) (sym one_more));
+    faults = joined (i + 1) (length front) 1 first now after (omega arith) (faults_in c t first front xs first now so.entries) faults;
+  }
+
+  fetched_none : after.calls ≡ now.calls → after.faults ≡ now.faults → FetchesFirst (map bytes names) first after
+  fetched_none made still =
+      let long : length front ≡ i = length-map (take i names) bytes ∙ length-take-le i names (omega (arith, within)) in
+      record {
+        count = i;
+        within = omega (arith, within, length-map names bytes);
+        made = calls_so_far bytes names i first.calls after.calls (made ∙ so.calls);
+        faults = unchanged (length front) i first now after long (faults_in c t first front xs first now so.entries) still;
+      }
+
+  pub fetched_at_stop : (after.calls ≡ added now.calls (Fetch name ∷ [])) ⊎ (after.calls ≡ now.calls) → CountsIn name now after → FetchesFirst (map bytes names) first after
+  fetched_at_stop (inl made) (inl still) = fetched_one made (inl still)
+  fetched_at_stop (inr none) (inl still) = fetched_none none still
+  fetched_at_stop call (inr rose) = fetched_one rose.1 (inr (omega arith, rose.0))

@@ -1,12 +1,13 @@
 -- What is found behind the texts of the four files.
-use Rattle.std.proofs.Common.{◌≡◌, ℕ, List, map, take, Ok, Err, IsErrAnd, ap, refl, sym, subst, ◌∙◌, inr}
-use Rattle.grade_io.specs.Devices.{ShelfState, Fetch, added}
+use Rattle.std.proofs.Common.{◌≡◌, ℕ, List, map, Ok, Err, IsErrAnd, refl, sym, subst, inr}
+use Rattle.grade_io.specs.Devices.{ShelfState}
 use Rattle.class_text.specs.Faults.{IsFaultOf}
 use Rattle.class_text.specs.Listings.{Lists}
 use Rattle.class_text.specs.declared.listing.ListFault.{ListFault}
 use Rattle.class_text.specs.declared.listing.ListFault.TheVariants as fault
 use Rattle.class_run.specs.Classes.{Class, Shared, texts_with}
 use Rattle.class_run.specs.Found.{CallsBehind, IsListed}
+use Rattle.class_run.specs.Listed.{FetchesFirst}
 use Rattle.class_run.specs.Stops.{Found, fault_of}
 
 module _ (c : Class) (ts : List (List ℕ)) (t : Shared) (list : List ℕ) (is : ts ≡ texts_with t list) (before : ShelfState) where
@@ -21,13 +22,12 @@ module _ (c : Class) (ts : List (List ℕ)) (t : Shared) (list : List ℕ) (is :
 
 -- the fetches of names that were read
 pub calls_listed : {S : Type 0} (bytes : S → List ℕ) (ts : List (List ℕ)) (t : Shared) (list : List ℕ) (names vs : List S) (before after : ShelfState) → ts ≡ texts_with t list
-    → Lists list (map bytes names) → vs ≡ names → (n : ℕ) × (after.calls ≡ added before.calls (take n (map Fetch (map bytes vs)))) → CallsBehind ts before after
-calls_listed bytes ts t list names vs before after is listed same calls = inr (record {
+    → Lists list (map bytes names) → vs ≡ names → FetchesFirst (map bytes vs) before after → CallsBehind ts before after
+calls_listed bytes ts t list names vs before after is listed same fetched = inr (record {
   shared = t;
   list = list;
   texts_are = is;
   names = map bytes names;
   listed = listed;
-  count = calls.0;
-  made = calls.1 ∙ ap (λ xs. added before.calls (take calls.0 (map Fetch (map bytes xs)))) same;
+  fetched = subst (λ xs. FetchesFirst (map bytes xs) before after) same fetched;
 })

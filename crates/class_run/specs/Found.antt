@@ -1,12 +1,12 @@
 -- What is found behind the texts of the four files.
-use Rattle.std.specs.Prelude.{◌≡◌, ◌⊎◌, ℕ, List, Ok, Err, map, take}
-use Rattle.grade_io.specs.Devices.{ShelfState, Fetch, added}
+use Rattle.std.specs.Prelude.{◌≡◌, ◌⊎◌, ℕ, List, Ok, Err, map}
+use Rattle.grade_io.specs.Devices.{ShelfState}
 use Rattle.class_text.specs.Entries.{Entry}
 use Rattle.class_text.specs.EntryViews.{entry_of}
 use Rattle.class_text.specs.Listings.{Lists, StopsAt}
 use Rattle.class_run.specs.declared.stop.ClassStop.TheVariants as class
 use Rattle.class_run.specs.Classes.{Class, Shared, texts_with}
-use Rattle.class_run.specs.Listed.{AreEntries}
+use Rattle.class_run.specs.Listed.{AreEntries, FetchesFirst}
 use Rattle.class_run.specs.Stops.{Found}
 
 -- the list names files, and these are their entries
@@ -42,9 +42,8 @@ pub record FetchesListed (ts : List (List ℕ)) (before after : ShelfState) : Ty
   pub texts_are : ts ≡ texts_with shared list
   pub names : List (List ℕ)
   pub listed : Lists list names
-  pub count : ℕ
-  pub made : after.calls ≡ added before.calls (take count (map Fetch names))
+  pub fetched : FetchesFirst names before after
 
 -- the calls behind the four fetches
 abbrev pub CallsBehind : List (List ℕ) → ShelfState → ShelfState → Type 0
-CallsBehind ts before after = (after.calls ≡ before.calls) ⊎ FetchesListed ts before after
+CallsBehind ts before after = (after ≡ before) ⊎ FetchesListed ts before after

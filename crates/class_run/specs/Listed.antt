@@ -1,5 +1,5 @@
 -- The entries of listed files, each by a fetch of its own.
-use Rattle.std.specs.Prelude.{◌≡◌, ℕ, ◌<◌, List, [], ◌∷◌, length, Some}
+use Rattle.std.specs.Prelude.{◌≡◌, ◌⊎◌, ℕ, ◌<◌, ◌≤◌, List, [], ◌∷◌, length, map, take, Some}
 use Rattle.grade_io.specs.Devices.{ShelfState, Fetch, Rose, added}
 use Rattle.grade_io.specs.Kept.{Holds}
 use Rattle.mpy_tree.specs.declared.refusal.Source.TheVariants as source
@@ -28,6 +28,24 @@ abbrev pub Gave : ShelfState → List ℕ → Got → ShelfState → ShelfState 
 Gave first name Unread before after = Rose before.faults after.faults
 Gave first name TooLong before after = GaveTooMuch first name before after
 Gave first name (Bytes text) before after = GaveBytes first name text before after
+
+-- no fault was counted; or one was, and the one call that was made is the fetch of the file
+abbrev pub CountsIn : List ℕ → ShelfState → ShelfState → Type 0
+CountsIn name before after =
+    (after.faults ≡ before.faults)
+    ⊎ (Rose before.faults after.faults × (after.calls ≡ added before.calls (Fetch name ∷ [])))
+
+-- no fault was counted; or one was, and so many fetches, which were made, are at least one
+abbrev pub FaultsIn : ℕ → ShelfState → ShelfState → Type 0
+FaultsIn n before after =
+    (after.faults ≡ before.faults) ⊎ ((0 < n) × Rose before.faults after.faults)
+
+-- The first of the files were fetched, up to some point. Where none was, no fault was counted.
+pub record FetchesFirst (names : List (List ℕ)) (before after : ShelfState) : Type 0 where
+  pub count : ℕ
+  pub within : count ≤ length names
+  pub made : after.calls ≡ added before.calls (take count (map Fetch names))
+  pub faults : FaultsIn count before after
 
 -- the entry of a name, by one fetch of its file
 pub record IsEntry (c : Class) (t : Shared) (first : ShelfState) (name : List ℕ) (x : Entry)

@@ -14,6 +14,7 @@ use Rattle.class_run.specs.declared.status.ClassStatus.TheVariants as status
 use Rattle.class_run.specs.declared.stop.ClassStop.{ClassStop}
 use Rattle.class_run.specs.declared.stop.ClassStop.TheVariants as class
 use Rattle.class_run.specs.Classes.{Class, ClassFiles, files_of}
+use Rattle.class_run.specs.Ends.{ReadsWell}
 use Rattle.class_run.specs.Outcomes.{Graded, LongFile, NoList, Comes, text_of}
 use Rattle.class_run.specs.Says.{Says}
 
@@ -35,13 +36,13 @@ pub record IsUnreadFile (f : ClassFiles) (before after : ShelfState) : Type 0 wh
   pub rose : Rose before.faults after.faults
   pub calls : FetchesInOrder (files_of f) before after
 
--- what is found comes of the files; want of memory says nothing
+-- What is found comes of the files. Where memory lacked no fetch of the four files had failed.
 abbrev pub IsFound : Class → Found → ShelfState → ShelfState → Type 0
 IsFound c (Ok v) before after = Comes c before after (Graded (map entry_of v.items))
 IsFound c (Err (class.LongFile r)) before after = Comes c before after (LongFile r)
 IsFound c (Err (class.NoList line)) before after = Comes c before after (NoList line)
 IsFound c (Err class.Failed) before after = IsUnreadFile c.files before after
-IsFound c (Err class.NoMemory) before after = Unit {0}
+IsFound c (Err class.NoMemory) before after = ReadsWell c.files before after
 
 -- what is found is written, and nothing where a fetch failed or memory lacked
 abbrev pub IsTold : ClassFiles → Found → SinkState → SinkState → ClassStatus → Type 0

@@ -1,11 +1,11 @@
 //! The entries of listed files.
-ghost use Rattle.std.specs.Prelude.{◌≡◌, ◌⊎◌, ◌∷◌, [], ℕ, IfOk, map, take};
+ghost use Rattle.std.specs.Prelude.{◌≡◌, ◌⊎◌, ◌∷◌, [], IfOk, map};
 ghost use Rattle.std.specs.String.{string_bytes};
 ghost use Rattle.grade_io.specs.Devices.{Fetch, added};
 ghost use Rattle.grade_io.specs.Kept.{FilesLeft};
 ghost use Rattle.class_text.specs.EntryViews.{entry_of};
 ghost use Rattle.class_run.specs.Classes.{IsRefusedLong, IsUnread};
-ghost use Rattle.class_run.specs.Listed.{AreEntries, IsEntry};
+ghost use Rattle.class_run.specs.Listed.{AreEntries, CountsIn, FetchesFirst, IsEntry};
 ghost use Rattle.class_run.specs.Views.{AreShort, class_with, shared_of};
 
 use crate::NoMemory;
@@ -65,6 +65,7 @@ impl<G: Grader> Grading<'_, G> {
         ensures call { ((S.seen shelf.new).calls
             ≡ added (S.seen shelf.old).calls (Fetch name.now ∷ []))
             ⊎ ((S.seen shelf.new).calls ≡ (S.seen shelf.old).calls) }
+        ensures fault { CountsIn name.now (S.seen shelf.old) (S.seen shelf.new) }
         ensures left { FilesLeft (S.seen shelf.old) (S.seen shelf.new) }
     {
         match shelf.fetch(self.alloc, name, limit_of(Source::Submission)) {
@@ -86,8 +87,8 @@ impl<G: Grader> Grading<'_, G> {
             (class_with self.now.files.now (G.tells self.now.grader.now))
             (shared_of self.now.shared) (S.seen shelf.old) (map string_bytes names.now)
             (map entry_of v.items) (S.seen shelf.old) (S.seen shelf.new)) }
-        ensures calls { (n : ℕ) × ((S.seen shelf.new).calls ≡ added (S.seen shelf.old).calls
-            (take n (map Fetch (map string_bytes names.now)))) }
+        ensures calls { FetchesFirst (map string_bytes names.now) (S.seen shelf.old)
+            (S.seen shelf.new) }
         ensures left { FilesLeft (S.seen shelf.old) (S.seen shelf.new) }
     {
         let mut entries = Vec::new(self.alloc);

@@ -9,7 +9,7 @@ returns-clause-found g c =
     found_so (class_with c.args.files.now (g.G.Grader.tells c.args.grader.now)) (texts_of c.in_ok-texts.texts.items) c.grade_listed.result
     (g.S.Shelf.seen c.args.shelf.now) (g.S.Shelf.seen c.fetch.new.shelf) (g.S.Shelf.seen c.grade_listed.new.shelf)
     c.in_ok-texts.ensures.held c.in_ok-texts.ensures.fit c.in_ok-texts.ensures.all c.in_ok-texts.ensures.faults c.in_ok-texts.ensures.left
-    (rw c.deref.ensures.value at c.grade_listed.ensures.listed)
+    (rw c.deref.ensures.value at c.grade_listed.ensures.listed) (rw c.deref.ensures.value at c.grade_listed.ensures.calls)
 
 pub returns-clause-calls : goal.returns-clause-calls
 returns-clause-calls g c =

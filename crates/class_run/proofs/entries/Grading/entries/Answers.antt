@@ -6,7 +6,7 @@ use Rattle.source_files.proofs.Fetching.{left_both}
 use Rattle.class_text.specs.EntryViews.{entry_of}
 use Rattle.class_run.specs.Listed.{AreEntries}
 use Rattle.class_run.specs.Views.{class_with, shared_of}
-use Rattle.class_run.proofs.Entering.{calls_at_stop, calls_so_far, none_so_far, one_more_entry}
+use Rattle.class_run.proofs.Entering.{fetched_at_end, fetched_at_stop, none_so_far, one_more_entry}
 use Rattle.class_run.proofs.entries.Grading.entries.Goals as goal
 
 pub loop-name-init : goal.loop-name-init
@@ -24,8 +24,10 @@ loop-name-preserved g c =
 
 pub returns-in_err-entry-clause-calls : goal.returns-in_err-entry-clause-calls
 returns-in_err-entry-clause-calls g c =
-    calls_at_stop string_bytes c.args.names.now c.loop-name.name-index c.name-item.result c.as_str.result.now _ (g.S.Shelf.seen c.loop-name.shelf).calls _
-    c.loop-name-test.true (ap string_bytes (sym c.name-item.is) ∙ sym c.as_str.ensures.value) c.loop-name.invariant.calls c.entry.ensures.call
+    fetched_at_stop string_bytes (class_with c.args.self.now.files.now (g.G.Grader.tells c.args.self.now.grader.now)) (shared_of c.args.self.now.shared)
+    c.args.names.now c.loop-name.name-index c.name-item.result c.as_str.result.now (map entry_of c.loop-name.entries.items)
+    (g.S.Shelf.seen c.args.shelf.now) (g.S.Shelf.seen c.loop-name.shelf) (g.S.Shelf.seen c.entry.new.shelf)
+    c.loop-name-test.true (ap string_bytes (sym c.name-item.is) ∙ sym c.as_str.ensures.value) c.loop-name.invariant c.entry.ensures.call c.entry.ensures.fault
 
 pub returns-in_err-entry-clause-left : goal.returns-in_err-entry-clause-left
 returns-in_err-entry-clause-left g c =
@@ -33,8 +35,10 @@ returns-in_err-entry-clause-left g c =
 
 pub returns-in_err-push-clause-calls : goal.returns-in_err-push-clause-calls
 returns-in_err-push-clause-calls g c =
-    calls_at_stop string_bytes c.args.names.now c.loop-name.name-index c.name-item.result c.as_str.result.now _ (g.S.Shelf.seen c.loop-name.shelf).calls _
-    c.loop-name-test.true (ap string_bytes (sym c.name-item.is) ∙ sym c.as_str.ensures.value) c.loop-name.invariant.calls c.entry.ensures.call
+    fetched_at_stop string_bytes (class_with c.args.self.now.files.now (g.G.Grader.tells c.args.self.now.grader.now)) (shared_of c.args.self.now.shared)
+    c.args.names.now c.loop-name.name-index c.name-item.result c.as_str.result.now (map entry_of c.loop-name.entries.items)
+    (g.S.Shelf.seen c.args.shelf.now) (g.S.Shelf.seen c.loop-name.shelf) (g.S.Shelf.seen c.entry.new.shelf)
+    c.loop-name-test.true (ap string_bytes (sym c.name-item.is) ∙ sym c.as_str.ensures.value) c.loop-name.invariant c.entry.ensures.call c.entry.ensures.fault
 
 pub returns-in_err-push-clause-left : goal.returns-in_err-push-clause-left
 returns-in_err-push-clause-left g c =
@@ -48,4 +52,6 @@ returns-clause-entries g c =
 
 pub returns-clause-calls : goal.returns-clause-calls
 returns-clause-calls g c =
-    (c.loop-name.name-index, calls_so_far string_bytes c.args.names.now c.loop-name.name-index _ _ c.loop-name.invariant.calls)
+    fetched_at_end string_bytes (class_with c.args.self.now.files.now (g.G.Grader.tells c.args.self.now.grader.now)) (shared_of c.args.self.now.shared)
+    c.args.names.now c.loop-name.name-index (map entry_of c.loop-name.entries.items) (g.S.Shelf.seen c.args.shelf.now) (g.S.Shelf.seen c.loop-name.shelf)
+    (take_all c.loop-name.name-index c.args.names.now c.loop-name-test.false) c.loop-name.invariant
