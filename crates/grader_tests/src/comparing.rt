@@ -1,8 +1,8 @@
 //! Programs of every form, compared on all inputs.
 
-use crate::requests::{DOUBLE, Texts, graded};
 use grade_top::Status;
 use std::test::Fail;
+use test_requests::{DOUBLE, Texts, graded};
 
 // Bounds with these parameters.
 macro_rules! bounds {

@@ -1,9 +1,9 @@
 //! The forms of bounds and rules, and formulas that are graded.
 
-use crate::requests::{DOUBLE, Texts, graded};
 use grade_top::Status;
 use std::alloc::Global;
 use std::test::Fail;
+use test_requests::{DOUBLE, Texts, graded};
 
 /// What is written of a submission that isn't corrected.
 const WRONG: &str = "no correction\nfails f(4): gives 8, wanted 12\n";

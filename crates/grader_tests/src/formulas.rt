@@ -1,9 +1,9 @@
 //! Formulas that are solved, and proofs that are judged, by whole requests.
 
-use crate::requests::{answered, held, words};
 use grade_io::MemShelf;
 use grade_top::Status;
 use std::test::Fail;
+use test_requests::{answered, held, words};
 
 const FOUR: &str = "p cnf 2 4\n1 2 0\n1 -2 0\n-1 2 0\n-1 -2 0\n";
 

@@ -1,9 +1,9 @@
 //! The real devices, of whose content no clause speaks.
-use crate::requests::{DOUBLE, REQUEST, answered, words};
 use grade_io::{FetchError, HostShelf, HostSink, Shelf, Sink, StoreError};
 use grade_top::Status;
 use std::fs;
 use std::test::Fail;
+use test_requests::{DOUBLE, REQUEST, answered, words};
 
 /// Bytes go through the real files and the standard output.
 #[test]

@@ -1,8 +1,8 @@
 //! Layouts of a submission.
 
-use crate::requests::{DOUBLE, Texts, graded};
 use grade_top::Status;
 use std::test::Fail;
+use test_requests::{DOUBLE, Texts, graded};
 
 /// Each submission with the report's line of its edit and the corrected formula.
 #[test]

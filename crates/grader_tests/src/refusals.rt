@@ -1,9 +1,9 @@
 //! Programs that are refused.
 
-use crate::requests::{DOUBLE, Texts, graded};
 use grade_top::Status;
 use std::alloc::{AllocError, Global};
 use std::test::Fail;
+use test_requests::{DOUBLE, Texts, graded};
 
 /// A function that returns so many times the part, and then 0.
 fn long_text(alloc: Global, part: &str, times: usize) -> Result<String, AllocError> {

@@ -1,10 +1,10 @@
 //! The command `run`.
 
-use crate::requests::{answered, words};
 use grade_io::{MemShelf, MemSink};
 use grade_top::{Status, grade_top};
 use std::alloc::{AllocError, Global};
 use std::test::Fail;
+use test_requests::{answered, words};
 
 // Bounds with these parameters.
 macro_rules! bounds {

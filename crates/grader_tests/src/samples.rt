@@ -1,10 +1,10 @@
 //! The texts that a number is made into, and the command `sample`.
 
-use crate::requests::{answered, words};
 use grade_io::MemShelf;
 use grade_top::Status;
 use sample_maker::sample;
 use std::test::Fail;
+use test_requests::{answered, words};
 
 /// Numbers, with how many blocks of the submission are wrong.
 const WRONG: [(u16, usize); 5] = [(0, 0), (1, 1), (165, 4), (255, 8), (65280, 0)];

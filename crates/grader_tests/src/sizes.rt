@@ -1,9 +1,9 @@
 //! Tasks that are as large as a task may be, and those that are larger.
 
-use crate::requests::{Texts, graded};
 use grade_top::Status;
 use std::alloc::{AllocError, Global};
 use std::test::Fail;
+use test_requests::{Texts, graded};
 
 /// No parameter, and numbers of 16 bits.
 const WIDE: &str = "width 16\nturns 1\ndepth 1\ncap 1\nentry f\n";

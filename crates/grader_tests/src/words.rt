@@ -1,9 +1,9 @@
 //! The words of a command line.
 
-use crate::requests::{REQUEST, answered, words};
 use grade_io::MemShelf;
 use grade_top::Status;
 use std::test::Fail;
+use test_requests::{REQUEST, answered, words};
 
 /// The usage is written for every budget that isn't a number from 1 to 200000, and nothing is
 /// fetched.

@@ -1,12 +1,12 @@
 //! All least corrections of a submission.
 
 use crate::both_searches::read;
-use crate::requests::{Texts, answered, shelf_of, words};
 use grade_top::Status;
 use input_space::Task;
 use least_all::{Best, count_live, list_best};
 use std::alloc::Global;
 use std::test::Fail;
+use test_requests::{Texts, answered, shelf_of, words};
 
 /// A submission that lacks one, on one input.
 const LESS: Texts<'static> = Texts {

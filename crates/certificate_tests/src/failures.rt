@@ -1,11 +1,11 @@
 //! Devices that fail while a request is answered.
 
-use crate::requests::{
-    CHECK, DOUBLE, NO_PARAMETER, ONE, REQUEST, RIGHT, Texts, held, shelf_of, words,
-};
 use grade_io::MemSink;
 use grade_top::{Status, grade_top};
 use std::test::Fail;
+use test_requests::{
+    CHECK, DOUBLE, NO_PARAMETER, ONE, REQUEST, RIGHT, Texts, held, shelf_of, words,
+};
 
 /// Each row: a request and its budget, the shelf's call and the sink's put that fail (0: none), the
 /// status, what was written by puts of at most four bytes, and the first lines of what `cert.txt`

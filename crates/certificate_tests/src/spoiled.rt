@@ -1,9 +1,9 @@
 //! Certificates that were cut, and those with another word.
 
-use crate::requests::{CHECK, Texts, answered, graded_within, shelf_of, words};
 use grade_top::Status;
 use std::alloc::Global;
 use std::test::Fail;
+use test_requests::{CHECK, Texts, answered, graded_within, shelf_of, words};
 
 /// A derivative whose loop starts one too early, as `[1, 1]` shows alone.
 const DERIVATIVE: Texts<'static> = Texts {

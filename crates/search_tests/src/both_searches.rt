@@ -1,6 +1,5 @@
 //! The search by solver beside the one that tries all.
 
-use crate::requests::Texts;
 use cegis_loop::{Least, least};
 use choice_tree::Selection;
 use input_space::Task;
@@ -9,6 +8,7 @@ use std::alloc::Global;
 use std::test::Fail;
 use task_read::read_task;
 use task_search::search;
+use test_requests::Texts;
 
 /// The task of these texts, if they are short and nothing refuses it.
 pub(crate) fn read(alloc: Global, texts: Texts<'_>) -> Option<Task> {

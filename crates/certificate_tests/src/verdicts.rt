@@ -1,8 +1,8 @@
 //! What is said of certificates.
 
-use crate::requests::{CHECK, NO_PARAMETER, ONE, RIGHT, Texts, ZERO, answered, shelf_of, words};
 use grade_top::Status;
 use std::test::Fail;
+use test_requests::{CHECK, NO_PARAMETER, ONE, RIGHT, Texts, ZERO, answered, shelf_of, words};
 
 /// Certificates: the submission, the text, the status, and what is written. The reference returns
 /// 1, and the rule writes 1 for 0.

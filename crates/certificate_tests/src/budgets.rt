@@ -1,9 +1,9 @@
 //! Budgets that are spent, and those that are enough. How many clauses a question takes is the
 //! solver's own affair: the numbers here are those that it takes today.
 
-use crate::requests::{Texts, graded_within};
 use grade_top::Status;
 use std::test::Fail;
+use test_requests::{Texts, graded_within};
 
 // A function of two truth values that returns the formula.
 macro_rules! returning {

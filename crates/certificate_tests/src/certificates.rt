@@ -1,10 +1,10 @@
 //! What is stored under the name of the certificate.
 
-use crate::requests::{
-    NO_PARAMETER, ONE, REQUEST, RIGHT, Texts, ZERO, answered, graded_within, held, shelf_of, words,
-};
 use grade_top::Status;
 use std::test::Fail;
+use test_requests::{
+    NO_PARAMETER, ONE, REQUEST, RIGHT, Texts, ZERO, answered, graded_within, held, shelf_of, words,
+};
 
 /// Requests without a parameter: the reference, the submission, the rules and the budget, the
 /// status, what is written, and all that `cert.txt` holds then. It held `old`.
