@@ -1,4 +1,0 @@
-pub mod Arguments
-pub mod ExpressionTypes
-pub mod OneOfSeveral
-pub mod SmallCosts

@@ -2,8 +2,6 @@
 
 ghost use Rattle.task_bits.specs.Tasks.{AreArgumentsOf};
 
-use crate::outcomes::Truths;
-use crate::variables::{arguments, picks_of};
 use bit_graph::gate::GraphBit;
 use bit_graph::graph::Graph;
 use bit_words::NoMemory;
@@ -14,6 +12,7 @@ use mpy_tree::{Limits, Outcome};
 use std::alloc::Global;
 use sym_values::{SymOutcome, SymValue};
 use task_bits::{candidates, reference};
+use test_bits::{Truths, arguments, picks_of};
 
 /// A program of a task.
 #[derive(Clone, Copy)]

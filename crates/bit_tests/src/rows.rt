@@ -1,13 +1,12 @@
 //! Programs whose ends on an input are known, as bits.
 
 use crate::circuits::{Circuit, Program};
-use crate::samples::truths_of_case;
-use crate::tasks::{Texts, bytes_of, task_of};
 use bit_words::NoMemory;
 use input_space::{Case, Task, read_case};
 use mpy_tree::{FaultKind, Outcome};
 use std::alloc::Global;
 use std::test::Fail;
+use test_bits::{Texts, bytes_of, task_of, truths_of_case};
 
 /// What a run gives: a value, or a fault.
 #[derive(Clone, Copy, Drop)]

@@ -1,14 +1,15 @@
 //! The outcomes of the programs of tasks as bits, beside their runs.
 
 use crate::circuits::{Circuit, Program};
-use crate::samples::{end_of, inputs_of, push_members, selections_of, truths_of_case};
-use crate::tasks::{TASKS, Texts, task_of};
 use bit_words::NoMemory;
 use choice_tree::{Selection, plain};
 use input_space::{Case, Task};
 use selection_numbers::MemberCounts;
 use std::alloc::Global;
 use std::test::Fail;
+use test_bits::{
+    TASKS, Texts, end_of, inputs_of, push_members, selections_of, task_of, truths_of_case,
+};
 
 /// Whether a circuit reads as the run of a selection on an input under their truth values.
 fn pair_reads(

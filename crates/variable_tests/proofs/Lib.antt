@@ -1,0 +1,3 @@
+pub mod ExpressionTypes
+pub mod OneOfSeveral
+pub mod SmallCosts
