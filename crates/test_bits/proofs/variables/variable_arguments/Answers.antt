@@ -1,6 +1,6 @@
 use Rattle.std.proofs.Common.{◌∙◌, ap, map}
 use Rattle.sym_values.specs.Forms.{form_for}
-use Rattle.test_bits.proofs.Arguments.{arguments_from}
+use Rattle.test_bits.proofs.ByForms.{arguments_from}
 use Rattle.test_bits.proofs.variables.variable_arguments.Goals as goal
 
 pub returns-clause-made : goal.returns-clause-made
