@@ -39,7 +39,7 @@ BUDGETS = (2000,) * 6 + (1, 2, 7, 30, 100)
 EXAMPLES = 12
 SMALL = 40
 # The language of rules with neither guards nor deletions, and the limit by weights.
-STAGE = 11
+STAGE = 15
 # The sources as the model calls them.
 KINDS = ('bounds', 'reference', 'submission', 'rules')
 

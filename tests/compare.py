@@ -219,7 +219,7 @@ def main():
     parser.add_argument('--program', default=os.path.join(CRATE, 'out/grader_cli'))
     parser.add_argument('--try', action='store_true', dest='tried', help='run the sources by `rt try` instead')
     parser.add_argument('--first', type=int, default=0)
-    parser.add_argument('--stage', type=int, default=14, help='how far the program is built, as the model counts it')
+    parser.add_argument('--stage', type=int, default=15, help='how far the program is built, as the model counts it')
     asked = parser.parse_args()
     path = os.environ.get('MODEL')
     if not path:

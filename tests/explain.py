@@ -99,7 +99,7 @@ def check_model(path):
     for count, (key, parameters, line, _, text) in enumerate(trials(), 1):
         reference = 'def f(%s):\n    return 0\n' % ', '.join(parameters)
         sources = bounds_of(parameters), reference.encode(), text, b''
-        answer = top(WORDS, dict(zip(WORDS[1:5], sources)), 11)[1]
+        answer = top(WORDS, dict(zip(WORDS[1:5], sources)), 15)[1]
         check(answer == 'refused sub.py line %d: %s\n' % (line, causes[key]), key, 'is answered', answer)
     return '%d answers of the model' % count
 
@@ -107,7 +107,7 @@ def check_model(path):
 # The examples and the documents
 
 REFUSED = {
-    'balance/sub-float': 'float', 'balance/sub-print': 'print', 'balance/sub-slash': 'division',
+    'balance/sub-float': 'float', 'balance/sub-print': 'print of several', 'balance/sub-slash': 'division',
     'count/sub-documented': 'documentation over lines', 'count/sub-method': 'count',
     'count/sub-one-equals': '= in a test', 'derivative/sub-documented': 'documentation string',
     'derivative/sub-floats': 'float', 'derivative/sub-shared': 'second name', 'digits/sub-slash': 'division',
@@ -119,7 +119,7 @@ REFUSED = {
     'in_order/sub-pairs': 'zip', 'in_order/sub-sorted': 'sorted', 'largest/sub-builtin': 'max of a list',
     'largest/sub-compares': '== for =', 'largest/sub-none': 'None', 'largest/sub-sorted': 'sorted',
     'palindrome/sub-number': 'other type', 'palindrome/sub-reversed': 'join', 'palindrome/sub-stepped': 'backwards',
-    'power/sub-calls': 'too large', 'power/sub-float': 'float', 'power/sub-print': 'print',
+    'power/sub-calls': 'too large', 'power/sub-float': 'float', 'power/sub-print': 'print for return',
     'recur_power/sub-documented': 'documentation over lines', 'recur_power/sub-forgotten-return': 'expression',
     'recur_power/sub-other-name': 'unknown function', 'remove/sub-comprehension': 'comprehension',
     'remove/sub-method': 'pop or remove', 'second/sub-at-once': 'two targets', 'second/sub-sort': 'sort',

@@ -222,7 +222,7 @@ fn read_names(alloc: Global, text: &str) -> Result<Names, anyhow::Error> {
 fn read_setting(alloc: Global, g: &mut Graph, words: &[&str], setting: &str) -> Result<Env<GraphBit>, anyhow::Error> {
     let width = words[1].parse::<u32>().unwrap_or(3);
     let cap = words[2].parse::<u32>().unwrap_or(1);
-    let limits = Limits { width, turns: 1, depth: 1, cap };
+    let limits = Limits { width, turns: 1, depth: 1, cap, prints: 0 };
     let mut values = SymValues::new(alloc);
     let mut set = Bits::new(alloc);
     let mut picks = Picks::new(alloc);

@@ -38,7 +38,7 @@ from spent_lists import SpentList
 from task_questions import Judge
 
 # The language of rules with neither guards nor deletions, and the limit by weights.
-STAGE = 14
+STAGE = 15
 MOSTS = (1, 100)
 BUDGETS = (1, 2, 4, 8, 16, 32, 64, 128, 256)
 # So many seconds one run of the program may take.

@@ -141,6 +141,8 @@ class Programs:
             return [self.returned(level) if level > 1 else self.indent(level) + 'pass']
         if kind < 12 and self.made.names('list'):
             return [self.indent(level) + self.a_change(self.rng.choice(self.made.names('list')))]
+        if kind in (12, 19):
+            return [self.indent(level) + 'print(%s)' % self.of(self.rng.choice(TYPES), 2)]
         if kind < 15 and self.made.types:
             return [self.indent(level) + self.an_augment(self.rng.choice(list(self.made.types)))]
         return [self.indent(level) + self.an_assignment()]

@@ -5,7 +5,7 @@ from formula_requests import spoiled as spoiled_bytes
 from random_programs import TYPES, Bounds, Programs
 
 KEYWORDS = ('def', 'if', 'elif', 'else', 'while', 'for', 'in', 'not', 'and', 'or', 'return', 'pass', 'break', 'continue',
-            'append', 'True', 'False')
+            'append', 'print', 'True', 'False')
 BUILTINS = ('len', 'range', 'abs', 'min', 'max')
 ATOMS = ('3', "'a'", 'True', '[1]', '[]', 'range(2)', 'len([1])', '-1', 'not 1', "'a' * 2", '[1] + [2]', "'ab'[0]", "[1][0]")
 OPERATORS = ('+', '-', '*', '//', '%', '**', '<', '<=', '==', '!=', 'in', 'not in', 'and', 'or')
@@ -38,8 +38,8 @@ def with_another_name(rng, text):
             return text[:head.start(1)] + ', '.join(params) + text[head.end(1):]
     if kind == 2:
         heads = [found for found in names if text[:found.start()].endswith('def ')]
-        return put(text, rng.choice(heads), rng.choice(BUILTINS + ('f', 'g', 'main', LONG)))
-    new = rng.choice(('zz', LONG, rng.choice(BUILTINS), rng.choice(names)[0], rng.choice(names)[0], rng.choice(names)[0]))
+        return put(text, rng.choice(heads), rng.choice(BUILTINS + ('f', 'g', 'main', 'print', LONG)))
+    new = rng.choice(('zz', LONG, 'print', rng.choice(BUILTINS), rng.choice(names)[0], rng.choice(names)[0], rng.choice(names)[0]))
     return put(text, rng.choice(names), new)
 
 
@@ -120,11 +120,20 @@ def with_another_result(rng, text):
                                         'return ' + rng.choice(calls or ['1']))))
 
 
+def with_prints(rng, text):
+    """The program with up to two prints, of values and of names, which may be unknown where they stand."""
+    for _ in range(rng.choice((0, 0, 1, 2))):
+        names = [found[0] for found in words_of(text)]
+        text = inserted(rng, text, ['print(%s)' % rng.choice((rng.choice(ATOMS), rng.choice(names)))])
+    return text
+
+
 SPOILERS = (with_another_name, with_another_type, with_another_arity, with_sharing, with_another_result)
 
 
 def a_program(rng, bounds, is_spoiled):
     text = Programs(rng, bounds.entry, bounds.types(), rng.choice(TYPES)).program()
+    text = with_prints(rng, text)
     if is_spoiled:
         text = rng.choice(SPOILERS)(rng, text)
     return text.encode()

@@ -17,13 +17,15 @@ import subprocess
 import sys
 import tempfile
 
-NAMES = ('f', 'g', 'x', 'y', 'n', 'total', '_', 'a1', 'len', 'range', 'items', 'If', 'append')
+NAMES = ('f', 'g', 'x', 'y', 'n', 'total', '_', 'a1', 'len', 'range', 'items', 'If', 'append', 'print')
 RESERVED = ('if', 'in', 'is', 'lambda', 'None', 'async', 'return', 'def', 'not', 'and', 'or', 'else', 'elif', 'True',
-            'False', 'for', 'while', 'pass', 'break', 'continue', 'print')
+            'False', 'for', 'while', 'pass', 'break', 'continue')
 MARKS = ('(', ')', '[', ']', ':', ',', '.', '=', '==', '!=', '<', '<=', '>', '>=', '+', '-', '*', '//', '%', '**',
          '+=', '-=', '*=', '//=', '%=', '**=', '=>', '/', ';', '!', '@', '$', '?', '{', '}', '~', '\\', '&')
 NUMBERS = ('0', '1', '2', '10', '2147483647', '2147483648', '00', '007', '1.5', '0x1', '1_0', '1if', '99999999999')
 BATCH = 400
+# The stage of the model from which on `print` is a statement.
+STAGE = 15
 
 
 class Programs:
@@ -127,7 +129,7 @@ class Programs:
     def simple(self, in_loop):
         e = lambda: self.expression(self.rng.choice((1, 2, 3, 4)))
         op = self.pick('+=', '-=', '*=', '//=', '%=')
-        kind = self.rng.randrange(11)
+        kind = self.rng.randrange(12)
         if kind < 3:
             return self.join(self.name(), '=', e())
         if kind == 3:
@@ -143,6 +145,8 @@ class Programs:
         if kind == 8:
             return self.join('return', e())
         if kind == 9:
+            return self.join('print', '(', e(), ')')
+        if kind == 10:
             return self.pick('break', 'continue') if in_loop else 'pass'
         return 'pass'
 
@@ -298,7 +302,7 @@ def wanted(model, name, text):
     """What the model answers of the text."""
     parser, printer, tree = model
     try:
-        return printer.prog(parser.read_prog(text)).encode()
+        return printer.prog(parser.read_prog(text, STAGE)).encode()
     except tree.Fault as fault:
         return b'refused %s line %d: %s\n' % (name.encode(), fault.line, fault.cause.encode())
 

@@ -25,6 +25,8 @@ from sources_try import Harness
 
 BATCH = 20000
 MOST_LISTED = 20000
+# The stage of the model from which on `print` is a statement.
+STAGE = 15
 
 
 class Model:
@@ -69,8 +71,8 @@ class Model:
     def program(self, raw, b):
         p = None
         try:
-            p = self.read_prog(raw)
-            types = self.typing.check_types(p, b.entry, b.ptypes())
+            p = self.read_prog(raw, STAGE)
+            types = self.typing.check_types(p, b.entry, b.ptypes(), STAGE)
             self.share.unshared(p, types)
         except self.fault as fault:
             said = 'refused %s %d' % (fault.cause, fault.line)

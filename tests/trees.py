@@ -26,6 +26,8 @@ from trees_try import MOST, Harness
 BATCH = 500
 # The language of rules with neither guards nor deletions, and the limit by tries.
 STAGE = 6
+# The stage of the model from which on `print` is a statement.
+PRINTS = 15
 ONE = {'Neg': '-', 'Not': '!', 'And': '&', 'Or': '|', 'Index': 'I'}
 
 
@@ -81,6 +83,8 @@ class TreeText:
             return name('[', a[1]) + self.term(a[2]) + 'A' + a[3] + self.term(a[4])
         if kind == 'Append':
             return name('append', a[1]) + self.term(a[2])
+        if kind == 'Print':
+            return 'print' + self.term(a[1])
         if kind == 'Return':
             return 'return' + (';' if a[1] is None else self.term(a[1]))
         if kind == 'If':
@@ -165,6 +169,8 @@ class Relation:
             parts, make = [self.term(e, False, False) for e in (a[2], a[4])], lambda i, e: (kind, a[1], i, a[3], e)
         elif kind == 'Append':
             parts, make = [self.term(a[2], False, False)], lambda e: (kind, a[1], e)
+        elif kind == 'Print':
+            parts, make = [self.term(a[1], False, False)], lambda e: (kind, e)
         elif kind == 'Return' and a[1] is not None:
             parts, make = [self.whole(a[1], kind, None, True)], lambda e: (kind, e)
         elif kind == 'If':
@@ -208,6 +214,8 @@ class Model:
         import weights
         self.grade, self.printer, self.rewrite, self.tree, self.weights = grade, printer, rewrite, tree, weights
         self.text = TreeText(self.written)
+        read = grade.read_program
+        grade.read_program = lambda task, raw, least, source: read(task, raw, max(least, PRINTS), source)
 
     def written(self, e):
         parts = list(self.tree.parts(e))

@@ -186,6 +186,10 @@ fn put_act(alloc: Global, out: &mut String, act: &WAct) -> Result<(), anyhow::Er
             put_name(out, "append", x)?;
             put_expr(alloc, out, e)
         }
+        WAct::Print(e) => {
+            put(out, "print")?;
+            put_expr(alloc, out, e)
+        }
         WAct::Return(None) => put(out, "return;"),
         WAct::Return(Some(e)) => {
             put(out, "return")?;

@@ -81,7 +81,7 @@ fn type_of(letter: &str) -> Ty {
 fn read_table(alloc: Global, words: &[&str]) -> Result<Table, anyhow::Error> {
     let width = words[1].parse::<u32>().unwrap_or(3);
     let cap = words[2].parse::<u32>().unwrap_or(1);
-    let limits = Limits { width, turns: 1, depth: 1, cap };
+    let limits = Limits { width, turns: 1, depth: 1, cap, prints: 0 };
     let g = Graph::new(alloc)?;
     let mut values = Vec::new(alloc);
     let mut constants = Vec::new(alloc);

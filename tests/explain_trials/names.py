@@ -5,6 +5,10 @@ WRITTEN = r'''
 def f(x):
     y = print(x)
     return x
+-- print in a value | x | 2 | print
+def f(x):
+    print(print(x))
+    return x
 -- input | x | 2 | input
 def f(x):
     y = input()
@@ -84,6 +88,11 @@ def f(x):
 def f(v):
     max = v[0]
     return max(max, v[1])
+-- local is called | x | 3 | print
+def f(x):
+    print = x
+    print(x)
+    return x
 -- true and false | x | 2 | true
 def f(x):
     return true
@@ -119,6 +128,11 @@ def f(x):
 def f(x):
     return x
 def max(a, b):
+    return a
+-- function named print | x | 3 | print
+def f(x):
+    return x
+def print(a):
     return a
 -- second parameter | x | 3 | y
 def f(x):

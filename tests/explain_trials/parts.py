@@ -117,7 +117,7 @@ def f(x, y):
 def f(x):
     return x
 f(3)
--- print | x | 3 | print
+-- top level | x | 3 | print
 def f(x):
     return x
 print(f(3))

@@ -82,10 +82,28 @@ def f(x):
 -- statement inside | x | 2 | return
 def f(x):
     y = return x
--- print | x | 3 | print
+-- print of several | x | 3 | ,
 def f(x):
     y = x + 1
-    print(y)
+    print('y', y)
+    return y
+-- print of several | s | 3 | ,
+def f(s):
+    for c in s:
+        print(c, end='')
+    return s
+-- print of nothing | x | 2 | )
+def f(x):
+    print()
+    return x
+-- print without parentheses | x | 2 | x
+def f(x):
+    print x
+    return x
+-- f-string | s | 2 | '{s}!'
+def f(s):
+    print(f'{s}!')
+    return s
 -- other word for elif | x | 4 | if
 def f(x):
     if x > 0:

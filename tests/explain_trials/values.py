@@ -199,6 +199,10 @@ def f(x):
     return x
 def g(y):
     return g(y)
+-- print for return | x | 1 | f
+def f(x):
+    y = x + 1
+    print(y)
 -- no return | x | 1 | f
 def f(x):
     y = x + 1

@@ -166,9 +166,13 @@ def name_faults(program, item):
             yield on_word(source, 'second function', item, item.words[0])
         if item.words[0] in BUILTINS:
             yield on_word(source, 'builtin function', item, item.words[0])
+        if item.words[0] == 'print':
+            yield on_word(source, 'print function', item, 'print')
         for at, name in enumerate(item.words[1:], 1):
             if name in item.words[1:at]:
                 yield on_word(source, 'second parameter', item, name, item.words[:at + 1].count(name))
+    if item.kind == 'print' and 'print' in names:
+        yield on_word(source, 'local is called', item, 'print', first=names['print'])
     if item.kind in CHANGES_IN_PLACE and item.words[0] not in names:
         yield on_word(source, 'changed', item, item.words[0])
     for node in (node for expr in item.exprs for node in expr.nodes()):

@@ -53,7 +53,7 @@ class Node:
 @dataclass(eq=False)
 class Item:
     """A simple statement or a header; `body` is the statement behind the colon of a header."""
-    kind: str               # a header's word, set, change, put, change at, append, return, pass, break, continue
+    kind: str               # a header's word, set, change, put, change at, append, print, return, pass, break, continue
     line: int
     column: int
     tokens: list
@@ -266,6 +266,8 @@ class Reader:
         name, word = self.name(), self.word()
         if word == '.':
             return self.append(first, name)
+        if word == '(' and name == 'print':
+            return self.printed(first)
         at = []
         if word == '[':
             self.at += 1
@@ -294,6 +296,12 @@ class Reader:
         value = self.expression()
         self.take(')')
         return self.made('append', first, (name,), [value])
+
+    def printed(self, first):
+        self.inside, self.at = ['print'], self.at + 1
+        value = self.expression()
+        self.take(')')
+        return self.made('print', first, (), [value])
 
 
 def read_item(line):

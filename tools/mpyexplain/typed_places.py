@@ -106,8 +106,9 @@ def none_kind(program, kinds, function, item, what):
     if what == 'parameter':
         return 'never called' if function.name not in calls else 'parameter'
     if what == 'result':
-        gives = any(item.kind == 'return' and item.exprs for item in function.items)
-        return 'result' if gives else 'no return'
+        if any(item.kind == 'return' and item.exprs for item in function.items):
+            return 'result'
+        return 'print for return' if any(item.kind == 'print' for item in function.items) else 'no return'
     if item.kind == 'for':
         return 'for over no list' if kinds.possible(function, item.exprs[0]) else 'local'
     if item.kind == 'change':

@@ -1,5 +1,5 @@
 -- Each text spells bounds or is refused, for one cause at one line.
-use Rattle.std.proofs.Common.{IfErr, OnOk, ◌≡◌, ◌<◌, ◌≤◌, ◌+◌, ℕ, zero, suc, Bool, true, false, cond, List, [], ◌∷◌, ◌++◌, length, map, Option, None, Some, Result, Ok, Err, refl, sym, ap, subst, ◌∙◌, ℤ, pos, inl, inr, length-append, add-zero, arith}
+use Rattle.std.proofs.Common.{IfErr, OnOk, ◌≡◌, ◌<◌, ◌≤◌, ◌+◌, ℕ, zero, suc, Bool, true, false, cond, List, [], ◌∷◌, ◌++◌, length, map, Option, None, Some, Result, Ok, Err, refl, sym, ap, subst, ◌∙◌, ℤ, pos, inl, inr, length-append, add-zero, arith, lit≤}
 use Rattle.std.specs.Prelude.{◌⊎◌, nat_abs}
 use Rattle.std.proofs.lemmas.Bool.{cases_Bool, cases_lt, false≢true}
 use Rattle.std.proofs.lemmas.List.{length-map}
@@ -223,9 +223,9 @@ forms_again (p ∷ ps) h =
 some_bounds : (f : BoundsFile) → limit_fault f ≡ None → range_fault f ≡ None → (b : Bounds) × Says f b
 some_bounds f l r =
     let w = are_within f r in
-    let limits : Limits = limits_of (nat_abs f.width.value, nat_abs f.turns.value, nat_abs f.depth.value, nat_abs f.cap.value)
-    ((w.width.least, w.width.most), (w.turns.least, w.turns.most), (w.depth.least, w.depth.most), (w.cap.least, w.cap.most)) in
-    let said : SayLimits f limits = record { width = sym w.width.value; turns = sym w.turns.value; depth = sym w.depth.value; cap = sym w.cap.value } in
+    let limits : Limits = limits_of (nat_abs f.width.value, nat_abs f.turns.value, nat_abs f.depth.value, nat_abs f.cap.value, 0)
+    ((w.width.least, w.width.most), (w.turns.least, w.turns.most), (w.depth.least, w.depth.most), (w.cap.least, w.cap.most), lit≤ tt) in
+    let said : SayLimits f limits = record { width = sym w.width.value; turns = sym w.turns.value; depth = sym w.depth.value; cap = sym w.cap.value; prints = refl } in
     let params : List Param = map (λ p. form_back p.value.form) f.params in
     let same = forms_again f.params (file_lengths f r) in (
       record {

@@ -145,36 +145,38 @@ same_pos a b e = cc
 over : {A B : Type 0} (R : A → Type 0) (f : (x : A) → R x → B) → ((x : A) → IsProp (R x)) → (x y : A) → x ≡ y → (p : R x) (q : R y) → f x p ≡ f y q
 over {A} {B} R f one x y e p q = subst (λ (z : A). (r : R z) → f x p ≡ f z r) e (λ r. ap (f x) (one x p r)) q
 
-abbrev pub Four : Type 0
-Four = ℕ × ℕ × ℕ × ℕ
+abbrev pub Five : Type 0
+Five = ℕ × ℕ × ℕ × ℕ × ℕ
 
-abbrev pub AreRanges : Four → Type 0
+abbrev pub AreRanges : Five → Type 0
 AreRanges n =
-    ((3 ≤ n.0) × (n.0 ≤ 16)) × ((1 ≤ n.1) × (n.1 ≤ 32)) × ((1 ≤ n.2) × (n.2 ≤ 8)) × ((1 ≤ n.3) × (n.3 ≤ 16))
+    ((3 ≤ n.0) × (n.0 ≤ 16)) × ((1 ≤ n.1) × (n.1 ≤ 32)) × ((1 ≤ n.2) × (n.2 ≤ 8)) × ((1 ≤ n.3) × (n.3 ≤ 16)) × (n.4 ≤ 8)
 
-abbrev pub limits_of : (n : Four) → AreRanges n → Limits
+abbrev pub limits_of : (n : Five) → AreRanges n → Limits
 limits_of n r = record {
   width = n.0;
   turns = n.1;
   depth = n.2;
   cap = n.3;
+  prints = n.4;
   width_range = r.0;
   turns_range = r.1;
   depth_range = r.2;
   cap_range = r.3;
+  prints_range = r.4;
 }
 
-one_range : (n : Four) → IsProp (AreRanges n)
+one_range : (n : Five) → IsProp (AreRanges n)
 one_range n = hlevel le_prop
 
-same_four : (a b c d x y z w : ℕ) → a ≡ x → b ≡ y → c ≡ z → d ≡ w → ◌≡◌ {A = Four} (a, b, c, d) (x, y, z, w)
-same_four a b c d x y z w e f g h = cc
+same_five : (a b c d e v w x y z : ℕ) → a ≡ v → b ≡ w → c ≡ x → d ≡ y → e ≡ z → ◌≡◌ {A = Five} (a, b, c, d, e) (v, w, x, y, z)
+same_five a b c d e v w x y z p q r s t = cc
 
-same_limits : (a b : Limits) → a.width ≡ b.width → a.turns ≡ b.turns → a.depth ≡ b.depth → a.cap ≡ b.cap → a ≡ b
-same_limits a b w t d c =
-    over AreRanges limits_of one_range (a.width, a.turns, a.depth, a.cap) (b.width, b.turns, b.depth, b.cap)
-    (same_four _ _ _ _ _ _ _ _ w t d c)
-    (a.width_range, a.turns_range, a.depth_range, a.cap_range) (b.width_range, b.turns_range, b.depth_range, b.cap_range)
+same_limits : (a b : Limits) → a.width ≡ b.width → a.turns ≡ b.turns → a.depth ≡ b.depth → a.cap ≡ b.cap → a.prints ≡ b.prints → a ≡ b
+same_limits a b w t d c p =
+    over AreRanges limits_of one_range (a.width, a.turns, a.depth, a.cap, a.prints) (b.width, b.turns, b.depth, b.cap, b.prints)
+    (same_five _ _ _ _ _ _ _ _ _ _ w t d c p)
+    (a.width_range, a.turns_range, a.depth_range, a.cap_range, a.prints_range) (b.width_range, b.turns_range, b.depth_range, b.cap_range, b.prints_range)
 
 abbrev pub form_back : Form → Param
 form_back (int low high) = param.Int low high
@@ -222,7 +224,7 @@ pub one_meaning : (f : BoundsFile) (a b : Bounds) → Says f a → Says f b → 
 one_meaning f a b s t =
     let limits = same_limits a.limits b.limits
     (same_pos _ _ (sym s.limits.width ∙ t.limits.width)) (same_pos _ _ (sym s.limits.turns ∙ t.limits.turns))
-    (same_pos _ _ (sym s.limits.depth ∙ t.limits.depth)) (same_pos _ _ (sym s.limits.cap ∙ t.limits.cap)) in
+    (same_pos _ _ (sym s.limits.depth ∙ t.limits.depth)) (same_pos _ _ (sym s.limits.cap ∙ t.limits.cap)) (s.limits.prints ∙ sym t.limits.prints) in
     over AreKept bounds_of one_keeping (a.limits, a.entry, a.entry_line, a.params) (b.limits, b.entry, b.entry_line, b.params)
     (same_said _ _ _ _ _ _ _ _ limits (sym s.entry ∙ t.entry) (sym s.entry_line ∙ t.entry_line) (same_params _ _ (sym s.params ∙ t.params)))
     (a.short_entry, a.few_params, a.ranges) (b.short_entry, b.few_params, b.ranges)

@@ -115,11 +115,13 @@ range_fault f =
     else if is_outside 1 16 f.cap.value then Some f.cap.line
     else param_range_fault (nat_abs f.width.value) (nat_abs f.cap.value) f.params
 
+-- the limits that the lines say; of what is printed nothing is kept
 pub record SayLimits (f : BoundsFile) (l : Limits) : Type 0 where
   pub width : f.width.value ≡ pos l.width
   pub turns : f.turns.value ≡ pos l.turns
   pub depth : f.depth.value ≡ pos l.depth
   pub cap : f.cap.value ≡ pos l.cap
+  pub prints : l.prints ≡ 0
 
 -- the file says these bounds; the names of parameters are for its reader alone
 pub record Says (f : BoundsFile) (b : Bounds) : Type 0 where

@@ -67,6 +67,7 @@ fn limits_from(file: &File) -> Limits
         turns: file.turns.number.unsigned_abs(),
         depth: file.depth.number.unsigned_abs(),
         cap: file.cap.number.unsigned_abs(),
+        prints: 0,
     }
 }
 

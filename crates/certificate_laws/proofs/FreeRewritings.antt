@@ -44,6 +44,7 @@ off_below (kind.Augment line x op) i s off = refl
 off_below (kind.Put line x) i s off = refl
 off_below (kind.AugmentAt line x op) i s off = refl
 off_below (kind.Append line x) i s off = refl
+off_below (kind.Print line) i s off = refl
 off_below (kind.Return line) i s off = refl
 off_below (kind.Pass line) i s off = refl
 off_below (kind.Break line) i s off = refl

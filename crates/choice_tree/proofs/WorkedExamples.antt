@@ -7,6 +7,7 @@ use Rattle.mpy_tree.specs.declared.typing.Slot.TheVariants as slot
 use Rattle.mpy_tree.specs.declared.operators.ArithOp.TheVariants as arith
 use Rattle.mpy_tree.specs.declared.operators.CmpOp.TheVariants as cmp
 use Rattle.mpy_tree.specs.Syntax.{Term, a_term, no_term, at, end, step, Routine}
+use Rattle.mpy_tree.specs.Syntax.{arm, arm_and, no_arms, no_block}
 use Rattle.mpy_tree.specs.Syntax as ast
 use Rattle.mpy_tree.specs.Rules.{Slots}
 use Rattle.mpy_tree.specs.Trees as kind
@@ -153,6 +154,36 @@ copied_under_no_edit : plain first
     (tree_by (rule place.Return 1 (hole meta) (hole primed) ∷ w_for_v ∷ []) v)
     ≡ program_shape (returning (copy v))
 copied_under_no_edit = refl
+
+-- def f(x, v, w):
+--     if True:
+--         print(e)
+abbrev printing : Term → List Routine
+printing e =
+    record {
+      line = 1;
+      name = 102 ∷ [];
+      params = name_x ∷ name_v ∷ name_w ∷ [];
+      body =
+          step (at 2 (ast.If (arm_and (arm 2 (ast.Bool true) (step (at 3 (ast.Print e)) end))
+          no_arms) no_block)) end;
+    } ∷ []
+
+abbrev printed_by : List Correction → Term → Weighted
+printed_by rules e = weighted_program (setting_with rules (printing e) types) (printing e)
+
+-- An edit in a print has the print's line, and not that of the block in which it stands. Rules with
+-- a place aren't tried there.
+printed_edits : edits first
+    (printed_by (rule place.Return 1 (hole meta) (literal 5)
+    ∷ rule place.Anywhere 1 (name_template name_x) (sum (name_template name_x) (literal 1)) ∷ [])
+    x) 0
+    ≡ record { line = 3; rule = 1; old = shape x; new = shape (plus x 1) } ∷ []
+printed_edits = refl
+
+-- what is printed shares no list
+printed_list : plain first (printed_by (w_for_v ∷ []) v) ≡ program_shape (printing w)
+printed_list = refl
 
 -- an instance of another type is no alternative: here is no pick
 not_typed : tree_by (rule place.Anywhere 1 (hole meta) (made (exactly (kind.Bool true)) no_templates)

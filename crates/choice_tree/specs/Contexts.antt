@@ -40,12 +40,38 @@ pub record Context : Type 0 where
   pub sharing : Sharing
 
 abbrev pub site_below : Kind → Site
+site_below (kind.Int n) = elsewhere
+site_below (kind.Bool b) = elsewhere
+site_below (kind.Text cs) = elsewhere
+site_below (kind.Name x) = elsewhere
+site_below kind.List = elsewhere
+site_below kind.Neg = elsewhere
+site_below kind.Not = elsewhere
+site_below (kind.Arith op) = elsewhere
+site_below (kind.Cmp op) = elsewhere
+site_below kind.And = elsewhere
+site_below kind.Or = elsewhere
+site_below kind.Cond = elsewhere
+site_below kind.Index = elsewhere
+site_below (kind.Slice from to) = elsewhere
+site_below (kind.Call f) = elsewhere
 site_below (kind.Assign line x) = at_assign x
+site_below (kind.Augment line x op) = elsewhere
+site_below (kind.Put line x) = elsewhere
+site_below (kind.AugmentAt line x op) = elsewhere
+site_below (kind.Append line x) = elsewhere
+site_below (kind.Print line) = elsewhere
 site_below (kind.Return line) = at_return
+site_below (kind.Pass line) = elsewhere
+site_below (kind.Break line) = elsewhere
+site_below (kind.Continue line) = elsewhere
+site_below (kind.If line) = elsewhere
 site_below (kind.Arm line) = at_if
 site_below (kind.While line) = at_while
 site_below (kind.For line x) = at_for x
-site_below _ = elsewhere
+site_below kind.Block = elsewhere
+site_below (kind.Function line f xs) = elsewhere
+site_below kind.Program = elsewhere
 
 -- the line of the parts of a node
 abbrev pub line_below : Kind → ℕ → ℕ
@@ -54,6 +80,7 @@ line_below (kind.Augment line x op) _ = line
 line_below (kind.Put line x) _ = line
 line_below (kind.AugmentAt line x op) _ = line
 line_below (kind.Append line x) _ = line
+line_below (kind.Print line) _ = line
 line_below (kind.Return line) _ = line
 line_below (kind.Arm line) _ = line
 line_below (kind.While line) _ = line
@@ -84,13 +111,40 @@ line_below kind.Program line = line
 -- Of the part of a node at a place. The whole expression of `v = e`, of a `return` and of a `for`
 -- is shared, and so are the arms of a conditional that is.
 abbrev pub sharing_below : Kind → ℕ → Sharing → Sharing
+sharing_below (kind.Int n) i s = apart
+sharing_below (kind.Bool b) i s = apart
+sharing_below (kind.Text cs) i s = apart
+sharing_below (kind.Name x) i s = apart
+sharing_below kind.List i s = apart
+sharing_below kind.Neg i s = apart
+sharing_below kind.Not i s = apart
+sharing_below (kind.Arith op) i s = apart
+sharing_below (kind.Cmp op) i s = apart
+sharing_below kind.And i s = apart
+sharing_below kind.Or i s = apart
 sharing_below kind.Cond zero s = s
 sharing_below kind.Cond (suc zero) s = apart
 sharing_below kind.Cond (suc (suc i)) s = s
+sharing_below kind.Index i s = apart
+sharing_below (kind.Slice from to) i s = apart
+sharing_below (kind.Call f) i s = apart
 sharing_below (kind.Assign line x) i s = shared
+sharing_below (kind.Augment line x op) i s = apart
+sharing_below (kind.Put line x) i s = apart
+sharing_below (kind.AugmentAt line x op) i s = apart
+sharing_below (kind.Append line x) i s = apart
+sharing_below (kind.Print line) i s = apart
 sharing_below (kind.Return line) i s = shared
+sharing_below (kind.Pass line) i s = apart
+sharing_below (kind.Break line) i s = apart
+sharing_below (kind.Continue line) i s = apart
+sharing_below (kind.If line) i s = apart
+sharing_below (kind.Arm line) i s = apart
+sharing_below (kind.While line) i s = apart
 sharing_below (kind.For line x) i s = shared
-sharing_below _ i s = apart
+sharing_below kind.Block i s = apart
+sharing_below (kind.Function line f xs) i s = apart
+sharing_below kind.Program i s = apart
 
 abbrev pub scope_below : Setting → Kind → ℕ → Scope → Scope
 scope_below g kind.Program i σ = scope_in g i

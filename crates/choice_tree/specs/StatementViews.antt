@@ -38,6 +38,7 @@ wact_step (G.Put x i e) line = plainly (kind.Put line x) (two (weighted_of i) (w
 wact_step (G.AugmentAt x i op e) line =
     plainly (kind.AugmentAt line x op) (two (weighted_of i) (weighted_of e))
 wact_step (G.Append x e) line = plainly (kind.Append line x) (one (weighted_of e))
+wact_step (G.Print e) line = plainly (kind.Print line) (one (weighted_of e))
 wact_step (G.Return e) line = plainly (kind.Return line) (maybe_weighted e)
 wact_step G.Pass line = plainly (kind.Pass line) no_weighted
 wact_step G.Break line = plainly (kind.Break line) no_weighted

@@ -343,20 +343,14 @@ fn stmt_child<'a>(act: &'a WAct, i: u128) -> Option<Node<'a>>
     ensures near { IsSome result → i ≤ 2 ^ 64 }
 {
     match act {
-        WAct::Assign(_, e) | WAct::Augment(_, _, e) | WAct::Append(_, e) => {
+        WAct::Assign(_, e) | WAct::Augment(_, _, e) | WAct::Append(_, e) | WAct::Print(e) => {
             Some(Node::Expr(one_of(e, i)?))
         }
         WAct::Put(_, k, e) | WAct::AugmentAt(_, k, _, e) => Some(Node::Expr(one_of_two(k, e, i)?)),
         WAct::Return(None) | WAct::Pass | WAct::Break | WAct::Continue => None,
         WAct::Return(Some(e)) => Some(Node::Expr(one_of(e, i)?)),
         WAct::If(arms, last) => arm_at(arms.items.as_slice(), last, i),
-        WAct::While(e, body) | WAct::For(_, e, body) => {
-            if i == 0 {
-                Some(Node::Expr(e))
-            } else {
-                body_child(body, i - 1)
-            }
-        }
+        WAct::While(e, body) | WAct::For(_, e, body) => expr_or_body(e, body, i),
     }
 }
 
@@ -402,6 +396,7 @@ fn stmt_line(act: &WAct, own: u32, line: u32) -> u32
         | WAct::Put(_, _, _)
         | WAct::AugmentAt(_, _, _, _)
         | WAct::Append(_, _)
+        | WAct::Print(_)
         | WAct::Return(_)
         | WAct::While(_, _)
         | WAct::For(_, _, _) => own,

@@ -95,6 +95,7 @@ fn plain_act(alloc: Global, act: &WAct, line: u32, s: &Selection) -> Result<Act,
             Ok(Act::AugmentAt(name, i, *op, e))
         }
         WAct::Append(x, e) => Ok(Act::Append(x.copy()?, plain_expr(alloc, e, s)?)),
+        WAct::Print(e) => Ok(Act::Print(plain_expr(alloc, e, s)?)),
         WAct::Return(e) => Ok(Act::Return(plain_maybe(alloc, e, s)?)),
         WAct::Pass => Ok(Act::Pass),
         WAct::Break => Ok(Act::Break),

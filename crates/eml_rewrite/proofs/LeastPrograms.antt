@@ -107,6 +107,7 @@ module _ (g : Setting) (keeps : KeepPrimes g.rules) (c : Context) where
         let w = whole_counted g keeps c apart (shape e) in
         omega arith
     action_counted (ast.Append x e) line = let w = whole_counted g keeps c apart (shape e) in omega arith
+    action_counted (ast.Print e) line = let w = whole_counted g keeps c apart (shape e) in omega arith
     action_counted (ast.Return no_term) line = omega arith
     action_counted (ast.Return (a_term e)) line = let w = placed_counted g keeps c at_return (shared_at at_return) (shape e) tt in omega arith
     action_counted ast.Pass line = omega arith

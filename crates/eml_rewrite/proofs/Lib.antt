@@ -14,3 +14,4 @@ pub mod SmallCosts
 pub mod Spots
 pub mod TreeCosts
 pub mod Trunks
+mod WorkedExamples

@@ -121,6 +121,8 @@ action_is g keeps c (ast.AugmentAt x i op e) line =
     (kind.two (shape i) (shape e)) refl
 action_is g keeps c (ast.Append x e) line =
     statement_is g keeps elsewhere (apart_in c) (kind.Append line x) (kind.one (shape e)) refl
+action_is g keeps c (ast.Print e) line =
+    statement_is g keeps elsewhere (apart_in c) (kind.Print line) (kind.one (shape e)) refl
 action_is g keeps c (ast.Return no_term) line =
     statement_is g keeps elsewhere (apart_in c) (kind.Return line) no_trees refl
 action_is g keeps c (ast.Return (a_term e)) line =

@@ -68,6 +68,7 @@ action_least g c (ast.Put x i e) = least_size g c.scope (shape i) + least_size g
 action_least g c (ast.AugmentAt x i op e) =
     least_size g c.scope (shape i) + least_size g c.scope (shape e)
 action_least g c (ast.Append x e) = least_size g c.scope (shape e)
+action_least g c (ast.Print e) = least_size g c.scope (shape e)
 action_least g c (ast.Return (a_term e)) = placed_least g c at_return (shape e)
 action_least g c (ast.While e body) = placed_least g c at_while (shape e)
 action_least g c (ast.For x e body) = placed_least g c (at_for x) (shape e)

@@ -70,6 +70,8 @@ action_grown g c (ast.AugmentAt x i op e) line =
     (two (whole_grown g c elsewhere i) (whole_grown g c elsewhere e))
 action_grown g c (ast.Append x e) line =
     plainly (kind.Append line x) (one (whole_grown g c elsewhere e))
+action_grown g c (ast.Print e) line =
+    plainly (kind.Print line) (one (whole_grown g c elsewhere e))
 action_grown g c (ast.Return e) line = plainly (kind.Return line) (maybe_grown g c e)
 action_grown g c ast.Pass line = plainly (kind.Pass line) no_weighted
 action_grown g c ast.Break line = plainly (kind.Break line) no_weighted

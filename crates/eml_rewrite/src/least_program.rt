@@ -1,7 +1,8 @@
 //! How many nodes the weighted tree of a function has at least, without building it.
-ghost use Rattle.std.specs.Prelude.{◌≤◌, IfOk};
+ghost use Rattle.std.specs.Prelude.{◌≤◌, IfOk, length};
 ghost use Rattle.mpy_scopes.specs.Seen.{site_of};
 ghost use Rattle.mpy_tree.specs.Shapes.{routine_shape, shape};
+ghost use Rattle.mpy_tree.specs.Sites.{own_terms, site_terms};
 ghost use Rattle.mpy_tree.specs.View.{action_of, routine_of, term_of};
 ghost use Rattle.choice_tree.specs.Contexts.{elsewhere};
 ghost use Rattle.choice_tree.specs.RuleViews.{corrections_of};
@@ -44,15 +45,16 @@ pub fn count_func<'a, K: Known>(
     Ok(nodes)
 }
 
-// Of what stands on a line.
+// Of what stands on a line. Each of its expressions is counted.
 fn count_line<'a, K: Known>(
     alloc: Global,
     spot: &Spot<'a, K>,
     line: Line<'a>,
 ) -> Result<u32, NoMemory>
     requires { KeepPrimes (corrections_of spot.now.rules.now) }
-    ensures { IfOk result (λ n. n ≤ line_least (setting_at spot.now) (context_at spot.now)
+    ensures nodes { IfOk result (λ n. n ≤ line_least (setting_at spot.now) (context_at spot.now)
         (site_of line.entry)) }
+    ensures each { IfOk result (λ n. length (site_terms (site_of line.entry)) ≤ n) }
 {
     match line {
         Line::Asks(_, e) => count_placed(alloc, spot, Site::If, e),
@@ -60,18 +62,19 @@ fn count_line<'a, K: Known>(
     }
 }
 
-// Of the expressions of a statement itself.
+// Of the expressions of a statement itself, each of which is counted.
 fn count_own<'a, K: Known>(alloc: Global, spot: &Spot<'a, K>, act: &'a Act) -> Result<u32, NoMemory>
     requires { KeepPrimes (corrections_of spot.now.rules.now) }
-    ensures { IfOk result (λ n. n ≤ action_least (setting_at spot.now) (context_at spot.now)
+    ensures nodes { IfOk result (λ n. n ≤ action_least (setting_at spot.now) (context_at spot.now)
         (action_of act.now)) }
+    ensures each { IfOk result (λ n. length (own_terms (action_of act.now)) ≤ n) }
 {
     match act {
         Act::Assign(x, e) => count_placed(alloc, spot, Site::Assign(x), e),
         Act::Return(Some(e)) => count_placed(alloc, spot, Site::Return, e),
         Act::While(e, _) => count_placed(alloc, spot, Site::While, e),
         Act::For(x, e, _) => count_placed(alloc, spot, Site::For(x), e),
-        Act::Augment(_, _, e) | Act::Append(_, e) => count_whole(alloc, spot, e),
+        Act::Augment(_, _, e) | Act::Append(_, e) | Act::Print(e) => count_whole(alloc, spot, e),
         Act::Put(_, i, e) | Act::AugmentAt(_, i, _, e) => {
             let first = count_whole(alloc, spot, i)?;
             let second = count_whole(alloc, spot, e)?;
@@ -89,8 +92,9 @@ fn count_placed<'a, K: Known>(
     e: &'a Expr,
 ) -> Result<u32, NoMemory>
     requires { KeepPrimes (corrections_of spot.now.rules.now) }
-    ensures { IfOk result (λ n. n ≤ placed_least (setting_at spot.now) (context_at spot.now)
+    ensures nodes { IfOk result (λ n. n ≤ placed_least (setting_at spot.now) (context_at spot.now)
         (place_of site.entry) (shape (term_of e.now))) }
+    ensures some { IfOk result (λ n. 1 ≤ n) }
 {
     let mut counted = Vec::new(alloc);
     let nodes = count_expr(alloc, spot, e, &mut counted)?;
@@ -105,7 +109,8 @@ fn count_whole<'a, K: Known>(
     e: &'a Expr,
 ) -> Result<u32, NoMemory>
     requires { KeepPrimes (corrections_of spot.now.rules.now) }
-    ensures { IfOk result (λ n. n ≤ least_at spot.now (shape (term_of e.now))) }
+    ensures nodes { IfOk result (λ n. n ≤ least_at spot.now (shape (term_of e.now))) }
+    ensures some { IfOk result (λ n. 1 ≤ n) }
 {
     let mut counted = Vec::new(alloc);
     count_expr(alloc, spot, e, &mut counted)

@@ -52,6 +52,7 @@ pub fn count_expr<'a, K: Known>(
     requires keep_primes { KeepPrimes (corrections_of spot.now.rules.now) }
     requires counted { AreCounted (least_at spot.now) counted.old.items }
     ensures nodes { IfOk result (λ n. n ≤ least_at spot.now (shape (term_of e.now))) }
+    ensures some { IfOk result (λ n. 1 ≤ n) }
     ensures counted { OnOk result (AreCounted (least_at spot.now) counted.new.items) }
 {
     let nodes = count_node(alloc, spot, e, counted)?;
@@ -70,6 +71,7 @@ fn count_node<'a, K: Known>(
     requires keep_primes { KeepPrimes (corrections_of spot.now.rules.now) }
     requires counted { AreCounted (least_at spot.now) counted.old.items }
     ensures nodes { IfOk result (λ n. n ≤ least_at spot.now (shape (term_of e.now))) }
+    ensures some { IfOk result (λ n. 1 ≤ n) }
     ensures counted { OnOk result (AreCounted (least_at spot.now) counted.new.items) }
 {
     let kept = count_parts(alloc, spot, e, counted)?;
@@ -92,6 +94,7 @@ fn count_parts<'a, K: Known>(
     requires counted { AreCounted (least_at spot.now) counted.old.items }
     ensures nodes { IfOk result (λ n. n ≤ kept_least (least_at spot.now) (shape (term_of
         e.now))) }
+    ensures some { IfOk result (λ n. 1 ≤ n) }
     ensures counted { OnOk result (AreCounted (least_at spot.now) counted.new.items) }
 {
     let mut nodes = 1u32;

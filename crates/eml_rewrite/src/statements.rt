@@ -161,6 +161,10 @@ fn grow_act<'a, K: Known>(
             let e = grow_whole(alloc, spot, Site::Elsewhere, e, counter)?;
             Ok(WAct::Append(name, e))
         }
+        Act::Print(e) => {
+            let e = grow_whole(alloc, spot, Site::Elsewhere, e, counter)?;
+            Ok(WAct::Print(e))
+        }
         Act::Return(e) => Ok(WAct::Return(grow_maybe(alloc, spot, e, counter)?)),
         Act::Pass => Ok(WAct::Pass),
         Act::Break => Ok(WAct::Break),

@@ -7,7 +7,8 @@ use Rattle.mpy_tree.specs.declared.value.Value.{Value}
 use Rattle.mpy_tree.specs.Outcomes.{run_outcome}
 use Rattle.bounds_reader.specs.declared.bounds.Bounds.{Bounds}
 use Rattle.bounds_reader.specs.Files.{IsBounds}
-use Rattle.task_read.specs.Sources.{Typed, entry_at, program_step, refusal}
+use Rattle.input_space.specs.Tasks.{entry_at}
+use Rattle.task_read.specs.Sources.{Typed, program_step, refusal}
 use Rattle.grade_top.specs.Decisions.{run_step, values_step}
 use Rattle.grade_top.specs.Words.{RunWords}
 

@@ -9,7 +9,7 @@ use Rattle.input_space.specs.Tasks.{Task}
 use Rattle.input_space.proofs.OneCase.{one_case}
 use Rattle.source_files.specs.Files.{sources_of}
 use Rattle.source_files.specs.Texts.{AllFit}
-use Rattle.task_read.specs.Sources.{entry_at}
+use Rattle.input_space.specs.Tasks.{entry_at}
 use Rattle.task_read.specs.Steps.{IsOne}
 use Rattle.task_read.proofs.OneStep.{one_bounds_step, one_program_step}
 use Rattle.task_read.proofs.Steps.{one_done, one_refuse, one_then}

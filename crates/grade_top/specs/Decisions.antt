@@ -9,7 +9,8 @@ use Rattle.mpy_tree.specs.Outcomes.{run_outcome}
 use Rattle.bounds_reader.specs.declared.params.Param.{Param}
 use Rattle.input_space.specs.Cases.{SpellsCase}
 use Rattle.input_space.specs.Inputs.{param_type, is_within}
-use Rattle.task_read.specs.Sources.{bounds_step, entry_at, program_step, refusal}
+use Rattle.input_space.specs.Tasks.{entry_at}
+use Rattle.task_read.specs.Sources.{bounds_step, program_step, refusal}
 use Rattle.sample_maker.specs.Samples.{bounds_text, reference_text, rules_text}
 use Rattle.sample_maker.specs.Samples.{submission_text}
 use Rattle.task_read.specs.Steps.{Step, ◌>>=◌, done, refuse_if}

@@ -3,7 +3,8 @@ ghost use Rattle.std.specs.Prelude.{MatchResult};
 ghost use Rattle.mpy_tree.specs.declared.refusal.Source.{Source as AnySource};
 ghost use Rattle.source_files.specs.Fetches.{StopsAs};
 ghost use Rattle.source_files.specs.Texts.{Fits};
-ghost use Rattle.task_read.specs.Sources.{entry_at, program_step};
+ghost use Rattle.input_space.specs.Tasks.{entry_at};
+ghost use Rattle.task_read.specs.Sources.{program_step};
 ghost use Rattle.grade_top.specs.Views.{typed_of};
 
 use bounds_reader::Bounds;

@@ -16,7 +16,7 @@ fn long_text(alloc: Global, part: &str, times: usize) -> Result<String, AllocErr
 }
 
 /// Texts that are refused, each with the line and the cause.
-const REFUSED: [(&str, u32, &str); 28] = [
+const REFUSED: [(&str, u32, &str); 31] = [
     ("def f(x):\n    return x \u{7}\n", 2, "Byte"),
     ("# fine\ndef f(x):\n\treturn x\n", 3, "Tab"),
     ("def f(x):\n    return x / 2\n", 2, "Token"),
@@ -35,6 +35,13 @@ const REFUSED: [(&str, u32, &str); 28] = [
         "Name",
     ),
     ("def len(x):\n    return x\n", 1, "Name"),
+    ("def f(x):\n    y = print(x)\n    return x\n", 2, "Name"),
+    (
+        "def f(x):\n    print = x\n    print(x)\n    return x\n",
+        3,
+        "Name",
+    ),
+    ("def f(x):\n    print(x, x)\n    return x\n", 2, "Syntax"),
     ("def f(x):\n    return len(x, x)\n", 2, "Arity"),
     ("", 1, "Entry"),
     ("\ndef g(x):\n    return x\n", 1, "Entry"),

@@ -65,7 +65,7 @@ const LAST: &str = "def f(v):\n    return v[-1]\n";
 const WIDE_SLICE: &str = "def f(v):\n    return v[-3:9]\n";
 
 /// Runs that end, each with what is written.
-const ENDS: [(&str, &str, &[&str], &str); 24] = [
+const ENDS: [(&str, &str, &[&str], &str); 27] = [
     (NUMBERS, QUOTIENT, &["-7", "2"], "value -4\n"),
     (NUMBERS, QUOTIENT, &["7", "-2"], "value -4\n"),
     (NUMBERS, QUOTIENT, &["7", "0"], "fault Divisor line 2\n"),
@@ -154,6 +154,24 @@ const ENDS: [(&str, &str, &[&str], &str); 24] = [
         "\ndef f(x):\n    if x:\n        return x\n",
         &["0"],
         "fault NoValue line 2\n",
+    ),
+    (
+        NUMBERS,
+        "def f(a, b):\n    print([a, b])\n    return a\n",
+        &["7", "0"],
+        "value 7\n",
+    ),
+    (
+        NUMBERS,
+        "def f(a, b):\n    print(a // b)\n    return a\n",
+        &["7", "0"],
+        "fault Divisor line 2\n",
+    ),
+    (
+        NUMBERS,
+        "def f(a, b):\n    if b:\n        return a\n    print(a)\n",
+        &["7", "0"],
+        "fault NoValue line 1\n",
     ),
 ];
 

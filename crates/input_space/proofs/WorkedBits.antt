@@ -14,10 +14,12 @@ small = record {
   turns = 1;
   depth = 1;
   cap = 2;
+  prints = 0;
   width_range = (lit≤ tt, lit≤ tt);
   turns_range = (lit≤ tt, lit≤ tt);
   depth_range = (lit≤ tt, lit≤ tt);
   cap_range = (lit≤ tt, lit≤ tt);
+  prints_range = lit≤ tt;
 }
 
 -- 1, 2, 3, 4 and 5 members

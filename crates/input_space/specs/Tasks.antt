@@ -2,6 +2,7 @@
 use Rattle.std.specs.Prelude.{◌≡◌, ◌⊎◌, ℕ, ◌+◌, ◌<◌, List, [], map, Option, None, Some}
 use Rattle.mpy_tree.specs.declared.typing.Fact.{Fact}
 use Rattle.mpy_tree.specs.declared.typing.Ty.{Ty}
+use Rattle.mpy_tree.specs.Entries.{Entry, valued}
 use Rattle.mpy_tree.specs.Rules.{single}
 use Rattle.mpy_tree.specs.Running.{found}
 use Rattle.mpy_tree.specs.SetTypes.{called, results}
@@ -99,11 +100,15 @@ line_in (Some r) = r.line
 abbrev pub entry_line : Bounds → List Routine → ℕ
 entry_line b p = line_in (found p b.entry)
 
+-- how a run within the bounds enters a program
+abbrev pub entry_at : Bounds → Entry
+entry_at b = valued b.entry (map param_type b.params)
+
 -- a program that a text can spell, that is typed for the entry, and in which no statement shares a
 -- list
 pub record IsReady (b : Bounds) (p : List Routine) (types : List Fact) : Type 0 where
   pub proper : IsProper p
-  pub typing : IsTyping types p b.entry (map param_type b.params)
+  pub typing : IsTyping types p (entry_at b)
   pub unshared : shared (single (set_of types)) p ≡ []
 
 -- what the readers of a task see to

@@ -1,5 +1,5 @@
 //! Which values a parameter may have, and which lists of values are inputs.
-ghost use Rattle.std.specs.Prelude.{◌≡◌, ◌↔◌, ◌&&◌, ◌==◌, IsTrue, IfOk, length, map, nat_le};
+ghost use Rattle.std.specs.Prelude.{◌≡◌, ◌↔◌, ◌&&◌, ◌==◌, false, IsTrue, IfOk, length, map, nat_le};
 ghost use Rattle.std.specs.List.{list_all, list_any, Contains};
 ghost use Rattle.input_space.specs.Inputs.{are_within, inputs, is_between, is_within, param_type};
 
@@ -101,10 +101,11 @@ pub fn in_bounds(b: &Bounds, c: &Case) -> bool
     are_within(b.params.items(), c.values.items())
 }
 
-/// The graded function with the types of its parameters.
+/// The graded function with the types of its parameters. It is to give a value.
 pub fn signature(alloc: Global, b: &Bounds) -> Result<Signature, NoMemory>
     ensures entry { IfOk result (λ s. s.entry ≡ b.now.entry) }
     ensures params { IfOk result (λ s. s.params ≡ map param_type b.now.params) }
+    ensures free_result { IfOk result (λ s. s.free_result ≡ false) }
 {
     let mut types = Vec::new(alloc);
     for p in b.params.items() {
@@ -114,5 +115,6 @@ pub fn signature(alloc: Global, b: &Bounds) -> Result<Signature, NoMemory>
     Ok(Signature {
         entry,
         params: Tys::from_vec(types),
+        free_result: false,
     })
 }

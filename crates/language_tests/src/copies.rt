@@ -9,10 +9,10 @@ use std::test::Fail;
 
 /// A statement and an expression of each kind.
 const USUAL: &str =
-    "def f(v):\n    x = [1, 'ab', x, -1, not 1, v[1:2], f(False), 1 + 2, 1 < 2, 1 and 2, 1 or 2, v[1], 1 if 2 else 3]\n    x += 1\n    v[0] = 1\n    v[0] -= 1\n    v.append(2)\n    pass\n    while True:\n        if x:\n            break\n        else:\n            continue\n    for i in v:\n        pass\n    return\n    return 4\n";
+    "def f(v):\n    x = [1, 'ab', x, -1, not 1, v[1:2], f(False), 1 + 2, 1 < 2, 1 and 2, 1 or 2, v[1], 1 if 2 else 3]\n    x += 1\n    v[0] = 1\n    v[0] -= 1\n    v.append(2)\n    print(5)\n    pass\n    while True:\n        if x:\n            break\n        else:\n            continue\n    for i in v:\n        pass\n    return\n    return 4\n";
 
 /// Parts of that text, each with what may stand in its place so that it is another program.
-const CHANGES: [(&str, &str); 14] = [
+const CHANGES: [(&str, &str); 16] = [
     ("[1,", "[2,"),
     ("'ab'", "'b'"),
     ("-1", "1"),
@@ -26,6 +26,8 @@ const CHANGES: [(&str, &str); 14] = [
     ("-= 1", "*= 1"),
     ("        else:\n            continue\n", ""),
     ("break", "pass"),
+    ("print(5)", "print(6)"),
+    ("print(5)", "v.append(5)"),
     ("return 4", "return"),
 ];
 

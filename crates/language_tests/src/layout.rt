@@ -5,11 +5,11 @@ use std::test::Fail;
 
 /// A statement of each kind, in the standard layout.
 const STANDARD: &str =
-    "def f(x, v):\n    x = 1\n    x += 2\n    x -= 2\n    x *= 2\n    x //= 2\n    x %= 2\n    v[0] = x\n    v[x] -= 1\n    v.append(x)\n    for i in v:\n        while x:\n            if x:\n                break\n            elif y:\n                pass\n            elif z:\n                pass\n            else:\n                continue\n    if x:\n        return\n    return x\n\ndef g():\n    pass\n";
+    "def f(x, v):\n    x = 1\n    x += 2\n    x -= 2\n    x *= 2\n    x //= 2\n    x %= 2\n    v[0] = x\n    v[x] -= 1\n    v.append(x)\n    print(x * 2)\n    for i in v:\n        while x:\n            if x:\n                break\n            elif y:\n                pass\n            elif z:\n                pass\n            else:\n                continue\n    if x:\n        return\n    return x\n\ndef g():\n    pass\n";
 
 /// The same program in another layout.
 const OTHER: &str =
-    "\u{feff}# Two functions.\ndef f ( x,v ) :\n  x=1\n  x+=2\n  x -=2\n  x*= 2\n  x //= (2)\n  x%=2\n\n  v [ 0 ]=x\n  v[(x)] -= 1\n  v . append( x )\r\n  for i in (v):\n   while x :\n      if((x)): break\n      elif y:\n         pass\n      elif z: pass # nothing\n      else :continue\n  if x:\n    return\n  return(\n    x)\ndef g( ):pass";
+    "\u{feff}# Two functions.\ndef f ( x,v ) :\n  x=1\n  x+=2\n  x -=2\n  x*= 2\n  x //= (2)\n  x%=2\n\n  v [ 0 ]=x\n  v[(x)] -= 1\n  v . append( x )\r\n  print (\n(x*2) )\n  for i in (v):\n   while x :\n      if((x)): break\n      elif y:\n         pass\n      elif z: pass # nothing\n      else :continue\n  if x:\n    return\n  return(\n    x)\ndef g( ):pass";
 
 /// Texts of expressions, each with its text in the standard layout.
 const LITERALS: [(&str, &str); 8] = [

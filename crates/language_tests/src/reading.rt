@@ -8,7 +8,7 @@ use std::alloc::Global;
 use std::test::Fail;
 
 /// Texts that are refused, each with its cause and line.
-const REFUSED: [(&str, Cause, u32); 30] = [
+const REFUSED: [(&str, Cause, u32); 37] = [
     ("def f(x):\n\treturn x\n", Cause::Tab, 2),
     ("def f(x):\n  return \x01\n", Cause::Byte, 2),
     ("def f(x):\n  return x / 2\n", Cause::Token, 2),
@@ -28,6 +28,13 @@ const REFUSED: [(&str, Cause, u32); 30] = [
     ("def f(x):\n  return x == not x\n", Cause::Syntax, 2),
     ("def f(x):\n  return 1 if x\n", Cause::Syntax, 2),
     ("def f(x):\n  x.add(1)\n", Cause::Syntax, 2),
+    ("def f(x):\n  print()\n", Cause::Syntax, 2),
+    ("def f(x):\n  print(1, 2)\n", Cause::Syntax, 2),
+    ("def f(x):\n  print x\n", Cause::Syntax, 2),
+    ("def f(x):\n  print(x).y\n", Cause::Syntax, 2),
+    ("def f(x):\n  max(x)\n", Cause::Syntax, 2),
+    ("def f(x):\n  prints(x)\n", Cause::Syntax, 2),
+    ("print(1)\n", Cause::Block, 1),
     ("def f(x):\n", Cause::Block, 1),
     ("x = 1\n", Cause::Block, 1),
     ("def f(x):\n  x = 1\n    y = 2\n", Cause::Block, 3),

@@ -11,6 +11,7 @@ const LIMITS: Limits = Limits {
     turns: 4,
     depth: 2,
     cap: 4,
+    prints: 0,
 };
 
 /// Expressions, each with what it gives where `x` is 3, `v` is `[1, 2]`, and `g` gives one more
@@ -83,7 +84,7 @@ const EXPRESSIONS: [(&str, &str); 64] = [
 ];
 
 /// Bodies of statements, each with what it gives.
-const BODIES: [(&str, &str); 9] = [
+const BODIES: [(&str, &str); 15] = [
     (
         "v = [7, x]\n    v[0] = 4\n    v[1] *= 2\n    v.append(5)\n    n = 0\n    for k in v:\n        if k == 6:\n            continue\n        elif k == 5:\n            break\n        else:\n            pass\n        n += k\n    while n <= 9 + x:\n        n = n + x\n    return n",
         "13",
@@ -105,6 +106,15 @@ const BODIES: [(&str, &str); 9] = [
         "Length 5",
     ),
     ("v[2] += y\n    return v", "Index 2"),
+    ("print(x)\n    return x", "3"),
+    (
+        "n = 0\n    for k in v:\n        print(g(k) + n)\n        n += k\n    print(v)\n    print('ab')\n    return n",
+        "3",
+    ),
+    ("print(x)", "NoValue 1"),
+    ("print(1 // 0)\n    return x", "Divisor 2"),
+    ("print(v)\n    print(y)\n    y = 1\n    return y", "Unset 3"),
+    ("print(h(x))\n    return x", "Depth 7"),
 ];
 
 fn name(alloc: Global, text: &str) -> Result<Name, Fail> {

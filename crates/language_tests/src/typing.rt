@@ -8,7 +8,7 @@ use std::alloc::Global;
 use std::test::Fail;
 
 /// Programs, each with how it is typed or refused.
-const ROWS: [(&str, &str); 14] = [
+const ROWS: [(&str, &str); 25] = [
     (
         "def f(x):\n    y = [x]\n    for a in y:\n        x += a\n    return g(x)\ndef g(z):\n    return z * 2\n",
         "6 facts",
@@ -50,6 +50,32 @@ const ROWS: [(&str, &str); 14] = [
         "def f(x):\n    return len(g([x]))\ndef g(v):\n    return v\n",
         "Shared 4",
     ),
+    (
+        "def f(x):\n    print('a')\n    print(g(x))\n    return x\ndef g(y):\n    return [y]\n",
+        "4 facts",
+    ),
+    (
+        "def f(x):\n    v = [x]\n    for a in v:\n        print(v if a else [])\n    return x\n",
+        "4 facts",
+    ),
+    ("def f(x):\n    print = x\n    return print\n", "3 facts"),
+    (
+        "def f(x):\n    print(x)\n    print = 1\n    return print\n",
+        "Name 2",
+    ),
+    ("def f(x):\n    print(print(x))\n    return x\n", "Name 2"),
+    ("def f(x):\n    x = print(1)\n    return x\n", "Name 2"),
+    (
+        "def f(x):\n    x += 1\n    print(y)\n    return x\n",
+        "Name 3",
+    ),
+    (
+        "def f(x):\n    return x\ndef print(x):\n    return x\n",
+        "Name 3",
+    ),
+    ("def f(x):\n    print(max(x))\n    return x\n", "Arity 2"),
+    ("def f(x):\n    print(len(x))\n    return x\n", "Type 2"),
+    ("def f(x):\n    print(x)\n", "Undetermined 1"),
 ];
 
 fn name(ty: Ty) -> &'static str {
@@ -67,6 +93,7 @@ fn answer(alloc: Global, text: &str) -> Result<String, Fail> {
     let signature = Signature {
         entry: Name::from_vec(Vec::from_slice(alloc, b"f")?),
         params: Tys::from_vec(Vec::from_slice(alloc, &[Ty::Int])?),
+        free_result: false,
     };
     match check_types(alloc, &p, &signature) {
         Ok(t) => match unshared(&p, &t) {

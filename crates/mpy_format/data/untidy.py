@@ -2,6 +2,7 @@
 def derive ( poly ) :
   result = [ ]
   for i in range( 1,len(poly) ) : result.append( (i)*poly[ i ] )   # one line
+  print ( (result) )
 
   if  result==[ ]   :
         return [ 0 ]

@@ -8,8 +8,8 @@ use Rattle.mpy_tree.specs.Expressions.{Calls}
 use Rattle.mpy_tree.specs.Statements.{run_action}
 use Rattle.mpy_tree.specs.declared.tree.Expr.{Expr}
 use Rattle.mpy_tree.specs.declared.tree.Stmts.{Stmts}
-use Rattle.mpy_tree.specs.declared.tree.Act.{Act, Assign, Augment, Put, AugmentAt, Append, Return, While, For}
-use Rattle.mpy_tree.specs.declared.tree.Act.TheVariants.{rolls-Assign, rolls-Augment, rolls-Put, rolls-AugmentAt, rolls-Append, rolls-Return, rolls-While, rolls-For}
+use Rattle.mpy_tree.specs.declared.tree.Act.{Act, Assign, Augment, Put, AugmentAt, Append, Print, Return, While, For}
+use Rattle.mpy_tree.specs.declared.tree.Act.TheVariants.{rolls-Assign, rolls-Augment, rolls-Put, rolls-AugmentAt, rolls-Append, rolls-Print, rolls-Return, rolls-While, rolls-For}
 use Rattle.mpy_tree.specs.declared.tree.Act.TheFolds.{fold-roll-Act}
 use Rattle.mpy_tree.specs.declared.tree.Act.TheOpen as G
 use Rattle.mpy_tree.specs.Syntax.{Action, Branch, Branches, Statement, Block}
@@ -43,6 +43,11 @@ pub append_is : (x : List ℕ) (e : Expr) → action_of (Append x e) ≡ ast.App
 append_is x e =
     ap action_of (sym (rolls-Append x e))
     ∙ fold-roll-Act Action Branch Branches Statement Block act_step arm_step arms_step stmt_step stmts_step (G.Append x e)
+
+pub print_is : (e : Expr) → action_of (Print e) ≡ ast.Print (term_of e)
+print_is e =
+    ap action_of (sym (rolls-Print e))
+    ∙ fold-roll-Act Action Branch Branches Statement Block act_step arm_step arms_step stmt_step stmts_step (G.Print e)
 
 pub return_is : (e : Option Expr) → action_of (Return e) ≡ ast.Return (maybe_term e)
 return_is e =

@@ -6,7 +6,8 @@ ghost use Rattle.mpy_tree.specs.View.{block_or_none};
 ghost use Rattle.mpy_interp.specs.Completions.{EndsAs};
 ghost use Rattle.mpy_interp.specs.Frames.{state_of};
 ghost use Rattle.mpy_tree.specs.Operations.{members};
-ghost use Rattle.mpy_tree.specs.Statements.{for_turns, give, given, run_block, run_action};
+ghost use Rattle.mpy_tree.specs.Expressions.{value_of};
+ghost use Rattle.mpy_tree.specs.Statements.{for_turns, give, given, printed, run_block, run_action};
 ghost use Rattle.mpy_tree.specs.Statements.{run_arms, run_else};
 ghost use Rattle.mpy_tree.specs.Values.{on_line};
 
@@ -57,6 +58,7 @@ impl<C: Calls> Machine<'_, C> {
                 self.augment_at(frame, line, &Place { x, i }, &Change { op: *op, e })
             }
             Act::Append(x, e) => self.append(frame, line, x, e),
+            Act::Print(e) => self.exec_print(frame, line, e),
             Act::Return(e) => self.exec_return(frame, line, e),
             Act::Pass => Ok(Completion::Next),
             Act::Break => Ok(Completion::Broke),
@@ -65,6 +67,17 @@ impl<C: Calls> Machine<'_, C> {
             Act::While(e, body) => self.exec_while(frame, body, line, e),
             Act::For(x, e, body) => self.exec_for(frame, body, line, x, e),
         }
+    }
+
+    // Runs `print(e)`.
+    #[inline(never)]
+    fn exec_print(&self, frame: &Frame<'_>, line: u32, e: &Expr) -> Result<Completion, Stop>
+        ensures { EndsAs result (state_of frame.now)
+            (given (value_of self.now.limits.now (C.gives self.now.calls.now)
+            (state_of frame.now) line (term_of e.now)) (printed line (state_of frame.now))) }
+    {
+        self.value(frame, line, e)?;
+        Ok(Completion::Next)
     }
 
     // Runs a `return`.

@@ -45,6 +45,9 @@ depth_of_32 = refl
 depth_of_33 : of_one (step (at 2 (ast.Assign (120 ∷ []) (minus 32))) end) ≡ 2 ∷ []
 depth_of_33 = refl
 
+depth_of_33_printed : of_one (step (at 2 (ast.Print (minus 32))) end) ≡ 2 ∷ []
+depth_of_33_printed = refl
+
 -- so many statements, each on a line of its own, numbered downwards
 abbrev rows : ℕ → Block
 rows zero = end

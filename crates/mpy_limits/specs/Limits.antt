@@ -58,6 +58,7 @@ abbrev mutual
   action_lines d line (ast.AugmentAt x i op e) =
       line_if (is_long x || is_large i || is_large e) line
   action_lines d line (ast.Append x e) = line_if (is_long x || is_large e) line
+  action_lines d line (ast.Print e) = line_if (is_large e) line
   action_lines d line (ast.Return e) = line_if (end_is_large e) line
   action_lines d line ast.Pass = []
   action_lines d line ast.Break = []
@@ -86,10 +87,19 @@ abbrev mutual
   statements (step (at line act) rest) = (line ∷ statements_in act) ++ statements rest
 
   pub statements_in : Action → List ℕ
+  statements_in (ast.Assign x e) = []
+  statements_in (ast.Augment x op e) = []
+  statements_in (ast.Put x i e) = []
+  statements_in (ast.AugmentAt x i op e) = []
+  statements_in (ast.Append x e) = []
+  statements_in (ast.Print e) = []
+  statements_in (ast.Return e) = []
+  statements_in ast.Pass = []
+  statements_in ast.Break = []
+  statements_in ast.Continue = []
   statements_in (ast.If arms last) = statements_of arms ++ statements_last last
   statements_in (ast.While e body) = statements body
   statements_in (ast.For x e body) = statements body
-  statements_in _ = []
 
   pub statements_of : Branches → List ℕ
   statements_of no_arms = []

@@ -199,6 +199,7 @@ fn action_limit(found: Option<u32>, nesting: u32, line: u32, act: &Act) -> Optio
         Act::Put(x, i, e) | Act::AugmentAt(x, i, _, e) => {
             with_line(found, x.is_long() || is_large(i) || is_large(e), line)
         }
+        Act::Print(e) => with_line(found, is_large(e), line),
         Act::Return(e) => with_line(found, end_is_large(e), line),
         Act::Pass | Act::Break | Act::Continue => found,
         Act::If(arms, last) => else_limit(arms_limit(found, nesting, arms), nesting, last),

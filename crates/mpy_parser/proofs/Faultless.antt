@@ -94,6 +94,7 @@ may_leave false (ast.Augment x op e) h = refl
 may_leave false (ast.Put x i e) h = refl
 may_leave false (ast.AugmentAt x i op e) h = refl
 may_leave false (ast.Append x e) h = refl
+may_leave false (ast.Print e) h = refl
 may_leave false (ast.Return e) h = refl
 may_leave false ast.Pass h = refl
 may_leave false (ast.If arms last) h = refl

@@ -12,7 +12,7 @@ use Rattle.mpy_expressions.specs.declared.terminals.Terminal.TheVariants as term
 use Rattle.mpy_expressions.specs.Grammar.{Spells}
 use Rattle.mpy_tree.specs.Options.{◌>>=◌}
 use Rattle.mpy_expressions.specs.Reading.{reading}
-use Rattle.mpy_parser.specs.Items.{Opening, LineItem, simple, augmented, name_list, SpellsSimple, assign, augment, put, augment_at, append, give_nothing, give, pass, leave, again, SpellsHeader, a_function, an_if, an_elif, an_else, a_while, a_for, SpellsBody, open_body, one_statement, SpellsItem, a_statement, a_header}
+use Rattle.mpy_parser.specs.Items.{Opening, LineItem, simple, augmented, name_list, SpellsSimple, assign, augment, put, augment_at, append, print, give_nothing, give, pass, leave, again, SpellsHeader, a_function, an_if, an_elif, an_else, a_while, a_for, SpellsBody, open_body, one_statement, SpellsItem, a_statement, a_header}
 use Rattle.mpy_parser.specs.ItemReading.{ended, whole, augmenting, assigned, at_place, argument, behind_name, given_at, simple_at, names_at, parameters_at, header_at, body_at, headed_at, item_at}
 use Rattle.mpy_expressions.proofs.Readings.{nothing_in_nothing, reading_short}
 use Rattle.mpy_expressions.proofs.Complete.{reading_exact}
@@ -28,6 +28,7 @@ augment_reads : (x : List ℕ) (w : Word) (op : ArithOp) (ts : List (Terminal Un
 augment_reads x word.Assign op ts e h p = absurd (cc)
 augment_reads x word.LeftBracket op ts e h p = absurd (cc)
 augment_reads x word.Dot op ts e h p = absurd (cc)
+augment_reads x word.LeftParen op ts e h p = absurd (cc)
 augment_reads x w op ts e h p = ap (λ o. o >>= λ a. Some (ast.Augment x a.0 a.1)) (augmenting_reads w op ts e h p)
 
 augment_at_reads : (x : List ℕ) (i : Term) (w : Word) (op : ArithOp) (ts : List (Terminal Unit)) (e : Term) → augmented w ≡ Some op → whole ts ≡ Some e → assigned x i (terminal.Word w ∷ ts) ≡ Some (ast.AugmentAt x i op e)
@@ -37,8 +38,8 @@ augment_at_reads x i w op ts e h p = ap (λ o. o >>= λ a. Some (ast.AugmentAt x
 place_reads : (x : List ℕ) (is rest : List (Terminal Unit)) (i : Term) (act : Action) → Spells programs level.Conditional is i → assigned x i rest ≡ Some act → at_place x (is ++ (terminal.Word word.RightBracket ∷ rest)) ≡ Some act
 place_reads x is rest i act s p = let q = reading_exact programs level.Conditional is i (terminal.Word word.RightBracket ∷ rest) s tt in rw (q, p)
 
-argument_reads : (x : List ℕ) (es : List (Terminal Unit)) (e : Term) → Spells programs level.Conditional es e → argument x (es ++ (terminal.Word word.RightParen ∷ [])) ≡ Some (ast.Append x e)
-argument_reads x es e s = let q = reading_exact programs level.Conditional es e (terminal.Word word.RightParen ∷ []) s tt in rw q
+argument_reads : (es : List (Terminal Unit)) (e : Term) → Spells programs level.Conditional es e → argument (es ++ (terminal.Word word.RightParen ∷ [])) ≡ Some e
+argument_reads es e s = let q = reading_exact programs level.Conditional es e (terminal.Word word.RightParen ∷ []) s tt in rw q
 
 given_reads : (ts : List (Terminal Unit)) (e : Term) → Spells programs level.Conditional ts e → given_at ts ≡ Some (ast.Return (a_term e))
 given_reads [] e s = absurd (let p = whole_reads [] e s in let q = nothing_read in let z : None ≡ Some e = sym q ∙ p in cc)
@@ -52,7 +53,8 @@ simple_reads ts act (assign x {es} {e} s) = let p = whole_reads es e s in rw p
 simple_reads ts act (augment x w {op} {es} {e} h s) = augment_reads x w op es e h (whole_reads es e s)
 simple_reads ts act (put x {is} {es} {i} {e} s t) = let p = whole_reads es e t in place_reads x is (terminal.Word word.Assign ∷ es) i (ast.Put x i e) s (rw p)
 simple_reads ts act (augment_at x w {op} {is} {es} {i} {e} h s t) = place_reads x is (terminal.Word w ∷ es) i (ast.AugmentAt x i op e) s (augment_at_reads x i w op es e h (whole_reads es e t))
-simple_reads ts act (append x {es} {e} s) = argument_reads x es e s
+simple_reads ts act (append x {es} {e} s) = ap (λ o. o >>= λ t. Some (ast.Append x t)) (argument_reads es e s)
+simple_reads ts act (print {es} {e} s) = ap (λ o. o >>= λ t. Some (ast.Print t)) (argument_reads es e s)
 simple_reads ts act give_nothing = refl
 simple_reads ts act (give {es} {e} s) = given_reads es e s
 simple_reads ts act pass = refl
@@ -93,6 +95,7 @@ no_header ts act (augment x w h s) = refl
 no_header ts act (put x s t) = refl
 no_header ts act (augment_at x w h s t) = refl
 no_header ts act (append x s) = refl
+no_header ts act (print s) = refl
 no_header ts act give_nothing = refl
 no_header ts act (give s) = refl
 no_header ts act pass = refl

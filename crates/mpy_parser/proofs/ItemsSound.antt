@@ -1,6 +1,7 @@
 -- The item that is read is spelled by the terminals.
 use Rattle.std.proofs.Common.{◌≡◌, ℕ, Bool, true, false, List, [], ◌∷◌, ◌++◌, Option, Some, None, IfSome, cond, refl, ap, sym, ◌∙◌, subst, append_assoc, append-nil, codes}
 use Rattle.std.proofs.lemmas.Slice.Eq.{bytes_eq-Decides}
+use Rattle.mpy_tree.specs.Names.{is_print}
 use Rattle.mpy_tree.specs.declared.operators.ArithOp.{ArithOp}
 use Rattle.mpy_tree.specs.Syntax.{Term, Action}
 use Rattle.mpy_tree.specs.Syntax as ast
@@ -13,8 +14,8 @@ use Rattle.mpy_expressions.specs.declared.terminals.Terminal.TheVariants as term
 use Rattle.mpy_expressions.specs.Grammar.{Spells}
 use Rattle.mpy_tree.specs.Options.{◌>>=◌}
 use Rattle.mpy_expressions.specs.Reading.{reading, behind_closing_bracket, behind_closing_paren, behind_colon}
-use Rattle.mpy_parser.specs.Items.{Opening, when, else_when, while, headed, augmented, name_list, SpellsSimple, assign, augment, put, augment_at, append, give_nothing, give, pass, leave, again, SpellsHeader, a_function, an_if, an_elif, an_else, a_while, a_for, SpellsBody, open_body, one_statement, SpellsItem, a_statement, a_header}
-use Rattle.mpy_parser.specs.ItemReading.{ended, whole, augmenting, augmented_at, assigned, at_place, is_append, argument, method, behind_name, given_at, simple_at, names_at, parameters_at, function_at, each_at, header_at, body_at, body_behind, headed_at, item_at}
+use Rattle.mpy_parser.specs.Items.{Opening, when, else_when, while, headed, augmented, name_list, SpellsSimple, assign, augment, put, augment_at, append, print, give_nothing, give, pass, leave, again, SpellsHeader, a_function, an_if, an_elif, an_else, a_while, a_for, SpellsBody, open_body, one_statement, SpellsItem, a_statement, a_header}
+use Rattle.mpy_parser.specs.ItemReading.{ended, whole, augmenting, augmented_at, assigned, at_place, is_append, argument, appending, method, printing, called, behind_name, given_at, simple_at, names_at, parameters_at, function_at, each_at, header_at, body_at, body_behind, headed_at, item_at}
 use Rattle.mpy_expressions.proofs.Shorter.{if_bound, weaker, either_way}
 use Rattle.mpy_expressions.proofs.Sound.{Fronts, Begins, reading_sound, begins_colon, begins_closing_bracket, begins_closing_paren}
 
@@ -68,27 +69,46 @@ at_place_sound x ts = if_bound (reading programs level.Conditional ts) _ (Fronts
     weaker (assigned x i.0 rest) (SpellsSimple ((terminal.Name x ∷ terminal.Word word.LeftBracket ∷ f.0) ++ (terminal.Word word.RightBracket ∷ rest))) _ (assigned_sound x i.0 f.0 rest f.2) (λ act s.
     subst (λ l. SpellsSimple (terminal.Name x ∷ terminal.Word word.LeftBracket ∷ l) act) (sym same) s)))
 
-argument_sound : (x : List ℕ) (ts : List (Terminal Unit)) → IfSome (argument x ts) (SpellsSimple (terminal.Name x ∷ terminal.Word word.Dot ∷ terminal.Name (codes "append") ∷ terminal.Word word.LeftParen ∷ ts))
-argument_sound x ts = if_bound (reading programs level.Conditional ts) _ (Fronts programs level.Conditional ts) _ (reading_sound programs level.Conditional ts) (λ e f.
-    if_bound (behind_closing_paren e.1) _ (Begins word.RightParen e.1) _ (begins_closing_paren e.1) (λ rest p.
-    weaker (ended (ast.Append x e.0) rest) (λ b. (ast.Append x e.0 ≡ b) × (rest ≡ [])) _ (ended_sound (ast.Append x e.0) rest) (λ b q.
-    let same : ts ≡ f.0 ++ (terminal.Word word.RightParen ∷ []) = f.1 ∙ ap (λ l. f.0 ++ l) (p ∙ ap (λ l. terminal.Word word.RightParen ∷ l) q.1) in
-    subst (SpellsSimple (terminal.Name x ∷ terminal.Word word.Dot ∷ terminal.Name (codes "append") ∷ terminal.Word word.LeftParen ∷ ts)) q.0
-    (subst (λ l. SpellsSimple (terminal.Name x ∷ terminal.Word word.Dot ∷ terminal.Name (codes "append") ∷ terminal.Word word.LeftParen ∷ l) (ast.Append x e.0)) (sym same) (append x f.2)))))
+-- an expression and a closing parenthesis
+abbrev Closes : List (Terminal Unit) → Term → Type 0
+Closes ts e = (es : List (Terminal Unit)) × (ts ≡ es ++ (terminal.Word word.RightParen ∷ [])) × Spells programs level.Conditional es e
 
-method_sound_at : (x f : List ℕ) (ts : List (Terminal Unit)) (b : Bool) → (b ≡ true → f ≡ codes "append") → IfSome (cond b (argument x ts) None) (SpellsSimple (terminal.Name x ∷ terminal.Word word.Dot ∷ terminal.Name f ∷ terminal.Word word.LeftParen ∷ ts))
+argument_sound : (ts : List (Terminal Unit)) → IfSome (argument ts) (Closes ts)
+argument_sound ts = if_bound (reading programs level.Conditional ts) _ (Fronts programs level.Conditional ts) _ (reading_sound programs level.Conditional ts) (λ e f.
+    if_bound (behind_closing_paren e.1) _ (Begins word.RightParen e.1) _ (begins_closing_paren e.1) (λ rest p.
+    weaker (ended e.0 rest) (λ b. (e.0 ≡ b) × (rest ≡ [])) _ (ended_sound e.0 rest) (λ b q.
+    (f.0, f.1 ∙ ap (λ l. f.0 ++ l) (p ∙ ap (λ l. terminal.Word word.RightParen ∷ l) q.1), subst (Spells programs level.Conditional f.0) q.0 f.2))))
+
+appending_sound : (x : List ℕ) (ts : List (Terminal Unit)) → IfSome (appending x ts) (SpellsSimple (terminal.Name x ∷ terminal.Word word.Dot ∷ terminal.Name (codes "append") ∷ terminal.Word word.LeftParen ∷ ts))
+appending_sound x ts = if_bound (argument ts) _ (Closes ts) _ (argument_sound ts) (λ e s.
+    subst (λ l. SpellsSimple (terminal.Name x ∷ terminal.Word word.Dot ∷ terminal.Name (codes "append") ∷ terminal.Word word.LeftParen ∷ l) (ast.Append x e)) (sym s.1) (append x s.2))
+
+method_sound_at : (x f : List ℕ) (ts : List (Terminal Unit)) (b : Bool) → (b ≡ true → f ≡ codes "append") → IfSome (cond b (appending x ts) None) (SpellsSimple (terminal.Name x ∷ terminal.Word word.Dot ∷ terminal.Name f ∷ terminal.Word word.LeftParen ∷ ts))
 method_sound_at x f ts false same = tt
-method_sound_at x f ts true same = weaker (argument x ts) (SpellsSimple (terminal.Name x ∷ terminal.Word word.Dot ∷ terminal.Name (codes "append") ∷ terminal.Word word.LeftParen ∷ ts)) _ (argument_sound x ts)
+method_sound_at x f ts true same = weaker (appending x ts) (SpellsSimple (terminal.Name x ∷ terminal.Word word.Dot ∷ terminal.Name (codes "append") ∷ terminal.Word word.LeftParen ∷ ts)) _ (appending_sound x ts)
     (λ act s. subst (λ g. SpellsSimple (terminal.Name x ∷ terminal.Word word.Dot ∷ terminal.Name g ∷ terminal.Word word.LeftParen ∷ ts) act) (sym (same refl)) s)
 
 method_sound : (x : List ℕ) (ts : List (Terminal Unit)) → IfSome (method x ts) (SpellsSimple (terminal.Name x ∷ terminal.Word word.Dot ∷ ts))
 method_sound x (terminal.Name f ∷ terminal.Word word.LeftParen ∷ ts) = method_sound_at x f ts (is_append f) (bytes_eq-Decides f (codes "append")).0
 method_sound x _ = tt
 
+printing_sound : (ts : List (Terminal Unit)) → IfSome (printing ts) (SpellsSimple (terminal.Name (codes "print") ∷ terminal.Word word.LeftParen ∷ ts))
+printing_sound ts = if_bound (argument ts) _ (Closes ts) _ (argument_sound ts) (λ e s.
+    subst (λ l. SpellsSimple (terminal.Name (codes "print") ∷ terminal.Word word.LeftParen ∷ l) (ast.Print e)) (sym s.1) (print s.2))
+
+called_sound_at : (f : List ℕ) (ts : List (Terminal Unit)) (b : Bool) → (b ≡ true → f ≡ codes "print") → IfSome (cond b (printing ts) None) (SpellsSimple (terminal.Name f ∷ terminal.Word word.LeftParen ∷ ts))
+called_sound_at f ts false same = tt
+called_sound_at f ts true same = weaker (printing ts) (SpellsSimple (terminal.Name (codes "print") ∷ terminal.Word word.LeftParen ∷ ts)) _ (printing_sound ts)
+    (λ act s. subst (λ g. SpellsSimple (terminal.Name g ∷ terminal.Word word.LeftParen ∷ ts) act) (sym (same refl)) s)
+
+called_sound : (f : List ℕ) (ts : List (Terminal Unit)) → IfSome (called f ts) (SpellsSimple (terminal.Name f ∷ terminal.Word word.LeftParen ∷ ts))
+called_sound f ts = called_sound_at f ts (is_print f) (bytes_eq-Decides f (codes "print")).0
+
 behind_name_sound : (x : List ℕ) (w : Word) (ts : List (Terminal Unit)) → IfSome (behind_name x w ts) (SpellsSimple (terminal.Name x ∷ terminal.Word w ∷ ts))
 behind_name_sound x word.Assign ts = if_bound (whole ts) _ (Spells programs level.Conditional ts) _ (whole_sound ts) (λ e s. assign x s)
 behind_name_sound x word.LeftBracket ts = at_place_sound x ts
 behind_name_sound x word.Dot ts = method_sound x ts
+behind_name_sound x word.LeftParen ts = called_sound x ts
 behind_name_sound x w ts = augment_sound x w ts
 
 given_sound : (ts : List (Terminal Unit)) → IfSome (given_at ts) (SpellsSimple (terminal.Word word.Return ∷ ts))

@@ -20,6 +20,7 @@ may_stand false (ast.Augment x op e) h = tt
 may_stand false (ast.Put x i e) h = tt
 may_stand false (ast.AugmentAt x i op e) h = tt
 may_stand false (ast.Append x e) h = tt
+may_stand false (ast.Print e) h = tt
 may_stand false (ast.Return e) h = tt
 may_stand false ast.Pass h = tt
 may_stand false (ast.If arms last) h = tt

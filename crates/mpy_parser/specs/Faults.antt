@@ -54,9 +54,19 @@ is_loop _ = false
 
 -- a `break` or a `continue`
 abbrev pub leaves_turn : Action → Bool
+leaves_turn (ast.Assign x e) = false
+leaves_turn (ast.Augment x op e) = false
+leaves_turn (ast.Put x i e) = false
+leaves_turn (ast.AugmentAt x i op e) = false
+leaves_turn (ast.Append x e) = false
+leaves_turn (ast.Print e) = false
+leaves_turn (ast.Return e) = false
+leaves_turn ast.Pass = false
 leaves_turn ast.Break = true
 leaves_turn ast.Continue = true
-leaves_turn _ = false
+leaves_turn (ast.If arms last) = false
+leaves_turn (ast.While e body) = false
+leaves_turn (ast.For x e body) = false
 
 abbrev pub leaves : LineItem → Bool
 leaves (simple act) = leaves_turn act

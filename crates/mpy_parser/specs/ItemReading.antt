@@ -4,6 +4,7 @@ use Rattle.std.specs.Prelude.{codes}
 use Rattle.std.specs.Cmp.Lexicographic.{pointwise}
 use Rattle.mpy_tree.specs.Syntax.{Term, no_term, a_term, Action}
 use Rattle.mpy_tree.specs.Syntax as ast
+use Rattle.mpy_tree.specs.Names.{is_print}
 use Rattle.mpy_tree.specs.declared.operators.ArithOp.{ArithOp}
 use Rattle.mpy_tree.specs.declared.levels.Level.TheVariants as level
 use Rattle.mpy_expressions.specs.Programs.{programs}
@@ -49,22 +50,34 @@ at_place x ts = do
 abbrev pub is_append : List ℕ → Bool
 is_append f = pointwise nat_eq f (codes "append")
 
-abbrev pub argument : List ℕ → List (Terminal Unit) → Option Action
-argument x ts = do
+-- the expression that all terminals spell but the last, a closing parenthesis
+abbrev pub argument : List (Terminal Unit) → Option Term
+argument ts = do
   e ← reading programs level.Conditional ts
   rest ← behind_closing_paren e.1
-  ended (ast.Append x e.0) rest
+  ended e.0 rest
+
+abbrev pub appending : List ℕ → List (Terminal Unit) → Option Action
+appending x ts = argument ts >>= λ e. Some (ast.Append x e)
 
 abbrev pub method : List ℕ → List (Terminal Unit) → Option Action
 method x (terminal.Name f ∷ terminal.Word word.LeftParen ∷ ts) =
-    if is_append f then argument x ts else None
+    if is_append f then appending x ts else None
 method x _ = None
+
+abbrev pub printing : List (Terminal Unit) → Option Action
+printing ts = argument ts >>= λ e. Some (ast.Print e)
+
+-- behind a name and a parenthesis
+abbrev pub called : List ℕ → List (Terminal Unit) → Option Action
+called f ts = if is_print f then printing ts else None
 
 -- behind a name and a word
 abbrev pub behind_name : List ℕ → Word → List (Terminal Unit) → Option Action
 behind_name x word.Assign ts = whole ts >>= λ e. Some (ast.Assign x e)
 behind_name x word.LeftBracket ts = at_place x ts
 behind_name x word.Dot ts = method x ts
+behind_name x word.LeftParen ts = called x ts
 behind_name x w ts = augmenting w ts >>= λ a. Some (ast.Augment x a.0 a.1)
 
 abbrev pub given_at : List (Terminal Unit) → Option Action

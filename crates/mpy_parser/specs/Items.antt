@@ -69,6 +69,13 @@ pub data SpellsSimple : List (Terminal Unit) → Action → Type 0 where
       (terminal.Name x ∷ terminal.Word word.Dot ∷ terminal.Name (codes "append")
       ∷ terminal.Word word.LeftParen ∷ es ++ terminal.Word word.RightParen ∷ [])
       (ast.Append x e)
+  -- print(e)
+  print : {es : List (Terminal Unit)} {e : Term}
+      → Spells programs level.Conditional es e
+      → SpellsSimple
+      (terminal.Name (codes "print") ∷ terminal.Word word.LeftParen ∷ es
+      ++ terminal.Word word.RightParen ∷ [])
+      (ast.Print e)
   -- return
   give_nothing : SpellsSimple (terminal.Word word.Return ∷ []) (ast.Return no_term)
   -- return e

@@ -18,9 +18,19 @@ item_line line column item = record { line = line; column = column; item = item 
 -- whether a simple statement may stand there: `break` and `continue` only in a loop
 abbrev pub MayStand : Bool → Action → Type 0
 MayStand true act = Unit {0}
+MayStand false (ast.Assign x e) = Unit {0}
+MayStand false (ast.Augment x op e) = Unit {0}
+MayStand false (ast.Put x i e) = Unit {0}
+MayStand false (ast.AugmentAt x i op e) = Unit {0}
+MayStand false (ast.Append x e) = Unit {0}
+MayStand false (ast.Print e) = Unit {0}
+MayStand false (ast.Return e) = Unit {0}
+MayStand false ast.Pass = Unit {0}
 MayStand false ast.Break = ⊥
 MayStand false ast.Continue = ⊥
-MayStand false act = Unit {0}
+MayStand false (ast.If arms last) = Unit {0}
+MayStand false (ast.While e body) = Unit {0}
+MayStand false (ast.For x e body) = Unit {0}
 
 -- The lines of one column, with those that are deeper, are the statements of a block; `loop` says
 -- whether it stands in a loop.

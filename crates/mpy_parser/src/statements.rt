@@ -4,8 +4,8 @@ ghost use Rattle.mpy_tree.specs.Syntax as ast;
 ghost use Rattle.mpy_tree.specs.View.{term_of, action_of};
 ghost use Rattle.mpy_parser.specs.Items.{augmented};
 ghost use Rattle.mpy_parser.specs.ItemReading.{ended, whole, augmenting, augmented_at, assigned};
-ghost use Rattle.mpy_parser.specs.ItemReading.{at_place, is_append, argument, method, behind_name};
-ghost use Rattle.mpy_parser.specs.ItemReading.{given_at, simple_at};
+ghost use Rattle.mpy_parser.specs.ItemReading.{at_place, is_append, argument, appending, method};
+ghost use Rattle.mpy_parser.specs.ItemReading.{called, behind_name, given_at, simple_at};
 
 use crate::NoMemory;
 use mpy_expressions::{Bracket, Terminal, Word, behind_closing, expression};
@@ -105,14 +105,17 @@ fn at_place(alloc: Global, name: &Name, ts: &[Terminal<()>]) -> Result<Option<Ac
     assigned(alloc, name, index, rest)
 }
 
-fn argument(alloc: Global, name: &Name, ts: &[Terminal<()>]) -> Result<Option<Act>, NoMemory>
-    ensures { IfOk result (λ r. option_map action_of r ≡ argument name.now ts.now) }
+// The expression that all terminals spell but the last, a closing parenthesis.
+fn argument(alloc: Global, ts: &[Terminal<()>]) -> Result<Option<Expr>, NoMemory>
+    ensures { IfOk result (λ r. option_map term_of r ≡ argument ts.now) }
 {
-    let name = name.copy()?;
     let Some((e, ts)) = expression::<Expr>(alloc, Level::Conditional, ts)? else {
         return Ok(None);
     };
-    Ok(behind_closing(Bracket::Round, ts).and_then(|rest| ended(Act::Append(name, e), rest)))
+    let Some(rest) = behind_closing(Bracket::Round, ts) else {
+        return Ok(None);
+    };
+    Ok(rest.is_empty().then_some(e))
 }
 
 fn is_append(name: &Name) -> bool
@@ -121,24 +124,47 @@ fn is_append(name: &Name) -> bool
     name.bytes() == b"append".as_slice()
 }
 
+fn appending(alloc: Global, name: &Name, ts: &[Terminal<()>]) -> Result<Option<Act>, NoMemory>
+    ensures { IfOk result (λ r. option_map action_of r ≡ appending name.now ts.now) }
+{
+    let name = name.copy()?;
+    let Some(e) = argument(alloc, ts)? else {
+        return Ok(None);
+    };
+    Ok(Some(Act::Append(name, e)))
+}
+
 // The one method, behind its dot.
 fn method(alloc: Global, name: &Name, ts: &[Terminal<()>]) -> Result<Option<Act>, NoMemory>
     ensures { IfOk result (λ r. option_map action_of r ≡ method name.now ts.now) }
 {
     match ts {
         [
-            Terminal::Name(called),
+            Terminal::Name(attribute),
             Terminal::Word(Word::LeftParen),
             rest @ ..,
         ] => {
-            if is_append(called) {
-                argument(alloc, name, rest)
+            if is_append(attribute) {
+                appending(alloc, name, rest)
             } else {
                 Ok(None)
             }
         }
         _ => Ok(None),
     }
+}
+
+// The statement `print(e)`, behind a name and its parenthesis.
+fn called(alloc: Global, name: &Name, ts: &[Terminal<()>]) -> Result<Option<Act>, NoMemory>
+    ensures { IfOk result (λ r. option_map action_of r ≡ called name.now ts.now) }
+{
+    if !name.is_print() {
+        return Ok(None);
+    }
+    let Some(e) = argument(alloc, ts)? else {
+        return Ok(None);
+    };
+    Ok(Some(Act::Print(e)))
 }
 
 fn behind_name(
@@ -159,6 +185,7 @@ fn behind_name(
         }
         Word::LeftBracket => at_place(alloc, name, ts),
         Word::Dot => method(alloc, name, ts),
+        Word::LeftParen => called(alloc, name, ts),
         _ => {
             let name = name.copy()?;
             let Some((op, e)) = augmenting(alloc, word, ts)? else {

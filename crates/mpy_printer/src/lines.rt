@@ -185,6 +185,19 @@ pub(crate) fn write_append(
     Ok(())
 }
 
+/// Adds `print(e)`.
+#[tactic(auto, using(crate::proofs::Indentation::line_steps))]
+pub(crate) fn write_print(e: &Expr, depth: usize, out: &mut Vec<u8>) -> Result<(), NoMemory>
+    ensures { OnOk result
+        (out.new.items ≡ out.old.items ++ action_text depth (ast.Print (term_of e.now))) }
+{
+    write_indent(depth, out)?;
+    out.extend_from_slice(b"print(")?;
+    write_expr(e, out)?;
+    out.extend_from_slice(b")\n")?;
+    Ok(())
+}
+
 /// Adds a `return`, with its value if it has one.
 #[tactic(auto, using(crate::proofs::Indentation::line_steps))]
 pub(crate) fn write_return(

@@ -4,8 +4,8 @@ ghost use Rattle.mpy_tree.specs.Printing.{action_text, arms_text, block_text, el
 ghost use Rattle.mpy_tree.specs.View.{action_of, block_of, block_or_none, branches_of};
 
 use crate::lines::{
-    deeper, write_append, write_assign, write_augment, write_augment_at, write_for, write_put,
-    write_return, write_test, write_word,
+    deeper, write_append, write_assign, write_augment, write_augment_at, write_for, write_print,
+    write_put, write_return, write_test, write_word,
 };
 use mpy_tree::{Act, Arms, NoMemory, Stmts};
 
@@ -31,6 +31,7 @@ fn write_act(act: &Act, depth: usize, out: &mut Vec<u8>) -> Result<(), NoMemory>
         Act::Put(x, i, e) => write_put(x, i, e, depth, out),
         Act::AugmentAt(x, i, op, e) => write_augment_at(x, i, *op, e, depth, out),
         Act::Append(x, e) => write_append(x, e, depth, out),
+        Act::Print(e) => write_print(e, depth, out),
         Act::Return(e) => write_return(e, depth, out),
         Act::Pass => write_word(b"pass", depth, out),
         Act::Break => write_word(b"break", depth, out),

@@ -45,6 +45,7 @@ abbrev mutual
   IsProperAction loop (ast.AugmentAt x i op e) =
       IsName x × IsProperTerm i × MayAugment op × IsProperTerm e
   IsProperAction loop (ast.Append x e) = IsName x × IsProperTerm e
+  IsProperAction loop (ast.Print e) = IsProperTerm e
   IsProperAction loop (ast.Return e) = IsProperEnd e
   IsProperAction loop ast.Pass = Unit {0}
   IsProperAction loop ast.Break = MayStand loop ast.Break

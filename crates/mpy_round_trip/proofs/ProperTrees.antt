@@ -120,6 +120,7 @@ mutual
   action_in loop line (ast.Put x i e) p = (p.0, term_in loop i p.1.0, term_in loop e p.1.1.0)
   action_in loop line (ast.AugmentAt x i op e) p = (p.0.0, term_in loop i p.1.0, p.0.1, term_in loop e p.1.1.0)
   action_in loop line (ast.Append x e) p = (p.0, term_in loop e p.1.0)
+  action_in loop line (ast.Print e) p = term_in loop e p.1.0
   action_in loop line (ast.Return e) p = of_end_parts e (end_parts_in loop e no_trees p.1).0
   action_in loop line ast.Pass p = tt
   action_in loop line ast.Break p = break_in loop p.0
@@ -156,6 +157,7 @@ mutual
   from_action loop line (ast.Put x i e) p = (p.0, (from_term loop i p.1, (from_term loop e p.2, tt)))
   from_action loop line (ast.AugmentAt x i op e) p = ((p.0, p.2), (from_term loop i p.1, (from_term loop e p.3, tt)))
   from_action loop line (ast.Append x e) p = (p.0, (from_term loop e p.1, tt))
+  from_action loop line (ast.Print e) p = (tt, (from_term loop e p, tt))
   from_action loop line (ast.Return e) p = (tt, from_end_parts loop e no_trees (parts_of_end e p) tt)
   from_action loop line ast.Pass p = (tt, tt)
   from_action loop line ast.Break p = (from_break loop p, tt)

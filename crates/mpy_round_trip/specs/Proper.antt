@@ -34,21 +34,37 @@ BeginsWithArm _ = ⊥
 -- stand in a loop, as `loop` says.
 abbrev pub IsProperNode : Bool → Kind → Trees → Type 0
 IsProperNode loop (kind.Int n) ts = n ≤ 2147483647
+IsProperNode loop (kind.Bool b) ts = Unit {0}
 IsProperNode loop (kind.Text cs) ts = list_all is_printable cs ≡ true
 IsProperNode loop (kind.Name x) ts = IsName x
+IsProperNode loop kind.List ts = Unit {0}
+IsProperNode loop kind.Neg ts = Unit {0}
+IsProperNode loop kind.Not ts = Unit {0}
+IsProperNode loop (kind.Arith op) ts = Unit {0}
+IsProperNode loop (kind.Cmp op) ts = Unit {0}
+IsProperNode loop kind.And ts = Unit {0}
+IsProperNode loop kind.Or ts = Unit {0}
+IsProperNode loop kind.Cond ts = Unit {0}
+IsProperNode loop kind.Index ts = Unit {0}
+IsProperNode loop (kind.Slice from to) ts = Unit {0}
 IsProperNode loop (kind.Call f) ts = IsName f
 IsProperNode loop (kind.Assign line x) ts = IsName x
 IsProperNode loop (kind.Augment line x op) ts = IsName x × MayAugment op
 IsProperNode loop (kind.Put line x) ts = IsName x
 IsProperNode loop (kind.AugmentAt line x op) ts = IsName x × MayAugment op
 IsProperNode loop (kind.Append line x) ts = IsName x
+IsProperNode loop (kind.Print line) ts = Unit {0}
+IsProperNode loop (kind.Return line) ts = Unit {0}
+IsProperNode loop (kind.Pass line) ts = Unit {0}
 IsProperNode loop (kind.Break line) ts = loop ≡ true
 IsProperNode loop (kind.Continue line) ts = loop ≡ true
 IsProperNode loop (kind.If line) ts = BeginsWithArm ts
+IsProperNode loop (kind.Arm line) ts = Unit {0}
+IsProperNode loop (kind.While line) ts = Unit {0}
 IsProperNode loop (kind.For line x) ts = IsName x
 IsProperNode loop kind.Block ts = HasParts ts
 IsProperNode loop (kind.Function line f params) ts = IsName f × All IsName params
-IsProperNode loop _ ts = Unit {0}
+IsProperNode loop kind.Program ts = Unit {0}
 
 -- whether the parts of a node stand in a loop
 abbrev pub in_loop : Bool → Kind → Bool

@@ -7,7 +7,8 @@ ghost use Rattle.mpy_tree.specs.View.{term_of, terms_of, block_of, routine_of};
 ghost use Rattle.mpy_tree.specs.Sites.{sites};
 ghost use Rattle.mpy_tree.specs.Locals.{is_among, locals};
 ghost use Rattle.mpy_tree.specs.Names.{is_builtin, takes_so_many, takes_params, count, has_twice};
-ghost use Rattle.mpy_tree.specs.Names.{is_name_fault, is_arity_fault, has_name_fault};
+ghost use Rattle.mpy_tree.specs.Names.{is_name_fault, is_arity_fault, has_name_fault, is_print};
+ghost use Rattle.mpy_tree.specs.Names.{is_taken, site_prints};
 ghost use Rattle.mpy_tree.specs.Names.{has_arity_fault, lines_of, header_lines, name_lines};
 ghost use Rattle.mpy_tree.specs.Names.{name_lines_from, arity_lines};
 ghost use Rattle.mpy_tree.specs.Leasts.{least};
@@ -20,7 +21,7 @@ use crate::lines::{sooner, sooner_if};
 use crate::names::changed;
 use crate::nodes::{Site, push_site_nodes, push_sites};
 use crate::scope::{Scope, Scopes};
-use mpy_tree::{Builtin, Cause, Expr, Exprs, Func, Name, NoMemory, TypeError};
+use mpy_tree::{Act, Builtin, Cause, Expr, Exprs, Func, Name, NoMemory, TypeError};
 use std::alloc::Global;
 
 /// The least line of a fault of names or of numbers of arguments; on one line that of names.
@@ -88,13 +89,14 @@ fn least_name_line(alloc: Global, scopes: &Scopes<'_>) -> Result<Option<u32>, No
     Ok(first)
 }
 
-// The line of a `def` whose name is an earlier one's or a builtin's, or that has a parameter twice.
+// The line of a `def` whose name is an earlier one's, a builtin's or `print`, or that has a
+// parameter twice.
 #[tactic(auto, unfolding(mpy_tree::specs::Leasts::least))]
 fn header_line(before: &[&Name], func: &Func) -> Option<u32>
     ensures { result ≡ least (header_lines (map name_of before.now) (routine_of func.now)) }
 {
     let name = &func.name;
-    if is_among(before, name) || is_builtin(name) || has_twice(func.params.items()) {
+    if is_among(before, name) || is_taken(name) || has_twice(func.params.items()) {
         Some(func.line)
     } else {
         None
@@ -125,6 +127,13 @@ fn has_twice(names: &[Name]) -> bool
         }
     }
     false
+}
+
+// Whether no function may have the name.
+fn is_taken(f: &Name) -> bool
+    ensures { result ≡ is_taken f.now }
+{
+    is_builtin(f) || f.is_print()
 }
 
 // Whether it is the name of a builtin.
@@ -166,6 +175,9 @@ fn has_name_fault(
             return Ok(true);
         }
     }
+    if prints(s) && has_print(&names.names) {
+        return Ok(true);
+    }
     let mut nodes = Vec::new(alloc);
     push_site_nodes(s, &mut nodes)?;
     for n in &nodes {
@@ -174,6 +186,25 @@ fn has_name_fault(
         }
     }
     Ok(false)
+}
+
+// Whether a statement itself prints.
+fn prints(s: Site<'_>) -> bool
+    ensures { result ≡ site_prints (site_of s.entry) }
+{
+    matches!(s, Site::Does(_, Act::Print(_)))
+}
+
+// Whether `print` is among names.
+fn has_print(names: &[&Name]) -> bool
+    ensures { result ≡ list_any is_print (map name_of names.now) }
+{
+    for x in names {
+        if x.is_print() {
+            return true;
+        }
+    }
+    false
 }
 
 // Whether a node is a name that isn't there, or a call of one.

@@ -109,6 +109,7 @@ fn own_calls(act: &Act, f: &Name) -> bool
         Act::Assign(_, e)
         | Act::Augment(_, _, e)
         | Act::Append(_, e)
+        | Act::Print(e)
         | Act::Return(Some(e))
         | Act::While(e, _)
         | Act::For(_, e, _) => one_calls(e, f),

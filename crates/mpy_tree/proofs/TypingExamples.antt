@@ -1,14 +1,15 @@
 -- Worked programs: their faults, slots, flows and shared lists, each closed by computing it.
-use Rattle.std.proofs.Common.{◌≡◌, ℕ, List, [], ◌∷◌, Some, None, refl, codes}
+use Rattle.std.proofs.Common.{◌≡◌, ℕ, Bool, true, false, List, [], ◌∷◌, Some, None, refl, codes}
 use Rattle.mpy_tree.specs.declared.operators.ArithOp.TheVariants.{Mul}
 use Rattle.mpy_tree.specs.declared.refusal.Cause.TheVariants as cause
 use Rattle.mpy_tree.specs.declared.typing.Ty.TheVariants as ty
 use Rattle.mpy_tree.specs.declared.typing.Slot.TheVariants as slot
-use Rattle.mpy_tree.specs.Syntax.{Term, no_terms, term_and, no_term, a_term, at, end, step, Routine}
+use Rattle.mpy_tree.specs.Syntax.{Term, no_terms, term_and, no_term, a_term, at, end, step, Action, Routine}
 use Rattle.mpy_tree.specs.Syntax as ast
 use Rattle.mpy_tree.specs.declared.typing.Slot.{Slot}
 use Rattle.mpy_tree.specs.declared.typing.TypeSet.{TypeSet}
 use Rattle.mpy_tree.specs.declared.typing.TypeError.TheVariants.{Fault, Conflict}
+use Rattle.mpy_tree.specs.Entries.{Entry, valued}
 use Rattle.mpy_tree.specs.TypeSets.{no_types, just, join}
 use Rattle.mpy_tree.specs.SetTypes.{FactSet, types_in}
 use Rattle.mpy_tree.specs.Flows.{flows, flow, given, value, each, source_types}
@@ -17,7 +18,7 @@ use Rattle.mpy_tree.specs.Sharing.{shared}
 use Rattle.mpy_tree.specs.Locals.{locals}
 use Rattle.mpy_tree.specs.Leasts.{least}
 use Rattle.mpy_tree.specs.Rules.{single, type_in}
-use Rattle.mpy_tree.specs.Faults.{names_fault, slots_fault, nodes_fault, slots, facts_at, fact}
+use Rattle.mpy_tree.specs.Faults.{names_fault, slots_fault, nodes_fault, slots, facts_at, fact, free_function}
 
 abbrev x : List ℕ
 x = codes "x"
@@ -63,7 +64,11 @@ circle =
     ∷ record { line = 3; name = g; params = y ∷ []; body = step (at 4 (ast.Return (a_term (ast.Call g (term_and (ast.Name y) no_terms))))) end }
     ∷ []
 
-flows_of_circle : flows circle f (ty.Int ∷ []) ≡
+-- the entry f on a number
+abbrev on_number : Bool → Entry
+on_number free = record { name = f; types = ty.Int ∷ []; free_result = free }
+
+flows_of_circle : flows circle (valued f (ty.Int ∷ [])) ≡
     flow 0 (slot.Local x) (given ty.Int)
     ∷ flow 0 slot.Result (value 0 (ast.Call g (term_and (ast.Name x) no_terms)))
     ∷ flow 1 (slot.Local y) (value 0 (ast.Name x))
@@ -80,8 +85,57 @@ parameter_type slot.Result = no_types
 abbrev parameters_alone : FactSet
 parameters_alone = λ i s. parameter_type s
 
-no_result : slots_fault parameters_alone (slots circle) ≡ Some (Fault cause.Undetermined 1)
+no_result : slots_fault None parameters_alone (slots circle) ≡ Some (Fault cause.Undetermined 1)
 no_result = refl
+
+-- an entry's result may have none, where the entry says so, but not that of another function
+no_result_of_a_callee : slots_fault (free_function circle (on_number true)) parameters_alone (slots circle) ≡ Some (Fault cause.Undetermined 3)
+no_result_of_a_callee = refl
+
+-- def f(x): print(e)
+abbrev prints : Term → List Routine
+prints e = record { line = 1; name = f; params = x ∷ []; body = step (at 2 (ast.Print e)) end } ∷ []
+
+no_result_of_the_entry : slots_fault (free_function (prints (ast.Name x)) (on_number true)) parameters_alone (slots (prints (ast.Name x))) ≡ None
+no_result_of_the_entry = refl
+
+no_value_of_the_entry : slots_fault (free_function (prints (ast.Name x)) (on_number false)) parameters_alone (slots (prints (ast.Name x))) ≡ Some (Fault cause.Undetermined 1)
+no_value_of_the_entry = refl
+
+-- `print` is a statement's name: no function has it, a local may have it, but then its function
+-- prints nothing, and in an expression it is called in vain
+print_is_printed : names_fault (prints (ast.Name x)) ≡ None
+unfolding least
+print_is_printed = refl
+
+print_in_an_expression : names_fault (prints (ast.Call (codes "print") (term_and (ast.Name x) no_terms))) ≡ Some (Fault cause.Name 2)
+unfolding least
+print_in_an_expression = refl
+
+-- def f(print): s, on line 2
+abbrev takes_print : Action → List Routine
+takes_print act = record { line = 1; name = f; params = codes "print" ∷ []; body = step (at 2 act) end } ∷ []
+
+print_is_a_local : names_fault (takes_print (ast.Print (ast.Int 1))) ≡ Some (Fault cause.Name 2)
+unfolding least
+print_is_a_local = refl
+
+local_is_returned : names_fault (takes_print (ast.Return (a_term (ast.Name (codes "print"))))) ≡ None
+unfolding least
+local_is_returned = refl
+
+print_is_defined : names_fault (record { line = 1; name = codes "print"; params = x ∷ []; body = step (at 2 (ast.Return (a_term (ast.Name x)))) end } ∷ []) ≡ Some (Fault cause.Name 1)
+unfolding least
+print_is_defined = refl
+
+-- a value of any type is printed, and what has no type is not
+text_is_printed : nodes_fault (single numbers) (prints (ast.Text [])) ≡ None
+unfolding least
+text_is_printed = refl
+
+length_of_number_printed : nodes_fault (single numbers) (prints (ast.Call (codes "len") (term_and (ast.Int 1) no_terms))) ≡ Some (Fault cause.TypeFault 2)
+unfolding least
+length_of_number_printed = refl
 
 -- the locals in the order in which they are written: def f(x): y = g if x else x; g *= y
 abbrev ordered : Routine
@@ -91,11 +145,11 @@ locals_in_order : locals ordered ≡ x ∷ y ∷ g ∷ []
 locals_in_order = refl
 
 -- `*=` gives no type
-flows_in_order : flows (ordered ∷ []) f [] ≡ flow 0 (slot.Local y) (value 0 (ast.Cond (ast.Name x) (ast.Name g) (ast.Name x))) ∷ []
+flows_in_order : flows (ordered ∷ []) (valued f []) ≡ flow 0 (slot.Local y) (value 0 (ast.Cond (ast.Name x) (ast.Name g) (ast.Name x))) ∷ []
 flows_in_order = refl
 
 -- two types of one slot, in the order of the types
-both_types : slots_fault (λ i s. join (just ty.Text) (just ty.Bool)) (slots (returns (ast.Name x))) ≡ Some (Conflict 1 ty.Bool ty.Text)
+both_types : slots_fault None (λ i s. join (just ty.Text) (just ty.Bool)) (slots (returns (ast.Name x))) ≡ Some (Conflict 1 ty.Bool ty.Text)
 both_types = refl
 
 facts_of_one : facts_at numbers (slots (returns (ast.Name x))) ≡ fact 0 (slot.Local x) ty.Int ∷ fact 0 slot.Result ty.Int ∷ []

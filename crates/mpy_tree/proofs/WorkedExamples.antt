@@ -17,10 +17,10 @@ use Rattle.mpy_tree.specs.Running.{evaluated}
 use Rattle.mpy_tree.specs.Printing.{text_of, program_text, values_text}
 
 abbrev wide : Limits
-wide = record { width = 6; turns = 4; depth = 2; cap = 4; width_range = (lit≤ tt, lit≤ tt); turns_range = (lit≤ tt, lit≤ tt); depth_range = (lit≤ tt, lit≤ tt); cap_range = (lit≤ tt, lit≤ tt) }
+wide = record { width = 6; turns = 4; depth = 2; cap = 4; prints = 0; width_range = (lit≤ tt, lit≤ tt); turns_range = (lit≤ tt, lit≤ tt); depth_range = (lit≤ tt, lit≤ tt); cap_range = (lit≤ tt, lit≤ tt); prints_range = lit≤ tt }
 
 abbrev narrow : Limits
-narrow = record { width = 4; turns = 4; depth = 2; cap = 4; width_range = (lit≤ tt, lit≤ tt); turns_range = (lit≤ tt, lit≤ tt); depth_range = (lit≤ tt, lit≤ tt); cap_range = (lit≤ tt, lit≤ tt) }
+narrow = record { width = 4; turns = 4; depth = 2; cap = 4; prints = 0; width_range = (lit≤ tt, lit≤ tt); turns_range = (lit≤ tt, lit≤ tt); depth_range = (lit≤ tt, lit≤ tt); cap_range = (lit≤ tt, lit≤ tt); prints_range = lit≤ tt }
 
 abbrev returns : List (List ℕ) → Term → List Routine
 returns xs e = record { line = 1; name = codes "f"; params = xs; body = step (at 2 (ast.Return (a_term e))) end } ∷ []
@@ -163,6 +163,16 @@ appended = refl
 appended_past_the_cap : runs (ast.Append v (ast.Name x) ∷ ast.Append v (ast.Name x) ∷ gives (ast.Name v) ∷ []) some ≡ Err (fault Length 3)
 appended_past_the_cap = refl
 
+-- what is printed is evaluated and dropped; its fault is the run's
+printed : runs (ast.Print (ast.Name x) ∷ gives (ast.Name x) ∷ []) some ≡ Ok (Int (pos 2))
+printed = refl
+
+printed_by_zero : runs (ast.Print (ast.Arith Floor (ast.Int 1) (ast.Int 0)) ∷ gives (ast.Name x) ∷ []) some ≡ Err (fault Divisor 2)
+printed_by_zero = refl
+
+printed_before_it_is_set : runs (ast.Print (ast.Name i) ∷ ast.Assign i (ast.Int 1) ∷ gives (ast.Name i) ∷ []) some ≡ Err (fault Unset 2)
+printed_before_it_is_set = refl
+
 augmented : runs (ast.Augment x Mul (ast.Int 3) ∷ gives (ast.Name x) ∷ []) some ≡ Ok (Int (pos 6))
 augmented = refl
 
@@ -249,6 +259,10 @@ sum_in_a_product = refl
 counting_text : program_text counts ≡ codes "def f(x):\n    i = 0\n    while i < x:\n        i = i + 1\n    return i\n"
 unfolding digits
 counting_text = refl
+
+printing_text : program_text (record { line = 1; name = codes "f"; params = x ∷ []; body = step (at 2 (ast.Print (ast.Cmp Lt (ast.Name x) (ast.Int 2)))) end } ∷ []) ≡ codes "def f(x):\n    print(x < 2)\n"
+unfolding digits
+printing_text = refl
 
 input_text : values_text (Items (pos 1 ∷ negsuc 1 ∷ []) ∷ Truth false ∷ Text (codes "it's") ∷ []) ≡ codes "[1, -2], False, 'it\\'s'"
 unfolding digits

@@ -7,13 +7,14 @@ use Rattle.mpy_tree.specs.declared.typing.Slot.{Slot}
 use Rattle.mpy_tree.specs.declared.typing.Slot.TheVariants as slot
 use Rattle.mpy_tree.specs.declared.refusal.Cause.TheVariants as cause
 use Rattle.mpy_tree.specs.Running.{found}
+use Rattle.mpy_tree.specs.Entries.{Entry}
 use Rattle.mpy_tree.specs.Syntax.{Routine}
 use Rattle.mpy_tree.specs.declared.typing.TypeSet.{TypeSet}
 use Rattle.mpy_tree.specs.declared.typing.TypeError.{TypeError}
 use Rattle.mpy_tree.specs.declared.typing.TypeError.TheVariants.{Fault, Conflict}
 use Rattle.mpy_tree.specs.declared.typing.Fact.{Fact}
 use Rattle.mpy_tree.specs.TypeSets.{only}
-use Rattle.mpy_tree.specs.SetTypes.{FactSet}
+use Rattle.mpy_tree.specs.SetTypes.{FactSet, Callee, called, same_place}
 use Rattle.mpy_tree.specs.Sites.{Site, does, asks, sites}
 use Rattle.mpy_tree.specs.Names.{lines_of, name_lines, arity_lines}
 use Rattle.mpy_tree.specs.Locals.{is_among, assigned, locals}
@@ -61,20 +62,35 @@ listed s =
     listed_if s.int ty.Int
     (listed_if s.bool ty.Bool (listed_if s.list ty.List (listed_if s.text ty.Text [])))
 
-abbrev pub slot_fault : List Ty → ℕ → Option TypeError
-slot_fault [] line = Some (Fault cause.Undetermined line)
-slot_fault (a ∷ []) line = None
-slot_fault (a ∷ b ∷ ts) line = Some (Conflict line a b)
+abbrev pub number_of : Option Callee → Option ℕ
+number_of None = None
+number_of (Some g) = Some g.number
+
+-- the function whose result may have no type, if there is one
+abbrev pub free_function : List Routine → Entry → Option ℕ
+free_function p e = if e.free_result then number_of (called p e.name) else None
+
+-- whether a slot may have no type
+abbrev pub may_lack : Option ℕ → Place → Bool
+may_lack None s = false
+may_lack (Some j) s = same_place j slot.Result s.func s.slot
+
+-- the fault of a slot with these types, which may have none or must have one
+abbrev pub slot_fault : Bool → List Ty → ℕ → Option TypeError
+slot_fault may_be_none [] line = if may_be_none then None else Some (Fault cause.Undetermined line)
+slot_fault may_be_none (a ∷ []) line = None
+slot_fault may_be_none (a ∷ b ∷ ts) line = Some (Conflict line a b)
 
 abbrev pub or_fault : Option TypeError → Option TypeError → Option TypeError
 or_fault None other = other
 or_fault (Some e) other = Some e
 
--- the first slot without exactly one type
-abbrev pub slots_fault : FactSet → List Place → Option TypeError
-slots_fault F [] = None
-slots_fault F (s ∷ ss) =
-    or_fault (slot_fault (listed (F s.func s.slot)) s.line) (slots_fault F ss)
+-- the first slot without exactly one type, but for the result of the function `free` without any
+abbrev pub slots_fault : Option ℕ → FactSet → List Place → Option TypeError
+slots_fault free F [] = None
+slots_fault free F (s ∷ ss) =
+    or_fault (slot_fault (may_lack free s) (listed (F s.func s.slot)) s.line)
+    (slots_fault free F ss)
 
 -- the fact that a slot has a type
 abbrev pub fact : ℕ → Slot → Ty → Fact
@@ -118,8 +134,8 @@ entry_fault None n = Some (Fault cause.Entry 1)
 entry_fault (Some r) n = if length r.params == n then None else Some (Fault cause.Entry r.line)
 
 -- the first fault, where these facts are the least set
-abbrev pub first_fault : List Routine → List ℕ → List Ty → FactSet → Option TypeError
-first_fault p entry ts F =
+abbrev pub first_fault : List Routine → Entry → FactSet → Option TypeError
+first_fault p e F =
     or_fault (names_fault p)
-    (or_fault (entry_fault (found p entry) (length ts))
-    (or_fault (slots_fault F (slots p)) (nodes_fault (single F) p)))
+    (or_fault (entry_fault (found p e.name) (length e.types))
+    (or_fault (slots_fault (free_function p e) F (slots p)) (nodes_fault (single F) p)))

@@ -5,9 +5,10 @@ use Rattle.mpy_tree.specs.declared.operators.ArithOp.TheVariants.{Mul}
 use Rattle.mpy_tree.specs.declared.typing.Ty.{Ty}
 use Rattle.mpy_tree.specs.declared.typing.Slot.{Slot}
 use Rattle.mpy_tree.specs.declared.typing.Slot.TheVariants.{Local, Result}
-use Rattle.mpy_tree.specs.Syntax.{Term, Terms, term_and, a_term, Action, Routine}
+use Rattle.mpy_tree.specs.Syntax.{Term, Terms, term_and, no_term, a_term, Action, Routine}
 use Rattle.mpy_tree.specs.Syntax as ast
 use Rattle.mpy_tree.specs.declared.typing.TypeSet.{TypeSet}
+use Rattle.mpy_tree.specs.Entries.{Entry}
 use Rattle.mpy_tree.specs.TypeSets.{just, members, IsWithin}
 use Rattle.mpy_tree.specs.SetTypes.{FactSet, types_in, Callee, called}
 use Rattle.mpy_tree.specs.Sites.{Site, does, asks, sites, site_nodes}
@@ -32,9 +33,18 @@ abbrev pub act_flows : ℕ → Action → List Flow
 act_flows i (ast.Assign x e) = flow i (Local x) (value i e) ∷ []
 act_flows i (ast.Augment x Mul e) = []
 act_flows i (ast.Augment x op e) = flow i (Local x) (value i e) ∷ []
-act_flows i (ast.For x e body) = flow i (Local x) (each i e) ∷ []
+act_flows i (ast.Put x k e) = []
+act_flows i (ast.AugmentAt x k op e) = []
+act_flows i (ast.Append x e) = []
+act_flows i (ast.Print e) = []
+act_flows i (ast.Return no_term) = []
 act_flows i (ast.Return (a_term e)) = flow i Result (value i e) ∷ []
-act_flows i _ = []
+act_flows i ast.Pass = []
+act_flows i ast.Break = []
+act_flows i ast.Continue = []
+act_flows i (ast.If arms last) = []
+act_flows i (ast.While e body) = []
+act_flows i (ast.For x e body) = flow i (Local x) (each i e) ∷ []
 
 abbrev pub site_flows : ℕ → Site → List Flow
 site_flows i (does line act) = act_flows i act
@@ -73,8 +83,8 @@ abbrev pub entry_flows : Option Callee → List Ty → List Flow
 entry_flows None ts = []
 entry_flows (Some g) ts = given_flows g.number g.routine.params ts
 
-abbrev pub flows : List Routine → List ℕ → List Ty → List Flow
-flows p entry ts = entry_flows (called p entry) ts ++ flows_from p 0 p
+abbrev pub flows : List Routine → Entry → List Flow
+flows p e = entry_flows (called p e.name) e.types ++ flows_from p 0 p
 
 -- the types of a source, where these facts are known
 abbrev pub source_types : FactSet → List Routine → Source → TypeSet
@@ -99,5 +109,5 @@ pub record IsLeastClosed (F : FactSet) (p : List Routine) (fs : List Flow) : Typ
   pub least : (G : FactSet) → IsClosed G p fs → IsPart F G
 
 -- the least set of facts of a program that is entered so
-abbrev pub IsLeast : FactSet → List Routine → List ℕ → List Ty → Type 0
-IsLeast F p entry ts = IsLeastClosed F p (flows p entry ts)
+abbrev pub IsLeast : FactSet → List Routine → Entry → Type 0
+IsLeast F p e = IsLeastClosed F p (flows p e)

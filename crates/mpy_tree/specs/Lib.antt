@@ -1,5 +1,6 @@
 pub mod Builtins
 pub mod Comparing
+pub mod Entries
 pub mod Equality
 pub mod Expressions
 pub mod Faults

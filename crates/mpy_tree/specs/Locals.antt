@@ -23,15 +23,33 @@ and_new seen (x ∷ xs) = and_new (if is_among seen x then seen else seen ++ x �
 abbrev pub assigned : Action → List (List ℕ)
 assigned (ast.Assign x e) = x ∷ []
 assigned (ast.Augment x op e) = x ∷ []
+assigned (ast.Put x i e) = []
+assigned (ast.AugmentAt x i op e) = []
+assigned (ast.Append x e) = []
+assigned (ast.Print e) = []
+assigned (ast.Return e) = []
+assigned ast.Pass = []
+assigned ast.Break = []
+assigned ast.Continue = []
+assigned (ast.If arms last) = []
+assigned (ast.While e body) = []
 assigned (ast.For x e body) = x ∷ []
-assigned _ = []
 
 -- the name whose list a statement changes in place
 abbrev pub changed : Action → List (List ℕ)
+changed (ast.Assign x e) = []
+changed (ast.Augment x op e) = []
 changed (ast.Put x i e) = x ∷ []
 changed (ast.AugmentAt x i op e) = x ∷ []
 changed (ast.Append x e) = x ∷ []
-changed _ = []
+changed (ast.Print e) = []
+changed (ast.Return e) = []
+changed ast.Pass = []
+changed ast.Break = []
+changed ast.Continue = []
+changed (ast.If arms last) = []
+changed (ast.While e body) = []
+changed (ast.For x e body) = []
 
 abbrev pub site_assigned : Site → List (List ℕ)
 site_assigned (does line act) = assigned act

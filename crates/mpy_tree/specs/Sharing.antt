@@ -32,11 +32,19 @@ module _ (S : Slots) (p : List Routine) (i : ℕ) where
 
   -- the name whose list a statement changes in place
   abbrev pub changes : Action → List (List ℕ)
+  changes (ast.Assign x e) = []
+  changes (ast.Augment x op e) = if is_type ty.List (S i (slot.Local x)) then x ∷ [] else []
   changes (ast.Put x k e) = x ∷ []
   changes (ast.AugmentAt x k op e) = x ∷ []
   changes (ast.Append x e) = x ∷ []
-  changes (ast.Augment x op e) = if is_type ty.List (S i (slot.Local x)) then x ∷ [] else []
-  changes _ = []
+  changes (ast.Print e) = []
+  changes (ast.Return e) = []
+  changes ast.Pass = []
+  changes ast.Break = []
+  changes ast.Continue = []
+  changes (ast.If arms last) = []
+  changes (ast.While e body) = []
+  changes (ast.For x e body) = []
 
   -- the line of a statement that changes one of these names in place
   abbrev pub changed_on : List (List ℕ) → Site → List ℕ

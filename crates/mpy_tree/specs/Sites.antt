@@ -47,10 +47,19 @@ abbrev mutual
   sites (step (at line act) rest) = does line act ∷ inside act ++ sites rest
 
   pub inside : Action → List Site
+  inside (ast.Assign x e) = []
+  inside (ast.Augment x op e) = []
+  inside (ast.Put x i e) = []
+  inside (ast.AugmentAt x i op e) = []
+  inside (ast.Append x e) = []
+  inside (ast.Print e) = []
+  inside (ast.Return e) = []
+  inside ast.Pass = []
+  inside ast.Break = []
+  inside ast.Continue = []
   inside (ast.If arms last) = in_arms arms ++ in_last last
   inside (ast.While e body) = sites body
   inside (ast.For x e body) = sites body
-  inside _ = []
 
   pub in_arms : Branches → List Site
   in_arms no_arms = []
@@ -71,10 +80,15 @@ own_terms (ast.Augment x op e) = e ∷ []
 own_terms (ast.Put x i e) = i ∷ e ∷ []
 own_terms (ast.AugmentAt x i op e) = i ∷ e ∷ []
 own_terms (ast.Append x e) = e ∷ []
+own_terms (ast.Print e) = e ∷ []
+own_terms (ast.Return no_term) = []
 own_terms (ast.Return (a_term e)) = e ∷ []
+own_terms ast.Pass = []
+own_terms ast.Break = []
+own_terms ast.Continue = []
+own_terms (ast.If arms last) = []
 own_terms (ast.While e body) = e ∷ []
 own_terms (ast.For x e body) = e ∷ []
-own_terms _ = []
 
 abbrev pub site_terms : Site → List Term
 site_terms (does line act) = own_terms act

@@ -65,6 +65,10 @@ for_turns (v ∷ vs) zero x body line s = Failed (fault Turns line)
 for_turns (v ∷ vs) (suc n) x body line s =
     then_turn (body (assign s x v)) (for_turns vs n x body line)
 
+-- what a statement on a line does with a value that it prints: the value is dropped
+abbrev pub printed : ℕ → State → Value → Ran
+printed line s v = Next s
+
 module _ (l : Limits) (calls : Calls) where
   -- an expression, and a local, in a statement on a line
   abbrev pub value_at : State → ℕ → Term → Result Value Halted
@@ -115,6 +119,7 @@ module _ (l : Limits) (calls : Calls) where
     run_action (ast.Put x i e) line s = store s x (set_at s line x i e)
     run_action (ast.AugmentAt x i op e) line s = store s x (set_at_by s line x i (arith l op) e)
     run_action (ast.Append x e) line s = store s x (set_by s line x (append l) e)
+    run_action (ast.Print e) line s = given (value_at s line e) (printed line s)
     run_action (ast.Return e) line s = give s line e
     run_action ast.Pass line s = Next s
     run_action ast.Break line s = Broke s

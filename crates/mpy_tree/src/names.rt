@@ -3,6 +3,7 @@ ghost use Rattle.std.specs.Prelude.{◌≡◌, ◌↔◌, ◌++◌, ◌∷◌, [
 ghost use Rattle.std.specs.Cmp.Lexicographic.{pointwise};
 ghost use Rattle.mpy_tree.specs.Locals.{place_of};
 ghost use Rattle.mpy_tree.specs.NameLengths.{is_long};
+ghost use Rattle.mpy_tree.specs.Names.{is_print};
 
 use crate::NoMemory;
 use std::alloc::Global;
@@ -50,6 +51,13 @@ impl Name {
         ensures { result ≡ is_long self.now }
     {
         self.bytes.len() > MAX_BYTES
+    }
+
+    /// Whether it is the name of the statement `print(e)`.
+    pub fn is_print(&self) -> bool
+        ensures { result ≡ is_print self.now }
+    {
+        self.bytes() == b"print".as_slice()
     }
 
     /// Whether two names have the same bytes.

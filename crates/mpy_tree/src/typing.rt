@@ -199,11 +199,13 @@ pub struct Types {
     pub facts: Facts,
 }
 
-/// The function that a run enters, and the types of its parameters.
+/// The function that a run enters, the types of its parameters, and whether its result may have no
+/// type.
 #[derive(Drop)]
 pub struct Signature {
     pub entry: Name,
     pub params: Tys,
+    pub free_result: bool,
 }
 
 /// The first fault of a program's names and types.

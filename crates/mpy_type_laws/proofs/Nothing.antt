@@ -1,10 +1,9 @@
 -- Lists that are empty, and faults that aren't there.
 use Rattle.std.proofs.Common.{◌≡◌, ℕ, Bool, true, false, List, [], ◌∷◌, ◌++◌, Option, Some, None}
-use Rattle.std.proofs.Common.{is_some, refl, if◌then◌else◌}
+use Rattle.std.proofs.Common.{refl, if◌then◌else◌}
 use Rattle.std.specs.Prelude.{nat_lt}
 use Rattle.mpy_tree.specs.declared.typing.TypeError.{TypeError}
-use Rattle.mpy_tree.specs.Faults.{earlier, fault_on, listed, or_fault, slot_fault}
-use Rattle.mpy_tree.specs.TypeSets.{only_of}
+use Rattle.mpy_tree.specs.Faults.{earlier, fault_on, or_fault}
 
 pub nil_left : {A : Type 0} (xs ys : List A) → xs ++ ys ≡ [] → xs ≡ []
 nil_left [] ys e = refl
@@ -30,19 +29,3 @@ pub not_earlier : (o q : Option ℕ) → earlier o q ≡ None → o ≡ None
 not_earlier None q e = refl
 not_earlier (Some n) None e = absurd cc
 not_earlier (Some n) (Some a) e = absurd (either_fault (nat_lt a n) _ _ e)
-
--- a set that is at no fault has one type
-pub one_type : (a b c d : Bool) (line : ℕ)
-    → slot_fault (listed (record { int = a; bool = b; list = c; text = d })) line ≡ None
-    → is_some (only_of a b c d) ≡ true
-one_type true false false false line e = refl
-one_type false true false false line e = refl
-one_type false false true false line e = refl
-one_type false false false true line e = refl
-one_type false false false false line e = absurd cc
-one_type true true c d line e = absurd cc
-one_type true false true d line e = absurd cc
-one_type true false false true line e = absurd cc
-one_type false true true d line e = absurd cc
-one_type false true false true line e = absurd cc
-one_type false false true true line e = absurd cc

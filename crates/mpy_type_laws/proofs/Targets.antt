@@ -1,8 +1,8 @@
 -- The least set has facts about slots alone.
-use Rattle.std.proofs.Common.{◌≡◌, ℕ, Bool, true, false, List, [], ◌∷◌, if◌then◌else◌}
-use Rattle.mpy_tree.specs.declared.typing.Ty.{Ty}
+use Rattle.std.proofs.Common.{◌≡◌, Bool, true, false, List, [], ◌∷◌, if◌then◌else◌}
 use Rattle.mpy_tree.specs.declared.typing.Ty.TheVariants as ty
 use Rattle.mpy_tree.specs.Syntax.{Routine}
+use Rattle.mpy_tree.specs.Entries.{Entry}
 use Rattle.mpy_tree.specs.declared.typing.TypeSet.{TypeSet}
 use Rattle.mpy_tree.specs.TypeSets.{no_types, IsWithin}
 use Rattle.mpy_tree.specs.SetTypes.{FactSet}
@@ -36,8 +36,8 @@ slots_close ss F p (f ∷ fs) h k = (
 )
 
 -- the least set has facts about slots alone
-pub least_within_slots : (F : FactSet) (p : List Routine) (entry : List ℕ) (ts : List Ty) → IsLeast F p entry ts → F ≡ within_slots (slots p) F
-least_within_slots F p entry ts h =
+pub least_within_slots : (F : FactSet) (p : List Routine) (entry : Entry) → IsLeast F p entry → F ≡ within_slots (slots p) F
+least_within_slots F p entry h =
     same_facts F (within_slots (slots p) F)
-    (h.least (within_slots (slots p) F) (all_of (Keeps (within_slots (slots p) F) p) (flows p entry ts) (slots_close (slots p) F p (flows p entry ts) (every_of (Keeps F p) (flows p entry ts) h.closed) (flows_land p entry ts))))
+    (h.least (within_slots (slots p) F) (all_of (Keeps (within_slots (slots p) F) p) (flows p entry) (slots_close (slots p) F p (flows p entry) (every_of (Keeps F p) (flows p entry) h.closed) (flows_land p entry))))
     (λ j y. part_of (stands_among (slots p) j y) (F j y))

@@ -6,7 +6,6 @@ use Rattle.mpy_tree.specs.declared.operators.ArithOp.{ArithOp}
 use Rattle.mpy_tree.specs.declared.operators.ArithOp.TheVariants.{Add, Sub, Mul, Floor, Rem, Power}
 use Rattle.mpy_tree.specs.declared.builtins.Builtin.{Builtin}
 use Rattle.mpy_tree.specs.Builtins.{builtin_of}
-use Rattle.mpy_tree.specs.declared.typing.Ty.{Ty}
 use Rattle.mpy_tree.specs.declared.typing.Ty.TheVariants as ty
 use Rattle.mpy_tree.specs.declared.typing.Slot.{Slot}
 use Rattle.mpy_tree.specs.declared.typing.Slot.TheVariants as slot
@@ -16,6 +15,7 @@ use Rattle.mpy_tree.specs.Syntax.{Term, Routine}
 use Rattle.mpy_tree.specs.Syntax as ast
 use Rattle.mpy_tree.specs.SetTypes.{FactSet, types_in, arith_types, results, call_types, Callee, called, builtin_gives}
 use Rattle.mpy_tree.specs.Flows.{Flow, Source as Origin, given, value, each, flows, source_types, Keeps, IsPart, IsLeast}
+use Rattle.mpy_tree.specs.Entries.{Entry}
 use Rattle.mpy_tree.specs.Faults.{slots}
 use Rattle.mpy_types.specs.declared.inflow.Via.{Via}
 use Rattle.mpy_types.specs.declared.inflow.Via.TheVariants.{Whole, Members, Texts}
@@ -222,18 +222,18 @@ below_numbered v u h None = λ a k. k
 below_numbered v u h (Some k) = h.each k
 
 -- the least types of the slots are the least facts
-pub least_facts : (v : List TypeSet) (p : List Routine) (entry : List ℕ) (ts : List Ty) (n : ℕ) (fs : List Inflow) → AreLeast v n fs → n ≡ length (slots p) → fs ≡ flat_map (flow_inflows p) (flows p entry ts) → IsLeast (facts_by p v) p entry ts
-least_facts v p entry ts n fs h m e =
+pub least_facts : (v : List TypeSet) (p : List Routine) (e : Entry) (n : ℕ) (fs : List Inflow) → AreLeast v n fs → n ≡ length (slots p) → fs ≡ flat_map (flow_inflows p) (flows p e) → IsLeast (facts_by p v) p e
+least_facts v p e n fs h m is =
     let P : List Inflow → Type 0 = λ gs. AllHold v gs in
     record {
-      closed = all_of (Keeps (facts_by p v) p) (flows p entry ts)
-          (all_kept v p (flows p entry ts)
+      closed = all_of (Keeps (facts_by p v) p) (flows p e)
+          (all_kept v p (flows p e)
           (λ j y k d. let l : k < length (slots p) = (type_of_number (λ i x. no_types) p j y k d).0 in let z : length v ≡ n = h.many in omega arith)
-          (flows_land p entry ts)
-          (every_of (Holds v) (flat_map (flow_inflows p) (flows p entry ts)) (subst P e h.hold)));
+          (flows_land p e)
+          (every_of (Holds v) (flat_map (flow_inflows p) (flows p e)) (subst P is h.hold)));
       least = λ G k j y a q.
           let u = types_by G (slots p) in
           let Q : List Inflow → Type 0 = λ gs. AllHold u gs in
-          let b : IsBelow v u = h.least u (length-map (slots p) (λ s. G s.func s.slot) ∙ sym m) (subst Q (sym e) (all_of (Holds u) (flat_map (flow_inflows p) (flows p entry ts)) (all_hold G p (flows p entry ts) (every_of (Keeps G p) (flows p entry ts) k)))) in
+          let b : IsBelow v u = h.least u (length-map (slots p) (λ s. G s.func s.slot) ∙ sym m) (subst Q (sym is) (all_of (Holds u) (flat_map (flow_inflows p) (flows p e)) (all_hold G p (flows p e) (every_of (Keeps G p) (flows p e) k)))) in
           by_numbers G p j y a (below_numbered v u b (number p j y) a q);
     }

@@ -9,6 +9,7 @@ use Rattle.mpy_tree.specs.declared.typing.Slot.TheVariants.{Local, Result}
 use Rattle.mpy_tree.specs.Syntax.{Term, Terms, no_terms, term_and, no_term, a_term, Action, Routine}
 use Rattle.mpy_tree.specs.Syntax as ast
 use Rattle.mpy_tree.specs.Values.{same_bytes}
+use Rattle.mpy_tree.specs.Entries.{Entry}
 use Rattle.mpy_tree.specs.SetTypes.{Callee, callee, called, called_from, same_place}
 use Rattle.mpy_tree.specs.Sites.{Site, does, asks, sites, site_nodes}
 use Rattle.mpy_tree.specs.Locals.{is_among, and_new, assigned, locals, site_assigned, site_changed, site_names, node_names}
@@ -150,6 +151,7 @@ act_lands ss i (ast.Return no_term) h k = tt
 act_lands ss i (ast.Put x j e) h k = tt
 act_lands ss i (ast.AugmentAt x j op e) h k = tt
 act_lands ss i (ast.Append x e) h k = tt
+act_lands ss i (ast.Print e) h k = tt
 act_lands ss i ast.Pass h k = tt
 act_lands ss i ast.Break h k = tt
 act_lands ss i ast.Continue h k = tt
@@ -236,6 +238,6 @@ entry_lands p None ts h = tt
 entry_lands p (Some g) ts h = given_land (slots p) g.number g.routine.params ts (h g refl)
 
 -- each flow of a program has a slot as its target
-pub flows_land : (p : List Routine) (entry : List ℕ) (ts : List Ty) → Every (Lands (slots p)) (flows p entry ts)
-flows_land p entry ts =
-    every_both (Lands (slots p)) (entry_flows (called p entry) ts) (flows_from p 0 p) (entry_lands p (called p entry) ts (λ g k. called_stands p 0 entry g k)) (functions_land p 0 p (λ j y h. h))
+pub flows_land : (p : List Routine) (e : Entry) → Every (Lands (slots p)) (flows p e)
+flows_land p e =
+    every_both (Lands (slots p)) (entry_flows (called p e.name) e.types) (flows_from p 0 p) (entry_lands p (called p e.name) e.types (λ g k. called_stands p 0 e.name g k)) (functions_land p 0 p (λ j y h. h))

@@ -4,6 +4,7 @@ ghost use Rattle.std.specs.List.{flat_map};
 ghost use Rattle.mpy_tree.specs.View.{term_of, terms, action_of, block_of, routine_of};
 ghost use Rattle.mpy_tree.specs.Sites.{sites};
 ghost use Rattle.mpy_tree.specs.Builtins.{builtin_of};
+ghost use Rattle.mpy_tree.specs.Entries.{entry_of};
 ghost use Rattle.mpy_tree.specs.SetTypes.{called};
 ghost use Rattle.mpy_tree.specs.TypeSets.{just};
 ghost use Rattle.mpy_tree.specs.Flows.{flows, flows_from, given_flows, all_site_flows, act_flows};
@@ -17,22 +18,17 @@ use crate::inflow::{Inflow, Source, Via};
 use mpy_scopes::{
     Numbered, Scopes, Site, Target, builtin_gives, called, push_site_nodes, push_sites,
 };
-use mpy_tree::{Act, ArithOp, Builtin, Expr, Exprs, Func, Name, NoMemory, Ty, TypeSet};
+use mpy_tree::{Act, ArithOp, Builtin, Expr, Exprs, Func, Name, NoMemory, Signature, Ty, TypeSet};
 use std::alloc::Global;
 
 /// What flows into the slots of a program that is entered so.
-pub fn inflows(
-    alloc: Global,
-    scopes: &Scopes<'_>,
-    entry: &Name,
-    params: &[Ty],
-) -> Result<Vec<Inflow>, NoMemory>
+pub fn inflows(alloc: Global, scopes: &Scopes<'_>, s: &Signature) -> Result<Vec<Inflow>, NoMemory>
     ensures { IfOk result (λ fs. fs.items ≡ flat_map
         (flow_inflows (map routine_of scopes.now.funcs.now))
-        (flows (map routine_of scopes.now.funcs.now) entry.now params.now)) }
+        (flows (map routine_of scopes.now.funcs.now) (entry_of s.now))) }
 {
     let mut out = Vec::new(alloc);
-    push_entry(scopes, entry, params, &mut out)?;
+    push_entry(scopes, &s.entry, s.params.items(), &mut out)?;
     for (i, func) in scopes.funcs.iter().enumerate() {
         let reader = Reader { scopes, func: i };
         reader.push_body(alloc, func, &mut out)?;

@@ -3,7 +3,7 @@ ghost use Rattle.std.specs.Prelude.{◌≡◌, ◌<◌, ◌^◌, ◌++◌, lengt
 ghost use Rattle.mpy_tree.specs.View.{block_of, routine_of};
 ghost use Rattle.mpy_tree.specs.Sites.{sites};
 ghost use Rattle.mpy_tree.specs.Faults.{slots, routine_slots, local_line, assigned_on, listed};
-ghost use Rattle.mpy_tree.specs.Faults.{slot_fault, slots_fault, facts_at};
+ghost use Rattle.mpy_tree.specs.Faults.{may_lack, slot_fault, slots_fault, facts_at};
 ghost use Rattle.mpy_types.specs.Tables.{facts_of};
 ghost use Rattle.mpy_scopes.specs.Seen.{name_of, site_of};
 ghost use Rattle.mpy_types.specs.Views.{place_of};
@@ -88,12 +88,16 @@ fn assigned_on(seen: &[Site<'_>], x: &Name) -> u32
     0
 }
 
-/// The first slot without exactly one type.
-pub fn slots_fault(table: &Table<'_, '_>, places: &[Place<'_>]) -> Option<TypeError>
-    ensures { result ≡ slots_fault (facts_of table.now) (map place_of places.now) }
+/// The first slot without exactly one type, but for the result of the function `free` without any.
+pub fn slots_fault(
+    table: &Table<'_, '_>,
+    places: &[Place<'_>],
+    free: Option<usize>,
+) -> Option<TypeError>
+    ensures { result ≡ slots_fault free (facts_of table.now) (map place_of places.now) }
 {
     for s in places {
-        let fault = slot_fault(table.get(s.func, s.slot), s.line);
+        let fault = slot_fault(may_lack(free, s), table.get(s.func, s.slot), s.line);
         if fault.is_some() {
             return fault;
         }
@@ -101,12 +105,25 @@ pub fn slots_fault(table: &Table<'_, '_>, places: &[Place<'_>]) -> Option<TypeEr
     None
 }
 
-// The fault of a slot with these types.
-fn slot_fault(types: TypeSet, line: u32) -> Option<TypeError>
-    ensures { result ≡ slot_fault (listed types) line }
+// Whether a slot may have no type.
+fn may_lack(free: Option<usize>, s: &Place<'_>) -> bool
+    ensures { result ≡ may_lack free (place_of s.now) }
+{
+    match (free, s.slot) {
+        (Some(j), Target::Result) => j == s.func,
+        _ => false,
+    }
+}
+
+// The fault of a slot with these types, which may have none or must have one.
+fn slot_fault(may_be_none: bool, types: TypeSet, line: u32) -> Option<TypeError>
+    ensures { result ≡ slot_fault may_be_none (listed types) line }
 {
     let (one, other) = match (types.int, types.bool, types.list, types.text) {
         (false, false, false, false) => {
+            if may_be_none {
+                return None;
+            }
             return Some(TypeError::Fault {
                 cause: Cause::Undetermined,
                 line,

@@ -5,16 +5,17 @@ use Rattle.std.specs.List.{All}
 use Rattle.std.proofs.lemmas.List.{length-map}
 use Rattle.std.proofs.lemmas.Bool.{cases_lt}
 use Rattle.std.proofs.lemmas.List.Elements.{All-cons, All-nil}
+use Rattle.mpy_tree.specs.Entries.{Entry}
 use Rattle.bounds_reader.specs.declared.bounds.Bounds.{Bounds}
 use Rattle.input_space.specs.Inputs.{inputs}
-use Rattle.input_space.specs.Tasks.{result_type}
+use Rattle.input_space.specs.Tasks.{entry_at, result_type}
 use Rattle.mpy_tree.specs.declared.typing.Ty.{Ty}
 use Rattle.mpy_tree.specs.declared.typing.Ty.TheVariants as ty
-use Rattle.task_read.specs.Sources.{Typed, entry_at}
+use Rattle.task_read.specs.Sources.{Typed}
 use Rattle.mpy_tree.specs.declared.value.Value.{Value}
 use Rattle.mpy_tree.specs.Syntax.{Routine}
 use Rattle.source_files.specs.Views.{texts_of}
-use Rattle.task_read.specs.TypedPrograms.{Entry, IsTypedProgram}
+use Rattle.task_read.specs.TypedPrograms.{IsTypedProgram}
 use Rattle.test_picker.specs.declared.typed_list.Typed as code_typed
 use Rattle.test_picker.specs.Choosing.{Chooses, none, more}
 use Rattle.test_picker.specs.Programs.{GiveOneType, IsTypedFor, program_of}

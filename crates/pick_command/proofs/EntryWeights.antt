@@ -33,11 +33,12 @@ use Rattle.choice_tree.specs.WeightedTrees.{lifted, lifted_all}
 use Rattle.bounds_reader.specs.declared.bounds.Bounds.{Bounds}
 use Rattle.bounds_reader.specs.declared.params.Param.{Param}
 use Rattle.input_space.specs.Inputs.{inputs, param_type}
-use Rattle.task_read.specs.Sources.{Typed, entry_at}
+use Rattle.input_space.specs.Tasks.{entry_at}
+use Rattle.task_read.specs.Sources.{Typed}
 use Rattle.task_read.specs.TypedPrograms.{IsTypedProgram}
 use Rattle.tree_weights.specs.Functions.{function, function_from}
 use Rattle.tree_weights.specs.RootTypes.{WeightedScope}
-use Rattle.tree_weights.specs.Weights.{Bodies, bits, function_weight, is_local, is_local_of, levels_weight, locals_weight, statement_weight, weight, weights}
+use Rattle.tree_weights.specs.Weights.{Bodies, bits, entered_weight, function_weight, is_local, is_local_of, levels_weight, locals_weight, statement_weight, weight, weights}
 use Rattle.pick_command.specs.Weights.{AreTooLarge, most_counted, runs, weight_of}
 
 or_cases : (a b : Bool) (P : Type 0) → (a ≡ true → P) → (b ≡ true → P) → (a || b) ≡ true → P
@@ -107,7 +108,7 @@ local_weighs l i (f ∷ fs) e =
     (λ there. let more = local_weighs l i fs there in omega (arith, more)) e
 
 one_type : (a b c d : Bool) (line : ℕ)
-    → slot_fault (listed (record { int = a; bool = b; list = c; text = d })) line ≡ None
+    → slot_fault false (listed (record { int = a; bool = b; list = c; text = d })) line ≡ None
     → (t : Ty) × (only_of a b c d ≡ Some t)
 one_type true false false false line e = (ty.Int, refl)
 one_type false true false false line e = (ty.Bool, refl)
@@ -126,12 +127,12 @@ both_none None b e = (refl, e)
 both_none (Some x) b e = absurd (cc)
 
 -- slots without a fault have facts
-facts_of_slots : (F : FactSet) (i : ℕ) (ss : List Place) → slots_fault F ss ≡ None
+facts_of_slots : (F : FactSet) (i : ℕ) (ss : List Place) → slots_fault None F ss ≡ None
     → list_any (is_slot_of i) ss ≡ true → list_any (is_fact_of i) (facts_at F ss) ≡ true
 facts_of_slots F i [] none e = e
 facts_of_slots F i (s ∷ ss) none e =
     let S = F s.func s.slot in
-    let parts = both_none (slot_fault (listed S) s.line) (slots_fault F ss) none in
+    let parts = both_none (slot_fault false (listed S) s.line) (slots_fault None F ss) none in
     let t = one_type S.int S.bool S.list S.text s.line parts.0 in
     let all : facts_at F (s ∷ ss) ≡ fact s.func s.slot t.0 ∷ facts_at F ss =
     ap (λ o. facts_with s o (facts_at F ss)) t.1 in
@@ -266,6 +267,7 @@ module _ (l : Limits) (σ : WeightedScope) (bodies : Bodies) where
   action_weighs (ast.Put x i e) line = own_within _ _ _
   action_weighs (ast.AugmentAt x i op e) line = more_within _ _ _ _
   action_weighs (ast.Append x e) line = own_within _ _ _
+  action_weighs (ast.Print e) line = more_within _ _ _ _
   action_weighs (ast.Return e) line = own_within _ _ _
   action_weighs ast.Pass line = own_within _ _ _
   action_weighs ast.Break line = own_within _ _ _
@@ -300,11 +302,13 @@ entry_weighs : (b : Bounds) (p : Typed) (d : ℕ) → b.limits.depth ≡ suc d �
     → 1 ≤ weight_of b p
 entry_weighs b p d deep r e typed =
     let fs = lifted_all (routine_shapes p.program) in
-    let bodies = levels_weight b.limits p.types fs d in
-    let σ : WeightedScope = record { facts = p.types; functions = fs; number = e.number } in
+    let bodies = levels_weight b.limits p.types fs e.number d in
+    let σ : WeightedScope =
+    record { facts = p.types; functions = fs; entry = e.number; number = e.number } in
     let is : weight_of b p ≡ weight b.limits σ bodies (lifted (routine_shape r)) =
-    ap (λ n. levels_weight b.limits p.types fs n b.entry) deep
-    ∙ ap (function_weight b.limits p.types fs bodies) e.tree in
+    ap (entered_weight b.limits p.types fs b.entry) e.tree
+    ∙ ap (λ n. levels_weight b.limits p.types fs e.number n b.entry) deep
+    ∙ ap (function_weight b.limits p.types fs e.number bodies) e.tree in
     let own = local_weighs b.limits e.number p.types typed in
     let body = routine_weighs b.limits σ bodies r e.some in
     omega (arith, is, own, body)
@@ -322,7 +326,7 @@ weighs_something b text p read some =
     let t = read.typing in
     let types = map param_type b.params in
     let none = second_and_third (names_fault p.program) (entry_fault (found p.program b.entry) (length types))
-    (slots_fault t.set (slots p.program)) (nodes_fault (single t.set) p.program) t.faultless in
+    (slots_fault None t.set (slots p.program)) (nodes_fault (single t.set) p.program) t.faultless in
     let r = entry_found (found p.program b.entry) (length types) none.0 in
     let many = length-map b.params param_type in
     let e = is_entered p.program b.entry 0 r.0 r.1 (omega (arith, many, r.2)) (bodies_have read.read.reads.nested) in

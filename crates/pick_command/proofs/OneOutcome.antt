@@ -1,10 +1,11 @@
 -- What the texts of a request decide is one thing, and so is their refusal.
 use Rattle.std.proofs.Common.{ℕ, suc, List, [], ◌∷◌}
+use Rattle.mpy_tree.specs.Entries.{Entry}
 use Rattle.mpy_tree.specs.declared.refusal.Source.TheVariants as source
 use Rattle.bounds_reader.specs.declared.bounds.Bounds.{Bounds}
-use Rattle.task_read.specs.Sources.{Typed, entry_at}
+use Rattle.input_space.specs.Tasks.{entry_at}
+use Rattle.task_read.specs.Sources.{Typed}
 use Rattle.task_read.specs.Steps.{IsOne}
-use Rattle.task_read.specs.TypedPrograms.{Entry}
 use Rattle.task_read.proofs.OneStep.{one_bounds_step, one_program_step}
 use Rattle.task_read.proofs.Steps.{one_done, one_refuse, one_then}
 use Rattle.pick_command.specs.Decisions.{first_place, parts_step, pick_step, programs_step, request_step, types_step}

@@ -3,6 +3,7 @@ use Rattle.std.proofs.Common.{◌≡◌, ◌∙◌, ℕ, zero, suc, ◌+◌, ◌
 use Rattle.std.specs.declared.alloc.Global.{Global}
 use Rattle.std.specs.List.{All}
 use Rattle.std.proofs.lemmas.List.{get_or-map, length-map, map-append}
+use Rattle.mpy_tree.specs.Entries.{Entry}
 use Rattle.source_files.specs.Views.{texts_of}
 use Rattle.std.proofs.Math.ListN.{drop_of_length-le}
 use lib.Seq.{take-length}
@@ -11,10 +12,9 @@ use Rattle.mpy_tree.specs.declared.refusal.Cause.TheVariants as cause
 use Rattle.mpy_tree.specs.declared.refusal.Source.{Source}
 use Rattle.mpy_tree.specs.declared.refusal.Source.TheVariants as source
 use Rattle.bounds_reader.specs.declared.bounds.Bounds.{Bounds}
-use Rattle.input_space.specs.Tasks.{entry_line}
-use Rattle.task_read.specs.Sources.{Typed, bounds_step, entry_at, program_step, refusal}
+use Rattle.input_space.specs.Tasks.{entry_at, entry_line}
+use Rattle.task_read.specs.Sources.{Typed, bounds_step, program_step, refusal}
 use Rattle.task_read.specs.Steps.{refuse_if}
-use Rattle.task_read.specs.TypedPrograms.{Entry}
 use Rattle.pick_command.specs.Decisions.{GiveOneType, first_place, parts_step, programs_step, types_step}
 
 pub item_at : {X : Type 0} (xs : List X) (i : ℕ) (x : X) → i < length xs → x ≡ get_or xs i x

@@ -1,5 +1,6 @@
 -- What the texts of `pick` decide.
 use Rattle.std.specs.Prelude.{◌≡◌, ℕ, suc, List, [], ◌∷◌, map}
+use Rattle.mpy_tree.specs.Entries.{Entry}
 use Rattle.mpy_tree.specs.declared.refusal.Cause.{Cause}
 use Rattle.mpy_tree.specs.declared.refusal.Cause.TheVariants as cause
 use Rattle.mpy_tree.specs.declared.refusal.Refusal.{Refusal}
@@ -7,10 +8,9 @@ use Rattle.mpy_tree.specs.declared.refusal.Source.TheVariants as source
 use Rattle.mpy_tree.specs.declared.value.Value.{Value}
 use Rattle.bounds_reader.specs.declared.bounds.Bounds.{Bounds}
 use Rattle.input_space.specs.Agreement.{EndsSomewhere}
-use Rattle.input_space.specs.Tasks.{entry_line, result_type}
-use Rattle.task_read.specs.Sources.{Typed, bounds_step, entry_at, program_step, refusal}
+use Rattle.input_space.specs.Tasks.{entry_at, entry_line, result_type}
+use Rattle.task_read.specs.Sources.{Typed, bounds_step, program_step, refusal}
 use Rattle.task_read.specs.Steps.{Step, ◌>>=◌, done, refuse_if}
-use Rattle.task_read.specs.TypedPrograms.{Entry}
 use Rattle.test_picker.specs.Choosing.{IsChoice}
 use Rattle.pick_command.specs.Weights.{AreTooLarge}
 

@@ -2,11 +2,11 @@
 ghost use Rattle.std.specs.Prelude.{◌≡◌, ◌≤◌, ◌++◌, ◌∷◌, [], All, IfErr, MatchResult, OnOk, length};
 ghost use Rattle.std.specs.Prelude.{map};
 ghost use Rattle.mpy_tree.specs.declared.refusal.Cause.TheVariants as cause;
-ghost use Rattle.input_space.specs.Tasks.{entry_line};
+ghost use Rattle.input_space.specs.Tasks.{entry_at, entry_line};
 ghost use Rattle.source_files.specs.Fetches.{StopsAs};
 ghost use Rattle.source_files.specs.Views.{texts_of};
 ghost use Rattle.source_files.specs.declared.stop.Stop.TheVariants as stop;
-ghost use Rattle.task_read.specs.Sources.{entry_at, program_step, refusal};
+ghost use Rattle.task_read.specs.Sources.{program_step, refusal};
 ghost use Rattle.task_read.specs.Steps.{refuse_if};
 ghost use Rattle.pick_command.specs.Decisions.{GiveOneType, at_reference, first_place};
 ghost use Rattle.pick_command.specs.Decisions.{parts_step};

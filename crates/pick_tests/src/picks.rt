@@ -29,7 +29,7 @@ const SOMETIMES_ZERO: &str = concat!(
 );
 
 /// Each with its status and with what is written.
-const PICKS: [(Request<'_>, Status, &str); 16] = [
+const PICKS: [(Request<'_>, Status, &str); 17] = [
     // A case for each of two faults, and one that agrees.
     (
         Request {
@@ -173,6 +173,20 @@ const PICKS: [(Request<'_>, Status, &str); 16] = [
         },
         Status::Correct,
         "input f([1, 0], True)\ns1.py fails input 1\ns2.py fails input 1\n",
+    ),
+    // What is printed is dropped, but a fault of it counts, in a function that is called too.
+    (
+        Request {
+            bounds: bounds!("param x int -5..5\n"),
+            reference: SAME,
+            submissions: &[
+                "def f(x):\n    print([x])\n    return x\n",
+                "def f(x):\n    print(6 // x)\n    return x\n",
+                "def g(x):\n    print(6 // (x - 3))\n    return x\n\ndef f(x):\n    return g(x)\n",
+            ],
+        },
+        Status::Correct,
+        "input f(0)\ninput f(3)\ns1.py agrees\ns2.py fails input 1\ns3.py fails input 2\n",
     ),
     // Refusals in order: of the bounds, of a program, of a result's type.
     (

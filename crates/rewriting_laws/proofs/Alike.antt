@@ -33,6 +33,7 @@ mutual
         → AlikeAct g σ (ast.AugmentAt x i op e) (ast.AugmentAt x j op f)
     append : {x : List ℕ} {e f : Term} → Part g σ e f
         → AlikeAct g σ (ast.Append x e) (ast.Append x f)
+    print : {e f : Term} → Part g σ e f → AlikeAct g σ (ast.Print e) (ast.Print f)
     give_none : AlikeAct g σ (ast.Return no_term) (ast.Return no_term)
     give : {e f : Term} → Whole g σ e f
         → AlikeAct g σ (ast.Return (a_term e)) (ast.Return (a_term f))
@@ -103,6 +104,7 @@ mutual
   inside_alike (put i e) = nowhere
   inside_alike (augment_at i e) = nowhere
   inside_alike (append e) = nowhere
+  inside_alike (print e) = nowhere
   inside_alike give_none = nowhere
   inside_alike (give e) = nowhere
   inside_alike pass = nowhere
@@ -138,6 +140,7 @@ terms_alike (both_do (augment e)) = ((apart, e), tt)
 terms_alike (both_do (put i e)) = ((apart, i), ((apart, e), tt))
 terms_alike (both_do (augment_at i e)) = ((apart, i), ((apart, e), tt))
 terms_alike (both_do (append e)) = ((apart, e), tt)
+terms_alike (both_do (print e)) = ((apart, e), tt)
 terms_alike (both_do give_none) = tt
 terms_alike (both_do (give e)) = ((shared, e), tt)
 terms_alike (both_do pass) = tt

@@ -13,7 +13,7 @@ use Rattle.choice_tree.specs.Typing.{Scope, type_of}
 use Rattle.rewriting_laws.proofs.Alike.{AlikeAct, AlikeArms, AlikeBlock, AlikeFrom, AlikeLast}
 use Rattle.rewriting_laws.proofs.Alike.{append, assign, augment, augment_at, branch, done, give}
 use Rattle.rewriting_laws.proofs.Alike.{give_none, go_on, go_over, last, leave, next, no_arm}
-use Rattle.rewriting_laws.proofs.Alike.{no_last, one_arm, pass, put, repeat}
+use Rattle.rewriting_laws.proofs.Alike.{no_last, one_arm, pass, print, put, repeat}
 use Rattle.rewriting_laws.proofs.Becoming.{AllBecome, Becomes, NodeBecomes, node_becomes}
 
 -- a statement has no type
@@ -23,6 +23,7 @@ untyped σ (ast.Augment x op e) m = refl
 untyped σ (ast.Put x i e) m = refl
 untyped σ (ast.AugmentAt x i op e) m = refl
 untyped σ (ast.Append x e) m = refl
+untyped σ (ast.Print e) m = refl
 untyped σ (ast.Return e) m = refl
 untyped σ ast.Pass m = refl
 untyped σ ast.Break m = refl
@@ -68,6 +69,7 @@ mutual
       let k = h.0 in
       let name : y ≡ x = cc in
       (cc, rw name (append h.1.0))
+  acts_alike g c (ast.Print e) m (ast.Print f) n h = let k = h.0 in (cc, print h.1.0)
   acts_alike g c (ast.Return no_term) m (ast.Return no_term) n h =
       let k = h.0 in (cc, give_none)
   acts_alike g c (ast.Return (a_term e)) m (ast.Return (a_term f)) n h =

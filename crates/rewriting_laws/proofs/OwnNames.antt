@@ -10,7 +10,7 @@ use Rattle.mpy_tree.specs.Faults.{names_fault}
 use Rattle.mpy_tree.specs.Leasts.{least}
 use Rattle.mpy_tree.specs.Locals.{is_among, locals}
 use Rattle.mpy_tree.specs.Names.{arity_lines, has_name_fault, has_twice, header_lines, is_builtin}
-use Rattle.mpy_tree.specs.Names.{lines_of, name_lines, name_lines_from}
+use Rattle.mpy_tree.specs.Names.{is_print, is_taken, lines_of, name_lines, name_lines_from}
 use Rattle.mpy_tree.specs.Sites.{sites}
 use Rattle.mpy_tree.specs.Syntax.{Routine}
 use Rattle.mpy_tree.proofs.Leasts.{none_least}
@@ -29,10 +29,11 @@ not_builtin None h = refl
 not_builtin (Some b) h = cc
 
 own_name : (f : List ℕ) (a c : Bool) (line : ℕ)
-    → (if a || is_builtin f || c then line ∷ [] else []) ≡ [] → builtin_of f ≡ None
+    → (if a || is_taken f || c then line ∷ [] else []) ≡ [] → builtin_of f ≡ None
 own_name f a c line h =
-    let all = or_parts (a || is_builtin f) c (unlisted (a || is_builtin f || c) line h) in
-    not_builtin (builtin_of f) (or_parts a (is_builtin f) all.0).1
+    let all = or_parts (a || is_taken f) c (unlisted (a || is_taken f || c) line h) in
+    let taken = (or_parts a (is_taken f) all.0).1 in
+    not_builtin (builtin_of f) (or_parts (is_builtin f) (is_print f) taken).0
 
 own_from : (p : List Routine) (before : List (List ℕ)) (rs : List Routine)
     → name_lines_from p before rs ≡ [] → OwnNames rs

@@ -1,7 +1,7 @@
 -- The slots of programs whose functions have the same heads and assign to the same names, and what
 -- facts that type one tell of those of the other.
 use Rattle.std.proofs.Common.{◌≡◌, ◌<◌, ◌≤◌, ℕ, ◌+◌, ◌==◌, Bool, true, false, ◌&&◌, ◌||◌, List, []}
-use Rattle.std.proofs.Common.{◌∷◌, ◌++◌, map, Option, None, if◌then◌else◌, refl, sym}
+use Rattle.std.proofs.Common.{◌∷◌, ◌++◌, map, Option, Some, None, if◌then◌else◌, refl, sym}
 use Rattle.std.proofs.Common.{ap, ◌∙◌, arith}
 use Rattle.std.specs.Prelude.{⊤}
 use Rattle.std.specs.List.{All, list_any}
@@ -16,8 +16,8 @@ use Rattle.mpy_tree.specs.declared.typing.Slot.TheVariants as slot
 use Rattle.mpy_tree.specs.declared.typing.Ty.{Ty}
 use Rattle.mpy_tree.specs.declared.typing.TypeError.{TypeError}
 use Rattle.mpy_tree.specs.declared.typing.TypeSet.{TypeSet}
-use Rattle.mpy_tree.specs.Faults.{Place, listed, local_line, or_fault, place, routine_slots}
-use Rattle.mpy_tree.specs.Faults.{slot_fault, slots_fault, slots_from}
+use Rattle.mpy_tree.specs.Faults.{Place, listed, local_line, may_lack, or_fault, place}
+use Rattle.mpy_tree.specs.Faults.{routine_slots, slot_fault, slots_fault, slots_from}
 use Rattle.mpy_tree.specs.Locals.{is_among, locals}
 use Rattle.mpy_tree.specs.SetTypes.{FactSet, same_place, same_slot}
 use Rattle.mpy_tree.specs.Syntax.{Routine}
@@ -121,14 +121,33 @@ facts_stand s p h (f ∷ T) a =
     ∙ sym (there f.func f.slot 0 s) ∙ before in
     All-cons (IsOfSlot p) f T after (facts_stand s p h T (All-tail (IsOfSlot s) f T a))
 
--- a slot has one type
-abbrev pub IsSettled : TypeSet → Type 0
-IsSettled t = (line : ℕ) → slot_fault (listed t) line ≡ None
+-- A slot of a function has one type, but the result of the function `free` may have none.
+abbrev pub IsSettled : Option ℕ → ℕ → Slot → TypeSet → Type 0
+IsSettled free n y t =
+    (line : ℕ) → slot_fault (may_lack free (place n y line)) (listed t) line ≡ None
 
-any_line : (ts : List Ty) (l m : ℕ) → slot_fault ts l ≡ None → slot_fault ts m ≡ None
-any_line [] l m h = cc
-any_line (a ∷ []) l m h = refl
-any_line (a ∷ b ∷ ts) l m h = cc
+not_both : (b : Bool) → b && false ≡ false
+not_both true = refl
+not_both false = refl
+
+pub local_lacks : (free : Option ℕ) (n : ℕ) (x : List ℕ) (line : ℕ)
+    → may_lack free (place n (slot.Local x) line) ≡ false
+local_lacks None n x line = refl
+local_lacks (Some j) n x line = not_both (j == n)
+
+same_fault : (b : Bool) (ts : List Ty) (l m : ℕ) → slot_fault b ts l ≡ None
+    → slot_fault b ts m ≡ None
+same_fault true [] l m h = refl
+same_fault false [] l m h = cc
+same_fault b (a ∷ []) l m h = refl
+same_fault b (a ∷ c ∷ ts) l m h = cc
+
+-- whatever its line is
+any_line : (free : Option ℕ) (n : ℕ) (y : Slot) (ts : List Ty) (l m : ℕ)
+    → slot_fault (may_lack free (place n y l)) ts l ≡ None
+    → slot_fault (may_lack free (place n y m)) ts m ≡ None
+any_line None n y ts l m h = same_fault false ts l m h
+any_line (Some j) n y ts l m h = same_fault (same_place j slot.Result n y) ts l m h
 
 pub neither : (a b : Option TypeError) → a ≡ None → b ≡ None → or_fault a b ≡ None
 neither a b h k = (λ i. or_fault (h i) b) ∙ k
@@ -141,61 +160,65 @@ or_true : (a b : Bool) → b ≡ true → a || b ≡ true
 or_true true b h = refl
 or_true false b h = h
 
-module _ (F : FactSet) where
-  faults_left : (ss ts : List Place) → slots_fault F (ss ++ ts) ≡ None → slots_fault F ss ≡ None
+module _ (free : Option ℕ) (F : FactSet) where
+  abbrev own_fault : Place → Option TypeError
+  own_fault s = slot_fault (may_lack free s) (listed (F s.func s.slot)) s.line
+
+  faults_left : (ss ts : List Place) → slots_fault free F (ss ++ ts) ≡ None
+      → slots_fault free F ss ≡ None
   faults_left [] ts h = refl
   faults_left (s ∷ ss) ts h =
-      let own = slot_fault (listed (F s.func s.slot)) s.line in
-      let both = none_both own (slots_fault F (ss ++ ts)) h in
-      neither own (slots_fault F ss) both.0 (faults_left ss ts both.1)
+      let both = none_both (own_fault s) (slots_fault free F (ss ++ ts)) h in
+      neither (own_fault s) (slots_fault free F ss) both.0 (faults_left ss ts both.1)
 
-  faults_right : (ss ts : List Place) → slots_fault F (ss ++ ts) ≡ None → slots_fault F ts ≡ None
+  faults_right : (ss ts : List Place) → slots_fault free F (ss ++ ts) ≡ None
+      → slots_fault free F ts ≡ None
   faults_right [] ts h = h
   faults_right (s ∷ ss) ts h =
-      let own = slot_fault (listed (F s.func s.slot)) s.line in
-      faults_right ss ts (none_both own (slots_fault F (ss ++ ts)) h).1
+      faults_right ss ts (none_both (own_fault s) (slots_fault free F (ss ++ ts)) h).1
 
-  faults_both : (ss ts : List Place) → slots_fault F ss ≡ None → slots_fault F ts ≡ None
-      → slots_fault F (ss ++ ts) ≡ None
+  faults_both : (ss ts : List Place) → slots_fault free F ss ≡ None → slots_fault free F ts ≡ None
+      → slots_fault free F (ss ++ ts) ≡ None
   faults_both [] ts h k = k
   faults_both (s ∷ ss) ts h k =
-      let own = slot_fault (listed (F s.func s.slot)) s.line in
-      let both = none_both own (slots_fault F ss) h in
-      neither own (slots_fault F (ss ++ ts)) both.0 (faults_both ss ts both.1 k)
+      let both = none_both (own_fault s) (slots_fault free F ss) h in
+      neither (own_fault s) (slots_fault free F (ss ++ ts)) both.0 (faults_both ss ts both.1 k)
 
-  -- each slot of the functions from the number n on has one type
+  -- the slots of the functions from the number n on
   abbrev pub SettledFrom : ℕ → List Routine → Type 0
   SettledFrom n [] = ⊤
   SettledFrom n (r ∷ rs) =
-      ((y : Slot) → is_slot r y ≡ true → IsSettled (F n y)) × SettledFrom (n + 1) rs
+      ((y : Slot) → is_slot r y ≡ true → IsSettled free n y (F n y)) × SettledFrom (n + 1) rs
 
   names_settled : (n : ℕ) (r : Routine) (xs : List (List ℕ))
-      → slots_fault F (map (λ x. place n (slot.Local x) (local_line r x)) xs) ≡ None
-      → (x : List ℕ) → is_among xs x ≡ true → IsSettled (F n (slot.Local x))
+      → slots_fault free F (map (λ x. place n (slot.Local x) (local_line r x)) xs) ≡ None
+      → (x : List ℕ) → is_among xs x ≡ true
+      → IsSettled free n (slot.Local x) (F n (slot.Local x))
   names_settled n r [] h x k = cc
   names_settled n r (z ∷ xs) h x k =
-      let own = slot_fault (listed (F n (slot.Local z))) (local_line r z) in
-      let rest = map (λ w. place n (slot.Local w) (local_line r w)) xs in
-      let both = none_both own (slots_fault F rest) h in
-      either_true (same_bytes x z) (is_among xs x) (IsSettled (F n (slot.Local x))) k
+      let at = λ (w : List ℕ). place n (slot.Local w) (local_line r w) in
+      let both = none_both (own_fault (at z)) (slots_fault free F (map at xs)) h in
+      either_true (same_bytes x z) (is_among xs x)
+      (IsSettled free n (slot.Local x) (F n (slot.Local x))) k
       (λ same line.
-      any_line (listed (F n (slot.Local x))) (local_line r z) line
-      (ap (λ w. slot_fault (listed (F n (slot.Local w))) (local_line r z))
+      any_line free n (slot.Local x) (listed (F n (slot.Local x))) (local_line r z) line
+      (ap (λ w. own_fault (place n (slot.Local w) (local_line r z)))
       ((bytes_decides x z).0 same) ∙ both.0))
       (names_settled n r xs both.1 x)
 
-  slot_settled : (n : ℕ) (r : Routine) → slots_fault F (routine_slots n r) ≡ None → (y : Slot)
-      → is_slot r y ≡ true → IsSettled (F n y)
+  slot_settled : (n : ℕ) (r : Routine) → slots_fault free F (routine_slots n r) ≡ None → (y : Slot)
+      → is_slot r y ≡ true → IsSettled free n y (F n y)
   slot_settled n r h (slot.Local x) k =
       let names = map (λ z. place n (slot.Local z) (local_line r z)) (locals r) in
       names_settled n r (locals r) (faults_left names (place n slot.Result r.line ∷ []) h) x k
   slot_settled n r h slot.Result k =
       let names = map (λ z. place n (slot.Local z) (local_line r z)) (locals r) in
-      let own = slot_fault (listed (F n slot.Result)) r.line in
-      let last = faults_right names (place n slot.Result r.line ∷ []) h in
-      λ line. any_line (listed (F n slot.Result)) r.line line (none_both own None last).0
+      let result = place n slot.Result r.line in
+      let last = faults_right names (result ∷ []) h in
+      λ line. any_line free n slot.Result (listed (F n slot.Result)) r.line line
+      (none_both (own_fault result) None last).0
 
-  pub settled_from : (n : ℕ) (rs : List Routine) → slots_fault F (slots_from n rs) ≡ None
+  pub settled_from : (n : ℕ) (rs : List Routine) → slots_fault free F (slots_from n rs) ≡ None
       → SettledFrom n rs
   settled_from n [] h = tt
   settled_from n (r ∷ rs) h =
@@ -206,27 +229,26 @@ module _ (F : FactSet) where
       )
 
   names_faultless : (n : ℕ) (r : Routine) (xs : List (List ℕ))
-      → ((x : List ℕ) → is_among xs x ≡ true → IsSettled (F n (slot.Local x)))
-      → slots_fault F (map (λ x. place n (slot.Local x) (local_line r x)) xs) ≡ None
+      → ((x : List ℕ) → is_among xs x ≡ true
+      → IsSettled free n (slot.Local x) (F n (slot.Local x)))
+      → slots_fault free F (map (λ x. place n (slot.Local x) (local_line r x)) xs) ≡ None
   names_faultless n r [] h = refl
   names_faultless n r (z ∷ xs) h =
-      let own = slot_fault (listed (F n (slot.Local z))) (local_line r z) in
-      let rest = map (λ w. place n (slot.Local w) (local_line r w)) xs in
-      neither own (slots_fault F rest)
+      let at = λ (w : List ℕ). place n (slot.Local w) (local_line r w) in
+      neither (own_fault (at z)) (slots_fault free F (map at xs))
       (h z (ap (λ b. b || is_among xs z) ((bytes_decides z z).1 refl)) (local_line r z))
       (names_faultless n r xs (λ x k. h x (or_true (same_bytes x z) (is_among xs x) k)))
 
   pub faultless_from : (n : ℕ) (rs : List Routine) → SettledFrom n rs
-      → slots_fault F (slots_from n rs) ≡ None
+      → slots_fault free F (slots_from n rs) ≡ None
   faultless_from n [] h = refl
   faultless_from n (r ∷ rs) h =
       let names = map (λ z. place n (slot.Local z) (local_line r z)) (locals r) in
-      let result = place n slot.Result r.line ∷ [] in
+      let result = place n slot.Result r.line in
       faults_both (routine_slots n r) (slots_from (n + 1) rs)
-      (faults_both names result
+      (faults_both names (result ∷ [])
       (names_faultless n r (locals r) (λ x k. h.0 (slot.Local x) k))
-      (neither (slot_fault (listed (F n slot.Result)) r.line) None
-      (h.0 slot.Result refl r.line) refl))
+      (neither (own_fault result) None (h.0 slot.Result refl r.line) refl))
       (faultless_from (n + 1) rs h.1)
 
   pub settled_alike : (n : ℕ) (rs qs : List Routine) → SameHeads rs qs → SettledFrom n rs
@@ -239,6 +261,7 @@ module _ (F : FactSet) where
     settled_alike (n + 1) rs qs h.1 k.1,
   )
 
+module _ (F : FactSet) where
   -- no other name has a type
   abbrev pub AloneFrom : ℕ → List Routine → Type 0
   AloneFrom n [] = ⊤

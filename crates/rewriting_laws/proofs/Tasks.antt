@@ -1,12 +1,12 @@
 -- The rules of a task call builtins alone, and its submission has no fault of names.
-use Rattle.std.proofs.Common.{◌≡◌, Bool, true, false, List, [], ◌∷◌, ◌++◌, length, map, Option}
+use Rattle.std.proofs.Common.{◌≡◌, Bool, true, false, List, [], ◌∷◌, ◌++◌, length, Option}
 use Rattle.std.proofs.Common.{Some, None, if◌then◌else◌, refl}
 use Rattle.std.specs.List.{list_any}
 use Rattle.std.proofs.lemmas.List.Elements.{All-cons, All-nil}
 use Rattle.mpy_tree.specs.declared.refusal.Cause.{Cause}
 use Rattle.mpy_tree.specs.declared.refusal.Cause.TheVariants as cause
-use Rattle.mpy_tree.specs.Faults.{entry_fault, names_fault, nodes_fault, or_fault, slots}
-use Rattle.mpy_tree.specs.Faults.{slots_fault}
+use Rattle.mpy_tree.specs.Faults.{entry_fault, free_function, names_fault, nodes_fault, or_fault}
+use Rattle.mpy_tree.specs.Faults.{slots, slots_fault}
 use Rattle.mpy_tree.specs.Rules.{single}
 use Rattle.mpy_tree.specs.Running.{found}
 use Rattle.choice_tree.specs.Templates.{Correction, Template}
@@ -14,8 +14,7 @@ use Rattle.eml_faults.specs.MeaningFaults.{call_cause, is_miscall, is_misprimed,
 use Rattle.eml_faults.specs.MeaningFaults.{is_unbound, is_unknown_call, meaning_cause}
 use Rattle.eml_faults.specs.MeaningFaults.{meaning_fault_behind}
 use Rattle.eml_faults.specs.Sides.{nodes}
-use Rattle.input_space.specs.Inputs.{param_type}
-use Rattle.input_space.specs.Tasks.{setting}
+use Rattle.input_space.specs.Tasks.{entry_at, setting}
 use Rattle.typed_programs.proofs.TypingFacts.{are_types}
 use Rattle.rewriting_laws.specs.RuleCalls.{CallBuiltinsAlone}
 use Rattle.rewriting_laws.specs.TaskLaws.{CandidatesAreTypedAndUnshared}
@@ -58,17 +57,17 @@ rules_call before (r ∷ rs) h =
 pub candidates : CandidatesAreTypedAndUnshared
 candidates k p cost edits sound rewritten =
     let s = k.submission in
-    let entry = k.bounds.entry in
-    let ts = map param_type k.bounds.params in
+    let entry = entry_at k.bounds in
     let typing = sound.submission.typing in
     let F = typing.set in
     let names =
     (none_both (names_fault s)
-    (or_fault (entry_fault (found s entry) (length ts))
-    (or_fault (slots_fault F (slots s)) (nodes_fault (single F) s))) typing.faultless).0 in
-    let types = are_types k.submission_types s entry ts typing in
+    (or_fault (entry_fault (found s entry.name) (length entry.types))
+    (or_fault (slots_fault (free_function s entry) F (slots s)) (nodes_fault (single F) s)))
+    typing.faultless).0 in
+    let types = are_types k.submission_types s entry typing in
     record {
-      typed = still_types k.rules k.submission_types s p entry ts types cost edits rewritten;
+      typed = still_types k.rules k.submission_types s p entry types cost edits rewritten;
       unshared =
           unshared (setting k) (rules_call [] k.rules sound.no_meaning_fault) p
           (rewritings_alike (setting k) s p cost edits rewritten) (own_names s names)

@@ -2,22 +2,24 @@
 -- slots.
 use Rattle.std.proofs.Common.{◌≡◌, ℕ, suc, ◌+◌, ◌==◌, Bool, true, false, not, ◌||◌, List, [], ◌∷◌}
 use Rattle.std.proofs.Common.{◌++◌, length, Option, Some, None, if◌then◌else◌, refl, sym, ap, ◌∙◌}
-use Rattle.std.proofs.Common.{subst, add-one}
+use Rattle.std.proofs.Common.{subst, add-one, codes, ◌&&◌}
 use Rattle.std.specs.Prelude.{⊤}
 use Rattle.std.specs.List.{flat_map, list_any}
 use Rattle.std.proofs.lemmas.Bool.{or_parts}
+use lib.Pointwise.{bytes_decides}
 use Rattle.mpy_tree.specs.declared.refusal.Cause.TheVariants as cause
 use Rattle.mpy_tree.specs.declared.typing.Slot.{Slot}
 use Rattle.mpy_tree.specs.declared.typing.Slot.TheVariants as slot
 use Rattle.mpy_tree.specs.declared.typing.Ty.{Ty}
 use Rattle.mpy_tree.specs.declared.typing.TypeError.TheVariants.{Fault}
-use Rattle.mpy_tree.specs.Faults.{broken_from, entry_fault}
+use Rattle.mpy_tree.specs.Entries.{Entry}
+use Rattle.mpy_tree.specs.Faults.{broken_from, entry_fault, free_function, number_of}
 use Rattle.mpy_tree.specs.Flows.{Keeps, all_site_flows, entry_flows, flows_from, given_flows}
 use Rattle.mpy_tree.specs.Flows.{node_flows, site_flows}
 use Rattle.mpy_tree.specs.Locals.{is_among, locals, site_assigned, site_changed}
 use Rattle.mpy_tree.specs.Names.{arity_lines_from, has_arity_fault, has_name_fault, has_twice}
-use Rattle.mpy_tree.specs.Names.{header_lines, is_arity_fault, is_builtin, is_name_fault, lines_of}
-use Rattle.mpy_tree.specs.Names.{name_lines_from}
+use Rattle.mpy_tree.specs.Names.{header_lines, is_arity_fault, is_name_fault, is_print, is_taken}
+use Rattle.mpy_tree.specs.Names.{lines_of, name_lines_from, site_prints}
 use Rattle.mpy_tree.specs.Rules.{single, site_obeys}
 use Rattle.mpy_tree.specs.Running.{found}
 use Rattle.mpy_tree.specs.SetTypes.{Callee, FactSet, callee, called_from}
@@ -36,7 +38,7 @@ use Rattle.rewriting_laws.proofs.Slots.{AloneFrom, IsSettled, SameHead, SameHead
 use Rattle.rewriting_laws.proofs.Slots.{is_slot, same_slots}
 use Rattle.rewriting_laws.proofs.TypedNodes.{IsFine, terms_fine}
 use Rattle.rewriting_laws.proofs.TypedSites.{flows_kept, same_assigned, same_changed, same_obeys}
-use Rattle.rewriting_laws.proofs.TypedSites.{site_typed}
+use Rattle.rewriting_laws.proofs.TypedSites.{same_prints, site_typed}
 use Rattle.mpy_type_laws.proofs.Nothing.{nil_left, nil_right}
 
 -- statements that are alike, each with each
@@ -110,9 +112,30 @@ flat_every f P Q step [] h = tt
 flat_every f P Q step (x ∷ xs) h =
     every_both Q (f x) (flat_map f xs) (step x h.0) (flat_every f P Q step xs h.1)
 
+-- a local is `print` in both functions or in neither
+same_bytes_back : (x y : List ℕ) → same_bytes x y ≡ true → same_bytes y x ≡ true
+same_bytes_back x y h = (bytes_decides y x).1 (sym ((bytes_decides x y).0 h))
+
+both_or_neither : (a b : Bool) → (a ≡ true → b ≡ true) → (b ≡ true → a ≡ true) → a ≡ b
+both_or_neither true b f h = sym (f refl)
+both_or_neither false true f h = h refl
+both_or_neither false false f h = refl
+
+print_among : (xs : List (List ℕ)) → list_any is_print xs ≡ is_among xs (codes "print")
+print_among xs =
+    any_same is_print (same_bytes (codes "print")) xs
+    (λ x. both_or_neither (is_print x) (same_bytes (codes "print") x)
+    (same_bytes_back x (codes "print")) (same_bytes_back (codes "print") x))
+
+prints_local : (r q : Routine) → SameHead r q
+    → list_any is_print (locals q) ≡ list_any is_print (locals r)
+prints_local r q head =
+    print_among (locals q) ∙ same_slots r q head (slot.Local (codes "print"))
+    ∙ sym (print_among (locals r))
+
 -- p is a rewriting of a program whose slots have the types of these facts
-module _ (g : Setting) (F : FactSet) (facts : g.slots ≡ single F) (p : List Routine)
-    (alike : AlikeFrom g 0 g.program p) (own : OwnNames p) where
+module _ (g : Setting) (free : Option ℕ) (F : FactSet) (facts : g.slots ≡ single F)
+    (p : List Routine) (alike : AlikeFrom g 0 g.program p) (own : OwnNames p) where
   -- a statement of the function q
   pub record IsFineSite (i : ℕ) (q : Routine) (s : Site) : Type 0 where
     pub named : has_name_fault p (locals q) s ≡ false
@@ -127,7 +150,7 @@ module _ (g : Setting) (F : FactSet) (facts : g.slots ≡ single F) (p : List Ro
     pub keeps : Every (Keeps F g.program) (site_flows i s)
 
   abbrev Settled : ℕ → Routine → Type 0
-  Settled i q = (y : Slot) → is_slot q y ≡ true → IsSettled (F i y)
+  Settled i q = (y : Slot) → is_slot q y ≡ true → IsSettled free i y (F i y)
 
   abbrev Alone : ℕ → Routine → Type 0
   Alone i q = (x : List ℕ) → is_among (locals q) x ≡ false → F i (slot.Local x) ≡ no_types
@@ -138,27 +161,31 @@ module _ (g : Setting) (F : FactSet) (facts : g.slots ≡ single F) (p : List Ro
       let obeys = same_obeys g p alike i s t a ∙ h.obeys in
       let rules = subst (λ S. site_obeys S p i t ≡ true) facts obeys in
       let typed = site_typed (single F) p i t rules in
-      let fine = terms_fine F p i own q settled alone (site_terms t) typed in
+      let fine = terms_fine F p i own q free settled alone (site_terms t) typed in
       let strange : List (List ℕ) → List ℕ → Bool = λ xs x. not (is_among xs x) in
       let nodes_named = list_any (is_name_fault g.program (locals r)) (site_nodes s) in
-      let was = or_parts (list_any (strange (locals r)) (site_changed s)) nodes_named h.named in
+      let changes = list_any (strange (locals r)) (site_changed s) in
+      let printed = site_prints s && list_any is_print (locals r) in
+      let was = or_parts changes printed (or_parts (changes || printed) nodes_named h.named).0 in
+      let prints =
+      (λ j. same_prints s t a j && prints_local r q head j) ∙ was.1 in
       let changed =
       (λ j. list_any (strange (locals q)) (same_changed s t a j))
       ∙ any_same (strange (locals q)) (strange (locals r)) (site_changed s)
       (λ x. ap not (same_slots r q head (slot.Local x))) ∙ was.0 in
       let nodes =
-      any_of_none (is_name_fault p (locals q)) (IsFine F p i own q settled alone)
+      any_of_none (is_name_fault p (locals q)) (IsFine F p i own q free settled alone)
       (λ m f. f.named) (site_nodes t) fine in
       record {
-        named = λ j. changed j || nodes j;
+        named = λ j. changed j || prints j || nodes j;
         counted =
-            any_of_none (is_arity_fault p) (IsFine F p i own q settled alone) (λ m f. f.counted)
-            (site_nodes t) fine;
+            any_of_none (is_arity_fault p) (IsFine F p i own q free settled alone)
+            (λ m f. f.counted) (site_nodes t) fine;
         obeys = rules;
         keeps =
             every_both (Keeps F p) (site_flows i t) (flat_map (node_flows p i) (site_nodes t))
             (flows_kept g p alike i F facts s t a h.obeys h.keeps)
-            (flat_every (node_flows p i) (IsFine F p i own q settled alone) (Keeps F p)
+            (flat_every (node_flows p i) (IsFine F p i own q free settled alone) (Keeps F p)
             (λ m f. f.keeps) (site_nodes t) fine);
       }
 
@@ -189,7 +216,7 @@ module _ (g : Setting) (F : FactSet) (facts : g.slots ≡ single F) (p : List Ro
       )
 
   pub fine_from : (i : ℕ) (rs qs : List Routine) (first : List (List ℕ)) → AlikeFrom g i rs qs
-      → SameHeads rs qs → SettledFrom F i qs → AloneFrom F i qs
+      → SameHeads rs qs → SettledFrom free F i qs → AloneFrom F i qs
       → name_lines_from g.program first rs ≡ [] → broken_from g.slots g.program i rs ≡ []
       → Every (Keeps F g.program) (flows_from g.program i rs) → FineFrom i qs
   fine_from i [] [] first a heads settled alone names rules flow = tt
@@ -258,7 +285,7 @@ module _ (g : Setting) (F : FactSet) (facts : g.slots ≡ single F) (p : List Ro
   same_header : (first : List (List ℕ)) (r q : Routine) → SameHead r q
       → header_lines first q ≡ header_lines first r
   same_header first r q h =
-      λ j. if is_among first (h.name j) || is_builtin (h.name j) || has_twice (h.params j)
+      λ j. if is_among first (h.name j) || is_taken (h.name j) || has_twice (h.params j)
       then h.line j ∷ [] else []
 
   pub none_named : (i : ℕ) (rs qs : List Routine) (first : List (List ℕ)) → SameHeads rs qs
@@ -320,6 +347,29 @@ same_entry_flows (r ∷ rs) (q ∷ qs) f n ts h =
     (if same_bytes f (h.0.name j) then Some (callee n q) else called_from qs f (n + 1)) ts)
     ∙ flows_if (same_bytes f r.name) n r q (called_from rs f (n + 1)) (called_from qs f (n + 1)) ts
     h.0 (same_entry_flows rs qs f (n + 1) ts h.1)
+
+-- its number
+number_if : (b : Bool) (n : ℕ) (r q : Routine) (o u : Option Callee) → number_of u ≡ number_of o
+    → number_of (if b then Some (callee n q) else u)
+    ≡ number_of (if b then Some (callee n r) else o)
+number_if true n r q o u rest = refl
+number_if false n r q o u rest = rest
+
+same_number : (rs qs : List Routine) (f : List ℕ) (n : ℕ) → SameHeads rs qs
+    → number_of (called_from qs f n) ≡ number_of (called_from rs f n)
+same_number [] [] f n h = refl
+same_number [] (q ∷ qs) f n h = absurd h
+same_number (r ∷ rs) [] f n h = absurd h
+same_number (r ∷ rs) (q ∷ qs) f n h =
+    (λ j. number_of
+    (if same_bytes f (h.0.name j) then Some (callee n q) else called_from qs f (n + 1)))
+    ∙ number_if (same_bytes f r.name) n r q (called_from rs f (n + 1)) (called_from qs f (n + 1))
+    (same_number rs qs f (n + 1) h.1)
+
+-- and whether its result may have no type
+pub same_free : (s p : List Routine) (e : Entry) → SameHeads s p
+    → free_function p e ≡ free_function s e
+same_free s p e h = λ j. if e.free_result then same_number s p e.name 0 h j else None
 
 given_keep : (F : FactSet) (s p : List Routine) (j : ℕ) (xs : List (List ℕ)) (ts : List Ty)
     → Every (Keeps F s) (given_flows j xs ts) → Every (Keeps F p) (given_flows j xs ts)

@@ -41,7 +41,7 @@ use Rattle.typed_trees.specs.Wholes.{AreWhole, IsWhole}
 use Rattle.typed_trees.proofs.PartTypes.{AllThere, parts_there}
 use Rattle.typed_trees.proofs.WholeShapes.{shape_whole}
 use Rattle.rewriting_laws.proofs.OwnNames.{OwnNames}
-use Rattle.rewriting_laws.proofs.Slots.{IsSettled, is_slot}
+use Rattle.rewriting_laws.proofs.Slots.{IsSettled, is_slot, local_lacks}
 
 module _ (σ : Scope) where
   abbrev HasType : Tree → Type 0
@@ -72,9 +72,9 @@ module _ (σ : Scope) where
       let typed = subtrees_typed (shape e) (shape_whole e) (ap is_some (shape_type σ e) ∙ h) in
       terms_typed (nodes e) (subst (Every HasType) (lists_follow.of_terms e) typed)
 
--- a slot with one type has one
+-- a local that is settled has a type
 not_settled : (a b c d : Bool) → only_of a b c d ≡ None
-    → slot_fault (listed (record { int = a; bool = b; list = c; text = d })) 0 ≡ None → ⊥
+    → slot_fault false (listed (record { int = a; bool = b; list = c; text = d })) 0 ≡ None → ⊥
 not_settled false false false false e h = cc
 not_settled true false false false e h = cc
 not_settled false true false false e h = cc
@@ -87,8 +87,11 @@ not_settled false true true d e h = cc
 not_settled false true false true e h = cc
 not_settled false false true true e h = cc
 
-pub never_none : (s : TypeSet) → only s ≡ None → IsSettled s → ⊥
-never_none s e h = not_settled s.int s.bool s.list s.text e (h 0)
+pub never_none : (free : Option ℕ) (n : ℕ) (x : List ℕ) (s : TypeSet) → only s ≡ None
+    → IsSettled free n (slot.Local x) s → ⊥
+never_none free n x s e h =
+    not_settled s.int s.bool s.list s.text e
+    (subst (λ b. slot_fault b (listed s) 0 ≡ None) (local_lacks free n x 0) (h 0))
 
 -- the routine of a function that is called
 abbrev routine_of : Option Callee → Option Routine
@@ -215,9 +218,9 @@ module _ (F : FactSet) (p : List Routine) (i : ℕ) where
   some_routine None = refl
   some_routine (Some g) = refl
 
-  -- q is the function, each of its slots has one type, and no other name has one
-  module _ (own : OwnNames p) (q : Routine)
-      (settled : (y : Slot) → is_slot q y ≡ true → IsSettled (F i y))
+  -- q is the function, its slots are settled, and no other name has a type
+  module _ (own : OwnNames p) (q : Routine) (free : Option ℕ)
+      (settled : (y : Slot) → is_slot q y ≡ true → IsSettled free i y (F i y))
       (alone : (x : List ℕ) → is_among (locals q) x ≡ false → F i (slot.Local x) ≡ no_types) where
     typed_local : (x : List ℕ) (b : Bool) → is_among (locals q) x ≡ b → IsSome (S i (slot.Local x))
         → b ≡ true
@@ -229,7 +232,8 @@ module _ (F : FactSet) (p : List Routine) (i : ℕ) where
     no_local : (x : List ℕ) (b : Bool) → is_among (locals q) x ≡ b → S i (slot.Local x) ≡ None
         → b ≡ false
     no_local x false e h = refl
-    no_local x true e h = absurd (never_none (F i (slot.Local x)) h (settled (slot.Local x) e))
+    no_local x true e h =
+        absurd (never_none free i x (F i (slot.Local x)) h (settled (slot.Local x) e))
 
     pub record IsFine (m : Term) : Type 0 where
       pub named : is_name_fault p (locals q) m ≡ false

@@ -11,6 +11,7 @@ use Rattle.mpy_tree.specs.declared.typing.Ty.{Ty}
 use Rattle.mpy_tree.specs.declared.typing.Ty.TheVariants as ty
 use Rattle.mpy_tree.specs.Flows.{Keeps, act_flows, site_flows}
 use Rattle.mpy_tree.specs.Locals.{site_assigned, site_changed}
+use Rattle.mpy_tree.specs.Names.{site_prints}
 use Rattle.mpy_tree.specs.Rules.{Slots, act_obeys, augment_obeys, is_sequence, is_type, single}
 use Rattle.mpy_tree.specs.Rules.{site_obeys, type_in}
 use Rattle.mpy_tree.specs.SetTypes.{FactSet, types_in}
@@ -29,7 +30,7 @@ use Rattle.typed_trees.proofs.PartTypes.{number_there, sequence_there}
 use Rattle.rewriting_laws.proofs.Alike.{AlikeAct, AlikeFrom, AlikeSite, Part}
 use Rattle.rewriting_laws.proofs.Alike.{append, assign, augment, augment_at, both_ask, both_do}
 use Rattle.rewriting_laws.proofs.Alike.{branch, give, give_none, go_on, go_over, leave, pass, put}
-use Rattle.rewriting_laws.proofs.Alike.{place_in, repeat}
+use Rattle.rewriting_laws.proofs.Alike.{place_in, print, repeat}
 use Rattle.rewriting_laws.proofs.Becoming.{Becomes}
 use Rattle.rewriting_laws.proofs.Types.{term_alike}
 use Rattle.typed_trees.proofs.TypedBodies.{augment_there}
@@ -42,6 +43,7 @@ same_assigned _ _ (both_do (augment e)) = refl
 same_assigned _ _ (both_do (put k e)) = refl
 same_assigned _ _ (both_do (augment_at k e)) = refl
 same_assigned _ _ (both_do (append e)) = refl
+same_assigned _ _ (both_do (print e)) = refl
 same_assigned _ _ (both_do give_none) = refl
 same_assigned _ _ (both_do (give e)) = refl
 same_assigned _ _ (both_do pass) = refl
@@ -59,6 +61,7 @@ same_changed _ _ (both_do (augment e)) = refl
 same_changed _ _ (both_do (put k e)) = refl
 same_changed _ _ (both_do (augment_at k e)) = refl
 same_changed _ _ (both_do (append e)) = refl
+same_changed _ _ (both_do (print e)) = refl
 same_changed _ _ (both_do give_none) = refl
 same_changed _ _ (both_do (give e)) = refl
 same_changed _ _ (both_do pass) = refl
@@ -68,6 +71,25 @@ same_changed _ _ (both_do (branch xs l)) = refl
 same_changed _ _ (both_do (repeat e a)) = refl
 same_changed _ _ (both_do (go_over e a)) = refl
 same_changed _ _ (both_ask e) = refl
+
+-- or print, both of them
+pub same_prints : {g : Setting} {σ : Scope} (s t : Site) → AlikeSite g σ s t
+    → site_prints t ≡ site_prints s
+same_prints _ _ (both_do (assign e)) = refl
+same_prints _ _ (both_do (augment e)) = refl
+same_prints _ _ (both_do (put k e)) = refl
+same_prints _ _ (both_do (augment_at k e)) = refl
+same_prints _ _ (both_do (append e)) = refl
+same_prints _ _ (both_do (print e)) = refl
+same_prints _ _ (both_do give_none) = refl
+same_prints _ _ (both_do (give e)) = refl
+same_prints _ _ (both_do pass) = refl
+same_prints _ _ (both_do leave) = refl
+same_prints _ _ (both_do go_on) = refl
+same_prints _ _ (both_do (branch xs l)) = refl
+same_prints _ _ (both_do (repeat e a)) = refl
+same_prints _ _ (both_do (go_over e a)) = refl
+same_prints _ _ (both_ask e) = refl
 
 puts_there : (x i e : Option Ty) → is_type ty.List x && is_type ty.Int i && is_type ty.Int e ≡ true
     → IsSome i × IsSome e
@@ -95,6 +117,7 @@ module _ (S : Slots) (p : List Routine) (i : ℕ) where
       let list = is_type ty.List (S i (slot.Local x)) in
       let both = and_parts list (is_type ty.Int (type_in S p i e)) h in
       (number_there (type_in S p i e) both.1, tt)
+  act_typed (ast.Print e) h = (h, tt)
   act_typed (ast.Return no_term) h = tt
   act_typed (ast.Return (a_term e)) h = (h, tt)
   act_typed ast.Pass h = tt
@@ -138,6 +161,7 @@ module _ (g : Setting) (p : List Routine) (alike : AlikeFrom g 0 g.program p) (i
       && is_type ty.Int (same_type apart e f w n)
   same_obeys _ _ (both_do (append {x} {e} {f} w)) =
       λ n. is_type ty.List (g.slots i (slot.Local x)) && is_type ty.Int (same_type apart e f w n)
+  same_obeys _ _ (both_do (print {e} {f} w)) = ap is_some (same_type apart e f w)
   same_obeys _ _ (both_do give_none) = refl
   same_obeys _ _ (both_do (give {e} {f} w)) = ap is_some (same_type shared e f w)
   same_obeys _ _ (both_do pass) = refl
@@ -190,6 +214,7 @@ module _ (g : Setting) (p : List Routine) (alike : AlikeFrom g 0 g.program p) (i
     act_flows_kept _ _ (put v w) h k = tt
     act_flows_kept _ _ (augment_at v w) h k = tt
     act_flows_kept _ _ (append w) h k = tt
+    act_flows_kept _ _ (print w) h k = tt
     act_flows_kept _ _ give_none h k = tt
     act_flows_kept _ _ (give {e} {f} w) h k = (flow_kept shared e f slot.Result w h k.0, tt)
     act_flows_kept _ _ pass h k = tt

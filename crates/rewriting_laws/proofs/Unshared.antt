@@ -21,7 +21,7 @@ use Rattle.rewriting_laws.proofs.Alike.{AlikeAct, AlikeFrom, AlikeSite, AlikeSit
 use Rattle.rewriting_laws.proofs.Alike.{Whole}
 use Rattle.rewriting_laws.proofs.Alike.{append, assign, augment, augment_at, both_ask, both_do}
 use Rattle.rewriting_laws.proofs.Alike.{branch, give, give_none, go_on, go_over, leave, nowhere}
-use Rattle.rewriting_laws.proofs.Alike.{pass, put, repeat, sites_alike, terms_alike, there}
+use Rattle.rewriting_laws.proofs.Alike.{pass, print, put, repeat, sites_alike, terms_alike, there}
 use Rattle.rewriting_laws.proofs.Calling.{calls_none, none_called, still_none}
 use Rattle.rewriting_laws.proofs.Nothing.{Implies, and_less, nil_both}
 use Rattle.rewriting_laws.proofs.Nothing.{none_both, none_left, none_right, off, on_none}
@@ -122,6 +122,7 @@ module _ (g : Setting) (p : List Routine) (alike : AlikeFrom g 0 g.program p) (i
   changes_alike (put k e) = refl
   changes_alike (augment_at k e) = refl
   changes_alike (append e) = refl
+  changes_alike (print e) = refl
   changes_alike give_none = refl
   changes_alike (give e) = refl
   changes_alike pass = refl
@@ -176,6 +177,7 @@ module _ (g : Setting) (p : List Routine) (alike : AlikeFrom g 0 g.program p) (i
     act_unshared line x y (put k e) h = param_unchanged x y line (put k e) h
     act_unshared line x y (augment_at k e) h = param_unchanged x y line (augment_at k e) h
     act_unshared line x y (append e) h = param_unchanged x y line (append e) h
+    act_unshared line x y (print e) h = param_unchanged x y line (print e) h
     act_unshared line x y give_none h = param_unchanged x y line give_none h
     act_unshared line x y pass h = param_unchanged x y line pass h
     act_unshared line x y leave h = param_unchanged x y line leave h

@@ -1,7 +1,7 @@
 -- What rules make of a program is no worse than the program.
 use Rattle.std.specs.Prelude.{◌≡◌, ℕ, List, [], None}
 use Rattle.mpy_tree.specs.declared.typing.Fact.{Fact}
-use Rattle.mpy_tree.specs.declared.typing.Ty.{Ty}
+use Rattle.mpy_tree.specs.Entries.{Entry}
 use Rattle.mpy_tree.specs.Faults.{names_fault}
 use Rattle.mpy_tree.specs.Sharing.{shared}
 use Rattle.mpy_tree.specs.Syntax.{Routine}
@@ -18,10 +18,9 @@ use Rattle.rewriting_laws.specs.RuleCalls.{CallBuiltinsAlone}
 -- statement of it obeys its rule, and it has no fault of names, numbers of arguments or the entry.
 abbrev pub RewritingsStayTyped : Type 0
 RewritingsStayTyped =
-    (rules : List Correction) (T : List Fact) (s p : List Routine) (entry : List ℕ) (ts : List Ty)
-    (n : ℕ) (es : List Edit)
-    → AreTypes T s entry ts → IsRewriting (setting_by rules s T) s p n es
-    → AreTypes T p entry ts
+    (rules : List Correction) (T : List Fact) (s p : List Routine) (entry : Entry) (n : ℕ)
+    (es : List Edit)
+    → AreTypes T s entry → IsRewriting (setting_by rules s T) s p n es → AreTypes T p entry
 
 -- Where no statement of a program shares a list, none of any rewriting does. No function of the
 -- program has the name of a builtin, and the rules call builtins alone, so no function is called in

@@ -1,17 +1,16 @@
 -- The rewritings of a task's submission.
-use Rattle.std.specs.Prelude.{◌≡◌, ℕ, List, [], map}
+use Rattle.std.specs.Prelude.{◌≡◌, ℕ, List, []}
 use Rattle.mpy_tree.specs.Rules.{single}
 use Rattle.mpy_tree.specs.Sharing.{shared}
 use Rattle.mpy_tree.specs.Syntax.{Routine}
 use Rattle.mpy_tree.specs.Typings.{AreTypes, set_of}
 use Rattle.choice_tree.specs.Rewriting.{Edit}
 use Rattle.mpy_round_trip.specs.Proper.{IsProper}
-use Rattle.input_space.specs.Inputs.{param_type}
-use Rattle.input_space.specs.Tasks.{IsSound, Rewrites, Task}
+use Rattle.input_space.specs.Tasks.{IsSound, Rewrites, Task, entry_at}
 
 -- the types of the submission's names type the program, and none of its statements shares a list
 pub record IsTypedAndUnshared (k : Task) (p : List Routine) : Type 0 where
-  pub typed : AreTypes k.submission_types p k.bounds.entry (map param_type k.bounds.params)
+  pub typed : AreTypes k.submission_types p (entry_at k.bounds)
   pub unshared : shared (single (set_of k.submission_types)) p ≡ []
 
 -- so it is with each rewriting of the submission of a task that the readers give

@@ -10,6 +10,8 @@ mod messages;
 #[cfg(test)]
 mod numbers;
 #[cfg(test)]
+mod prints;
+#[cfg(test)]
 mod rewriting;
 #[cfg(test)]
 mod rule_files;

@@ -56,7 +56,7 @@ const COUNTED: [((&str, &str), &str, u64); 7] = [
 ];
 
 /// The bytes of a text, if they are few.
-fn bytes_of(text: &'static str) -> &'static [u8]
+pub(crate) fn bytes_of(text: &'static str) -> &'static [u8]
     ensures { length result.now ≤ 65536 }
 {
     let bytes = text.as_bytes();

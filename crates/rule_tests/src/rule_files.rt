@@ -7,7 +7,7 @@ use std::alloc::Global;
 use std::test::Fail;
 
 /// Files that are refused, each with its cause and line, by a separate model of the rules.
-const REFUSED: [(&str, Cause, u32); 14] = [
+const REFUSED: [(&str, Cause, u32); 15] = [
     ("rule r: $a => \x01\n", Cause::Byte, 1),
     ("# none\nrule r: $x => 1\n", Cause::Token, 2),
     ("say 'first'\n", Cause::Syntax, 1),
@@ -25,6 +25,7 @@ const REFUSED: [(&str, Cause, u32); 14] = [
     ("rule r: return $a => $a\n", Cause::RuleMeta, 1),
     ("rule r: $a => $a' + 1\n", Cause::RulePrime, 1),
     ("rule r: $a + 1 => f($a)\n", Cause::Name, 1),
+    ("rule r: $a + 1 => print($a)\n", Cause::Name, 1),
     ("rule r: $a + 1 => min($a)\n", Cause::Arity, 1),
 ];
 

@@ -1,7 +1,7 @@
 //! What selections of a weighted tree give.
 
 use crate::trees::three_rules;
-use choice_tree::{Choice, Selection, choices, edits, fits, plain};
+use choice_tree::{Choice, Edit, Selection, choices, edits, fits, plain};
 use cost_levels::Levels;
 use mpy_printer::{print_expr, print_prog};
 use std::alloc::Global;
@@ -30,7 +30,8 @@ const OTHERS: [&[(u32, u32)]; 6] = [
     &[(1, 1), (1, 1)],
 ];
 
-fn selection(alloc: Global, pairs: &[(u32, u32)]) -> Result<Selection, Fail> {
+/// The selection of these picks and members.
+pub(crate) fn selection(alloc: Global, pairs: &[(u32, u32)]) -> Result<Selection, Fail> {
     let mut items = Vec::new(alloc);
     for pair in pairs {
         items.push(Choice {
@@ -65,13 +66,23 @@ fn others_do_not_fit(rt: HostRuntime) -> Result<(), Fail> {
     Ok(())
 }
 
-/// Selections with their replacements: pick, line, rule, what was there and what is.
+/// Selections with their replacements.
 const REPLACED: [(&[(u32, u32)], &[&str]); 4] = [
     (&[], &[]),
     (&[(0, 1), (1, 1)], &["0 2 0 x: x + 2"]),
     (&[(1, 1)], &["1 2 2 x: x + 1"]),
     (&[(0, 2), (2, 1)], &["0 2 1 x: x + 1 + 1", "2 2 2 x: x + 1"]),
 ];
+
+/// An edit as a text: pick, line, rule, what was there and what is.
+pub(crate) fn told(alloc: Global, edit: &Edit) -> Result<String, Fail> {
+    let old = String::from_utf8(print_expr(alloc, &edit.old)?)?;
+    let new = String::from_utf8(print_expr(alloc, &edit.new)?)?;
+    let pick = edit.pick;
+    let line = edit.line;
+    let rule = edit.rule;
+    Ok(format!(in alloc; "{pick} {line} {rule} {old}: {new}")?)
+}
 
 #[test]
 fn edits_are_told_in_order(rt: HostRuntime) -> Result<(), Fail> {
@@ -81,13 +92,7 @@ fn edits_are_told_in_order(rt: HostRuntime) -> Result<(), Fail> {
         let found = edits(alloc, &tree, &selection(alloc, *pairs)?)?;
         assert!(rt; found.items.len() == wanted.len(), "at {pairs:?}");
         for (edit, text) in found.items.iter().zip(wanted.iter()) {
-            let old = String::from_utf8(print_expr(alloc, &edit.old)?)?;
-            let new = String::from_utf8(print_expr(alloc, &edit.new)?)?;
-            let pick = edit.pick;
-            let line = edit.line;
-            let rule = edit.rule;
-            let told = format!(in alloc; "{pick} {line} {rule} {old}: {new}")?;
-            assert!(rt; told.as_str() == *text, "at {pairs:?}");
+            assert!(rt; told(alloc, edit)?.as_str() == *text, "at {pairs:?}");
         }
     }
     Ok(())

@@ -101,6 +101,8 @@ layer_made m (G.AugmentAt x a op e) =
 layer_made m (G.Append x e) =
     let t = term_made m e in
     (ast.Append x t.0, λ line i. node (kind.Append line x) (one (t.1 i)))
+layer_made m (G.Print e) =
+    let t = term_made m e in (ast.Print t.0, λ line i. node (kind.Print line) (one (t.1 i)))
 layer_made m (G.Return None) = (ast.Return no_term, λ line. refl)
 layer_made m (G.Return (Some e)) =
     let t = term_made m e in

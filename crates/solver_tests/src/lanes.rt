@@ -19,6 +19,7 @@ const LIMITS: Limits = Limits {
     turns: 1,
     depth: 1,
     cap: 3,
+    prints: 0,
 };
 
 const CASES: [&str; 3] = [

@@ -77,6 +77,13 @@ append_is x e line =
     ∙ ap (λ f. f line) (fold-roll-WAct (ℕ → Weighted) Weighted (List Weighted) Weighted Weighted wact_step
     warm_step warms_step wstmt_step wstmts_step (G.Append x e))
 
+pub print_is : (e : WExpr) (line : ℕ)
+    → weighted_act (act.Print e) line ≡ plainly (kind.Print line) (one (weighted_of e))
+print_is e line =
+    ap (λ a. weighted_act a line) (sym (rolls.rolls-Print e))
+    ∙ ap (λ f. f line) (fold-roll-WAct (ℕ → Weighted) Weighted (List Weighted) Weighted Weighted wact_step
+    warm_step warms_step wstmt_step wstmts_step (G.Print e))
+
 pub return_is : (e : Option WExpr) (line : ℕ)
     → weighted_act (act.Return e) line ≡ plainly (kind.Return line) (maybe_weighted e)
 return_is e line =

@@ -6,7 +6,8 @@ use Rattle.mpy_tree.specs.Expressions.{Calls, value_of}
 use Rattle.mpy_tree.specs.Operations.{append, arith, members}
 use Rattle.mpy_tree.specs.Shapes.{shape, statement_shape, block_shape, arms_shapes, arm_shape}
 use Rattle.mpy_tree.specs.Shapes.{last_shapes, shape_and}
-use Rattle.mpy_tree.specs.Statements.{Ran, Returned, give, given, store, set_at, set_at_by, set_by}
+use Rattle.mpy_tree.specs.Statements.{Ran, Returned, give, given, printed, store, set_at}
+use Rattle.mpy_tree.specs.Statements.{set_at_by, set_by}
 use Rattle.mpy_tree.specs.Statements.{while_turns, for_turns, run_action, run_arms, run_block}
 use Rattle.mpy_tree.specs.Statements.{run_else, tested}
 use Rattle.mpy_tree.specs.Syntax.{Term, Statement, at, Block, Branch, Branches, MaybeBlock}
@@ -76,6 +77,9 @@ module _ (line : ℕ) where
   abbrev pub run_augment_at : List ℕ → ArithOp → Limits → Calls → Term × Term → State → Ran
   run_augment_at x op l calls p s =
       store s x (set_at_by l calls s line x p.0 (arith l op) p.1)
+
+  abbrev pub run_print : Limits → Calls → Term → State → Ran
+  run_print l calls t s = given (value_of l calls s line t) (printed line s)
 
   abbrev pub run_return : Limits → Calls → Term → State → Ran
   run_return l calls t s = given (value_of l calls s line t) Returned

@@ -33,8 +33,8 @@ use crate::body::Body;
 use crate::each::{Item, Over, more_items, next_item};
 use crate::evaluation::{eval_on, tested};
 use crate::leaves::{
-    Element, Operand, exec_append, exec_assign, exec_augment, exec_augment_at, exec_put,
-    exec_return,
+    Element, Operand, exec_append, exec_assign, exec_augment, exec_augment_at, exec_print,
+    exec_put, exec_return,
 };
 use crate::sides::add_side;
 use bit_words::NoMemory;
@@ -190,6 +190,10 @@ fn exec_stmt<L: Logic, C: Functions<L>>(
         }
         WAct::Append(x, e) => {
             let out = exec_append(alloc, g, run, path, x, e)?;
+            Ok(out)
+        }
+        WAct::Print(e) => {
+            let out = exec_print(alloc, g, run, path, e)?;
             Ok(out)
         }
         WAct::Return(e) => {

@@ -1,6 +1,6 @@
 //! Statements without a body.
 
-ghost use Rattle.std.specs.Prelude.{◌≡◌, ℕ, Bool, List, [], ◌∷◌, Some, IfOk};
+ghost use Rattle.std.specs.Prelude.{◌≡◌, ℕ, Bool, List, [], ◌∷◌, Some, IfOk, IsSome};
 ghost use Rattle.mpy_tree.specs.Expressions.{Calls, value_of};
 ghost use Rattle.mpy_tree.specs.Statements.{local_at};
 ghost use Rattle.mpy_tree.specs.Syntax.{Term};
@@ -9,6 +9,7 @@ ghost use Rattle.bit_words.specs.Logic.{Extends};
 ghost use Rattle.choice_tree.specs.StatementViews.{maybe_weighted};
 ghost use Rattle.choice_tree.specs.WeightedViews.{weighted_of};
 ghost use Rattle.sym_nodes.specs.Environments.{AllHavePicks, HasPicks};
+ghost use Rattle.sym_nodes.specs.Plain.{type_of};
 ghost use Rattle.sym_paths.specs.Endings.{HoldsOut};
 ghost use Rattle.sym_paths.specs.Paths.{HoldsPath, gone_way, reached, way};
 ghost use Rattle.sym_paths.specs.Slots.{slot_forms, result_form};
@@ -16,7 +17,7 @@ ghost use Rattle.sym_blocks.specs.Bodies.{AreChosen, IsBodyIn, RunsAsPlain, scop
 ghost use Rattle.sym_blocks.specs.Elements.{AreElementIn, ElementReads};
 ghost use Rattle.sym_blocks.specs.Runs.{ArePlainTerms, IsPlainMaybe, IsPlainTerm, run_append};
 ghost use Rattle.sym_blocks.specs.Runs.{run_assign, run_augment, run_augment_at, run_give, run_put};
-ghost use Rattle.sym_blocks.specs.Runs.{run_return};
+ghost use Rattle.sym_blocks.specs.Runs.{run_print, run_return};
 ghost use Rattle.sym_blocks.specs.Typing.{Appends, Assigns, Augments, MayReturn, Puts, Returns};
 
 use crate::body::Body;
@@ -29,7 +30,7 @@ use mpy_tree::{ArithOp, Name};
 use std::alloc::Global;
 use sym_expr::Functions;
 use sym_paths::outs::{no_way_out, out_returned};
-use sym_paths::store::out_stored;
+use sym_paths::store::{out_printed, out_stored};
 use sym_paths::{Out, Path};
 
 /// An operator and its right operand.
@@ -230,6 +231,31 @@ pub fn exec_augment_at<L: Logic, C: Functions<L>>(
     let parts = element_parts(alloc, g, run, &path, at, by.value)?;
     let outcome = changed_outcome(alloc, g, &run.slots.limits, by.op, &parts)?;
     let out = out_stored(alloc, g, run.slots, path, name, outcome)?;
+    Ok(out)
+}
+
+/// `print(e)`. Where its expression has a fault the path ends.
+pub fn exec_print<L: Logic, C: Functions<L>>(
+    alloc: Global,
+    g: &mut L,
+    run: &Body<'_, L::Bit, C>,
+    path: Path<L::Bit>,
+    e: &WExpr,
+) -> Result<Out<L::Bit>, NoMemory>
+    requires run { IsBodyIn L.owns (C.have_picks run.now.functions.now) g.old run.now }
+    requires path { HoldsPath L.owns g.old (slot_forms run.now.slots.now) path }
+    requires typed { IsSome
+        (type_of (scope_in (C.signatures run.now.functions.now) run.now) (weighted_of e.now)) }
+    requires picks { HasPicks run.now.picks.now (weighted_of e.now) }
+    ensures extends { Extends L.owns L.reads L.count g.old g.new }
+    ensures held { IfOk result (λ r. HoldsOut L.owns g.new (slot_forms run.now.slots.now)
+        (result_form run.now.slots.now) r) }
+    ensures value { IfOk result (λ r. (line : ℕ) →
+        RunsAsPlain L.reads (C.are_calls run.now.functions.now) g.old g.new run.now (path ∷ []) r
+        (IsPlainTerm (weighted_of e.now)) (run_print line)) }
+{
+    let outcome = eval_on(alloc, g, run, &path, e)?;
+    let out = out_printed(alloc, g, run.slots, path, &outcome)?;
     Ok(out)
 }
 

@@ -16,7 +16,11 @@ use sym_values::SymOutcome;
 fn same_limits(a: &Limits, b: &Limits) -> bool
     ensures { IsTrue result → a.now ≡ b.now }
 {
-    a.width == b.width && a.turns == b.turns && a.depth == b.depth && a.cap == b.cap
+    a.width == b.width
+        && a.turns == b.turns
+        && a.depth == b.depth
+        && a.cap == b.cap
+        && a.prints == b.prints
 }
 
 // Whether two calls are of one function, at one level and at the same limits.

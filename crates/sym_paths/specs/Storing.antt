@@ -1,4 +1,4 @@
--- A statement that sets a local, and one that returns a value.
+-- A statement that sets a local, one that prints, and one that returns a value.
 use Rattle.std.specs.Prelude.{◌≡◌, ◌&&◌, ℕ, Bool, true, false, not, List, [], ◌∷◌}
 use Rattle.std.specs.Prelude.{Option, Some, None, if◌then◌else◌, refl}
 use Rattle.std.proofs.Common.{◌∙◌, ap}
@@ -8,10 +8,11 @@ use Rattle.std.specs.declared.result.Result.TheVariants.{Ok, Err}
 use Rattle.mpy_tree.specs.declared.value.Value.{Value}
 use Rattle.mpy_tree.specs.declared.outcome.Halted.{Halted}
 use Rattle.mpy_tree.specs.Values.{State, assign}
-use Rattle.mpy_tree.specs.Statements.{Ran, Next, Returned, given, store}
+use Rattle.mpy_tree.specs.Statements.{Ran, Next, Returned, given, printed, store}
 use Rattle.sym_values.specs.Reading.{Reading, IsOutcome, sure}
 use Rattle.sym_paths.specs.Paths.{Arrival, Way, arrival, gone_way, reached}
 use Rattle.sym_paths.specs.Endings.{nothing_seen, seen_of, seen_from}
+use Rattle.sym_paths.specs.Sides.{IsFault, fine, fine_at}
 use Rattle.sym_paths.specs.Sights.{same_sight, the_sight}
 
 -- the state in which a local is what was computed
@@ -65,6 +66,23 @@ pub stored_is : (a b c : Option Arrival) (o : Option State) (f : Bool) (r : Read
 stored_is a b c None f r k x at e h put none = none (e ∙ none_by f a at)
 stored_is a b c (Some s) f r k x at e h put none =
     stored_at a b c s f r (k s) x at e (h s refl) (put s) none
+
+-- the fault bit of an outcome says whether there is a value
+pub outcome_fault : (f : Bool) (r : Reading) (v : Result Value Halted) → IsOutcome f r v
+    → IsFault f v
+outcome_fault f r (Ok v) h = h.0
+outcome_fault f r (Err e) h = h
+
+print_by : (r : Result Value Halted) (s : State) (line : ℕ)
+    → seen_from (fine_at r s) Next ≡ seen_of (given r (printed line s))
+print_by (Ok v) s line = refl
+print_by (Err h) s line = refl
+
+-- a way on from where there is a value is all that a print shows
+pub print_shows : (o : Option State) (k : State → Result Value Halted) (line : ℕ)
+    → seen_from (fine o k) Next ≡ seen_from o (λ s. given (k s) (printed line s))
+print_shows None k line = refl
+print_shows (Some s) k line = print_by (k s) s line
 
 gone_by : (b : Bool) (a : Arrival) → (if b then Some a else None) ≡ None → b ≡ false
 gone_by false a e = refl

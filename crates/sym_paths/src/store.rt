@@ -1,12 +1,12 @@
-//! A statement that sets a local.
+//! Statements that take a value: one sets a local, one prints.
 
-ghost use Rattle.std.specs.Prelude.{◌≡◌, Bool, List, [], ◌∷◌, Option, Some, IfOk};
+ghost use Rattle.std.specs.Prelude.{◌≡◌, ℕ, Bool, List, [], ◌∷◌, Option, Some, IfOk};
 ghost use Rattle.std.specs.declared.result.Result.{Result};
 ghost use Rattle.mpy_tree.specs.declared.outcome.Halted.{Halted};
 ghost use Rattle.mpy_tree.specs.declared.typing.Ty.{Ty};
 ghost use Rattle.mpy_tree.specs.declared.value.Value.{Value};
 ghost use Rattle.mpy_tree.specs.Values.{State};
-ghost use Rattle.mpy_tree.specs.Statements.{store};
+ghost use Rattle.mpy_tree.specs.Statements.{given, printed, store};
 ghost use Rattle.bit_words.specs.Logic.{Extends};
 ghost use Rattle.sym_values.specs.Forms.{form_for};
 ghost use Rattle.sym_values.specs.Reading.{OutcomeReads};
@@ -51,5 +51,31 @@ pub fn out_stored<L: Logic>(
     let here = narrow(g, slots, path, fine)?;
     let there = assign(g, slots, here, x, outcome.value);
     let out = out_next(alloc, g, slots, there)?;
+    Ok(out)
+}
+
+/// An outcome is printed. Where that is a fault the path ends.
+pub fn out_printed<L: Logic>(
+    alloc: Global,
+    g: &mut L,
+    slots: &Slots,
+    path: Path<L::Bit>,
+    outcome: &SymOutcome<L::Bit>,
+) -> Result<Out<L::Bit>, NoMemory>
+    requires held { HoldsPath L.owns g.old (slot_forms slots.now) path }
+    requires fault { L.owns g.old outcome.now.fault }
+    ensures extends { Extends L.owns L.reads L.count g.old g.new }
+    ensures held { IfOk result (λ r.
+        HoldsOut L.owns g.new (slot_forms slots.now) (result_form slots.now) r) }
+    ensures value { IfOk result (λ r.
+        (vs : List Bool) (o : Option State) (k : State → Result Value Halted) (line : ℕ)
+        → gone_way slots.now.names (way (L.reads g.old vs) path ∷ []) ≡ reached o
+        → ((s : State) → o ≡ Some s → OutcomeReads (L.reads g.old vs) outcome.now (k s))
+        → see (L.reads g.new vs) slots.now.names r
+        ≡ seen_from o (λ s. given (k s) (printed line s))) }
+{
+    let fine = g.not(outcome.fault);
+    let here = narrow(g, slots, path, fine)?;
+    let out = out_next(alloc, g, slots, here)?;
     Ok(out)
 }

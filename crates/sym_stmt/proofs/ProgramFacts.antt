@@ -15,6 +15,7 @@ use Rattle.mpy_tree.specs.declared.typing.Ty.{Ty}
 use Rattle.mpy_tree.specs.declared.typing.Ty.TheVariants as ty
 use Rattle.mpy_tree.specs.declared.typing.TypeError.{TypeError}
 use Rattle.mpy_tree.specs.declared.typing.TypeSet.{TypeSet}
+use Rattle.mpy_tree.specs.Entries.{valued}
 use Rattle.mpy_tree.specs.Faults.{Place, entry_fault, listed, local_line, names_fault}
 use Rattle.mpy_tree.specs.Faults.{nodes_fault, or_fault, place, slot_fault, slots, slots_fault}
 use Rattle.mpy_tree.specs.Faults.{routine_slots, slots_from}
@@ -22,7 +23,7 @@ use Rattle.mpy_tree.specs.Flows.{Keeps, entry_flows, flows, flows_from, given_fl
 use Rattle.mpy_tree.specs.Leasts.{least}
 use Rattle.mpy_tree.specs.Locals.{is_among, locals, site_assigned, site_names}
 use Rattle.mpy_tree.specs.Names.{arity_lines, has_name_fault, has_twice, header_lines}
-use Rattle.mpy_tree.specs.Names.{is_builtin, lines_of, name_lines, name_lines_from}
+use Rattle.mpy_tree.specs.Names.{is_taken, lines_of, name_lines, name_lines_from}
 use Rattle.mpy_tree.specs.Rules.{are_arguments, callee_type, is_argument, same_type, single}
 use Rattle.mpy_tree.specs.Running.{found}
 use Rattle.mpy_tree.specs.SetTypes.{Callee, FactSet, callee, called, called_from, same_place}
@@ -50,10 +51,10 @@ module _ (F : FactSet) where
   abbrev pub HasType : Place → Type 0
   HasType s = IsSome (single F s.func s.slot)
 
-  each_typed : (ss : List Place) → slots_fault F ss ≡ None → Every HasType ss
+  each_typed : (ss : List Place) → slots_fault None F ss ≡ None → Every HasType ss
   each_typed [] e = tt
   each_typed (s ∷ ss) e =
-      let k = none_both (slot_fault (listed (F s.func s.slot)) s.line) (slots_fault F ss) e in
+      let k = none_both (slot_fault false (listed (F s.func s.slot)) s.line) (slots_fault None F ss) e in
       let set = F s.func s.slot in
       (one_type set.int set.bool set.list set.text s.line k.0, each_typed ss k.1)
 
@@ -164,7 +165,7 @@ headers_typed F p before i (r ∷ rs) h e =
     let lines = lines_of (has_name_fault p (locals r)) (sites r.body) in
     let later = name_lines_from p (before ++ r.name ∷ []) rs in (
       record {
-        differ = third_false (is_among before r.name) (is_builtin r.name) (has_twice r.params)
+        differ = third_false (is_among before r.name) (is_taken r.name) (has_twice r.params)
             r.line (nil_left (header_lines before r) lines
             (nil_left (header_lines before r ++ lines) later e));
         params = λ k d less.
@@ -242,16 +243,16 @@ pub record AreFacts (T : List Fact) (p : List Routine) (entry : List ℕ) (ts : 
   pub enters : IsSome (callee_type (single (set_of T)) (called p entry) (map (λ t. Some t) ts))
 
 pub are_facts : (T : List Fact) (p : List Routine) (entry : List ℕ) (ts : List Ty)
-    → AreTypes T p entry ts → AreFacts T p entry ts
+    → AreTypes T p (valued entry ts) → AreFacts T p entry ts
 are_facts T p entry ts h =
     let F = set_of T in
     let one =
     none_both (names_fault p) (or_fault (entry_fault (found p entry) (length ts))
-    (or_fault (slots_fault F (slots p)) (nodes_fault (single F) p))) h.faultless in
+    (or_fault (slots_fault None F (slots p)) (nodes_fault (single F) p))) h.faultless in
     let two =
     none_both (entry_fault (found p entry) (length ts))
-    (or_fault (slots_fault F (slots p)) (nodes_fault (single F) p)) one.1 in
-    let three = none_both (slots_fault F (slots p)) (nodes_fault (single F) p) two.1 in
+    (or_fault (slots_fault None F (slots p)) (nodes_fault (single F) p)) one.1 in
+    let three = none_both (slots_fault None F (slots p)) (nodes_fault (single F) p) two.1 in
     let each = each_typed F (slots p) three.0 in
     let names =
     none_least (name_lines p) (not_earlier (least (name_lines p)) (least (arity_lines p)) one.0) in
@@ -262,5 +263,5 @@ are_facts T p entry ts h =
       headers = headers;
       enters = entry_takes F p p 0 entry ts headers two.0
           (every_front (Keeps F p) (entry_flows (called p entry) ts) (flows_from p 0 p)
-          (every_of (Keeps F p) (flows p entry ts) h.closed));
+          (every_of (Keeps F p) (flows p (valued entry ts)) h.closed));
     }

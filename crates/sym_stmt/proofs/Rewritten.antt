@@ -6,6 +6,7 @@ use Rattle.std.specs.Prelude.{⊤}
 use Rattle.mpy_tree.specs.declared.typing.Fact.{Fact}
 use Rattle.mpy_tree.specs.declared.typing.Slot.TheVariants as slot
 use Rattle.mpy_tree.specs.declared.typing.Ty.{Ty}
+use Rattle.mpy_tree.specs.Entries.{valued}
 use Rattle.mpy_tree.specs.Rules.{Slots, are_arguments, callee_type, single}
 use Rattle.mpy_tree.specs.SetTypes.{Callee, FactSet, callee, called_from}
 use Rattle.mpy_tree.specs.Shapes.{block_shape, program_shape, routine_shape, routine_shapes}
@@ -109,7 +110,7 @@ header_at F (w ∷ fs) (r ∷ rs) n (suc k) i f h typed e is =
     header_at F fs rs (n + 1) k i f h.2 typed.1 (omega (arith, e)) is
 
 pub rewritten_typed : (rules : List Correction) (T : List Fact) (p : List Routine)
-    (entry : List ℕ) (ts : List Ty) (w : WProg) → MakeWholes rules → AreTypes T p entry ts
+    (entry : List ℕ) (ts : List Ty) (w : WProg) → MakeWholes rules → AreTypes T p (valued entry ts)
     → weighted_prog w ≡ weighted_program (setting_by rules p T) p → TypesProgram T w entry ts
 rewritten_typed rules T p entry ts w wholes typed same =
     let g = setting_by rules p T in
@@ -117,7 +118,7 @@ rewritten_typed rules T p entry ts w wholes typed same =
     let fs = functions_of w in
     let facts = are_facts T p entry ts typed in
     let heads = have_headers g p w same in
-    let grows = program_typed rules T p entry ts wholes typed in
+    let grows = program_typed rules T p (valued entry ts) wholes typed in
     record {
       functions = record {
         alone = all_of (IsAlone T) T facts.alone;

@@ -2,6 +2,7 @@
 use Rattle.std.specs.Prelude.{◌≡◌, ℕ, List}
 use Rattle.mpy_tree.specs.declared.typing.Fact.{Fact}
 use Rattle.mpy_tree.specs.declared.typing.Ty.{Ty}
+use Rattle.mpy_tree.specs.Entries.{valued}
 use Rattle.mpy_tree.specs.Syntax.{Routine}
 use Rattle.mpy_tree.specs.Typings.{AreTypes}
 use Rattle.choice_tree.specs.declared.tree.WProg.{WProg}
@@ -17,6 +18,6 @@ abbrev pub RewrittenProgramsAreTyped : Type 0
 RewrittenProgramsAreTyped =
     (rules : List Correction) (T : List Fact) (p : List Routine) (entry : List ℕ) (ts : List Ty)
     (w : WProg)
-    → MakeWholes rules → AreTypes T p entry ts
+    → MakeWholes rules → AreTypes T p (valued entry ts)
     → weighted_prog w ≡ weighted_program (setting_by rules p T) p
     → TypesProgram T w entry ts

@@ -24,7 +24,7 @@ use Rattle.typed_trees.proofs.WholeRules.{rules_whole}
 use Rattle.input_space.specs.declared.task.TaskParts.{TaskParts}
 use Rattle.input_space.specs.Inputs.{param_type}
 use Rattle.input_space.specs.TaskParts.{task_with}
-use Rattle.input_space.specs.Tasks.{IsSound, Task, result_type, tree_of}
+use Rattle.input_space.specs.Tasks.{IsSound, Task, entry_at, result_type, tree_of}
 use Rattle.sym_values.specs.declared.value.SymOutcome.{SymOutcome}
 use Rattle.sym_values.specs.declared.value.SymValue.{SymValue}
 use Rattle.sym_values.specs.Forms.{form_for}
@@ -44,7 +44,7 @@ reference_typed k w sound e =
     let T = k.reference_types in
     let ts = map param_type k.bounds.params in
     rewritten_typed [] T k.reference k.bounds.entry ts w (All-nil (λ r. IsWholeSide r.right))
-    (are_types T k.reference k.bounds.entry ts sound.reference.typing)
+    (are_types T k.reference (entry_at k.bounds) sound.reference.typing)
     (e ∙ sym (without_rules k.reference T))
 
 pub candidates_typed : (parts : TaskParts) (w : WProg) → IsSound (task_with parts)
@@ -56,7 +56,7 @@ candidates_typed parts w sound e =
     let T = k.submission_types in
     let ts = map param_type k.bounds.params in
     rewritten_typed k.rules T k.submission k.bounds.entry ts w (rules_whole parts.rules)
-    (are_types T k.submission k.bounds.entry ts sound.submission.typing) e
+    (are_types T k.submission (entry_at k.bounds) sound.submission.typing) e
 
 -- a function of a name gives the same by a program as by the headers of a weighted program whose
 -- bases make it

@@ -8,13 +8,14 @@ use Rattle.mpy_tree.specs.declared.typing.Ty.{Ty}
 use Rattle.mpy_tree.specs.declared.typing.TypeError.{TypeError}
 use Rattle.mpy_tree.specs.declared.typing.TypeError.TheVariants.{Fault, Conflict}
 use Rattle.mpy_tree.specs.declared.typing.Types.{Types}
+use Rattle.mpy_tree.specs.Entries.{Entry}
 use Rattle.mpy_tree.specs.Typings.{Checks}
 use Rattle.mpy_tree.specs.Syntax.{Routine}
 use Rattle.mpy_tree.specs.View.{routines_of}
 use Rattle.task_read.specs.declared.error.TaskError.{TaskError}
 use Rattle.task_read.specs.declared.error.TaskError.TheVariants.{Refused, NoMemory}
 use Rattle.task_read.specs.Errors.{RefusesBy, IsGiven, IsRefusal}
-use Rattle.task_read.specs.TypedPrograms.{Entry, IsFaultOf, IsTypedProgram, IsProgramRefused}
+use Rattle.task_read.specs.TypedPrograms.{IsFaultOf, IsTypedProgram, IsProgramRefused}
 use Rattle.task_read.proofs.OneAnswer.{one_typed_program, not_typed_and_refused, one_refusal}
 
 -- what was found is right
@@ -44,12 +45,12 @@ refused_by bytes e s (Err (Refused x)) so c line h =
 refused_by bytes e s (Err NoMemory) so c line h = tt
 
 -- what the check of names and types answered
-pub at_fault : (r : Result Types TypeError) (p : List Routine) (e : Entry) (c : Cause) (line : ℕ) → r ≡ Err (Fault c line) → Checks r p e.name e.types → IsFaultOf (Fault c line) p e
-at_fault r p e c line is h = subst (λ x. Checks x p e.name e.types) is h
+pub at_fault : (r : Result Types TypeError) (p : List Routine) (e : Entry) (c : Cause) (line : ℕ) → r ≡ Err (Fault c line) → Checks r p e → IsFaultOf (Fault c line) p e
+at_fault r p e c line is h = subst (λ x. Checks x p e) is h
 
-pub at_conflict : (r : Result Types TypeError) (p : List Routine) (e : Entry) (line : ℕ) (one other : Ty) → r ≡ Err (Conflict line one other) → Checks r p e.name e.types
+pub at_conflict : (r : Result Types TypeError) (p : List Routine) (e : Entry) (line : ℕ) (one other : Ty) → r ≡ Err (Conflict line one other) → Checks r p e
     → IsFaultOf (Conflict line one other) p e
-at_conflict r p e line one other is h = subst (λ x. Checks x p e.name e.types) is h
+at_conflict r p e line one other is h = subst (λ x. Checks x p e) is h
 
-pub same_entry : (a b : Entry) → a.name ≡ b.name → a.types ≡ b.types → a ≡ b
-same_entry a b name types = λ i. record { name = name i; types = types i }
+pub same_entry : (a b : Entry) → a.name ≡ b.name → a.types ≡ b.types → a.free_result ≡ b.free_result → a ≡ b
+same_entry a b name types free = λ i. record { name = name i; types = types i; free_result = free i }

@@ -20,11 +20,13 @@ use Rattle.choice_tree.specs.Selections.{most_cost}
 use Rattle.choice_tree.specs.WeightedTrees.{size}
 use Rattle.input_space.specs.Tasks.{HasManyNodes, WeighsTooMuch, CostsTooMuch, IsTooLarge, Task, result_type, tree_of, weights}
 use Rattle.task_read.specs.ProgramLaws.{IsJudged, ReadOrRefused}
-use Rattle.task_read.specs.Sources.{bounds_step, entry_at, program_step, refusal, rules_step}
+use Rattle.input_space.specs.Tasks.{entry_at}
+use Rattle.task_read.specs.Sources.{bounds_step, program_step, refusal, rules_step}
 use Rattle.task_read.specs.Steps.{Step, ◌>>=◌, done, refuse_if}
 use Rattle.task_read.specs.TaskLaws.{TaskReadOrRefused}
 use Rattle.task_read.specs.TaskSteps.{GiveOneType, parts_step}
-use Rattle.task_read.specs.TypedPrograms.{Entry, by_sharing, by_text, by_typing, shared_lines}
+use Rattle.mpy_tree.specs.Entries.{Entry}
+use Rattle.task_read.specs.TypedPrograms.{by_sharing, by_text, by_typing, shared_lines}
 use Rattle.task_read.proofs.TypedOrFaulted.{IsTypedOrNot, typed_or_faulted}
 
 -- some lines have a least one
@@ -36,7 +38,7 @@ least_line : (n : ℕ) (ns : List ℕ) → (m : ℕ) × (least (n ∷ ns) ≡ So
 unfolding least
 least_line n ns = some_least n (least ns)
 
-by_lines : (bytes : List ℕ) (e : Entry) (p : List Routine) (T : List Fact) → IsProgram bytes p → IsTyping T p e.name e.types → (ns : List ℕ) → shared_lines T p ≡ ns → IsJudged bytes e
+by_lines : (bytes : List ℕ) (e : Entry) (p : List Routine) (T : List Fact) → IsProgram bytes p → IsTyping T p e → (ns : List ℕ) → shared_lines T p ≡ ns → IsJudged bytes e
 by_lines bytes e p T read typing [] is = inl (p, T, record { read = read; typing = typing; unshared = is })
 by_lines bytes e p T read typing (n ∷ ns) is =
     let line = least_line n ns in

@@ -4,8 +4,8 @@ use Rattle.std.specs.Prelude.{slice_set, if◌then◌else◌}
 use Rattle.std.specs.List.{flat_map}
 use Rattle.std.proofs.lemmas.Bool.{cases_lt}
 use Rattle.std.proofs.lemmas.List.{length-map}
-use Rattle.mpy_tree.specs.declared.typing.Ty.{Ty}
 use Rattle.mpy_tree.specs.declared.typing.TypeSet.{TypeSet}
+use Rattle.mpy_tree.specs.Entries.{Entry}
 use Rattle.mpy_tree.specs.Syntax.{Routine}
 use Rattle.mpy_tree.specs.TypeSets.{join, no_types, within}
 use Rattle.mpy_tree.specs.SetTypes.{FactSet}
@@ -70,9 +70,9 @@ passes zero n v fs few many below =
 passes (suc fuel) n v fs few many below =
     after_pass n v fs many below (λ w less m b. passes fuel n w fs (omega (arith, less, few)) m b) (a_pass v fs (length fs) (omega arith))
 
-pub some_least : (p : List Routine) (entry : List ℕ) (ts : List Ty) → (F : FactSet) × IsLeast F p entry ts
-some_least p entry ts =
+pub some_least : (p : List Routine) (e : Entry) → (F : FactSet) × IsLeast F p e
+some_least p e =
     let none = are_none (slots p) in
-    let fs = flat_map (flow_inflows p) (flows p entry ts) in
+    let fs = flat_map (flow_inflows p) (flows p e) in
     let least = passes (lacking none) (length (slots p)) none fs (omega arith) (length-map (slots p) (λ x. no_types)) (λ u h k. none_below (slots p) none u refl h) in
-    (facts_by p least.0, least_facts least.0 p entry ts (length (slots p)) fs least.1 refl refl)
+    (facts_by p least.0, least_facts least.0 p e (length (slots p)) fs least.1 refl refl)

@@ -5,6 +5,7 @@ use Rattle.mpy_tree.specs.declared.typing.Ty.{Ty}
 use Rattle.mpy_tree.specs.declared.typing.Fact.{Fact}
 use Rattle.mpy_tree.specs.declared.typing.TypeError.{TypeError}
 use Rattle.mpy_tree.specs.declared.typing.TypeError.TheVariants.{Fault, Conflict}
+use Rattle.mpy_tree.specs.Entries.{Entry}
 use Rattle.mpy_tree.specs.Leasts.{least}
 use Rattle.mpy_tree.specs.Syntax.{Routine}
 use Rattle.mpy_tree.specs.Typings.{IsTyping}
@@ -13,31 +14,31 @@ use Rattle.mpy_parser.proofs.OneAnswer.{one_program as one_reading, not_refused,
 use Rattle.mpy_parser.proofs.Steps.{laws}
 use Rattle.mpy_type_laws.proofs.OneAnswer.{typed_or_not, typed_or_early, one_fault, early_fault}
 use Rattle.mpy_type_laws.proofs.OneAnswer.{one_typing as one_typing_of}
-use Rattle.task_read.specs.TypedPrograms.{Entry, IsTypedProgram, IsFaultOf, IsTypingRefused, by_fault, by_conflict}
+use Rattle.task_read.specs.TypedPrograms.{IsTypedProgram, IsFaultOf, IsTypingRefused, by_fault, by_conflict}
 use Rattle.task_read.specs.TypedPrograms.{IsProgramRefused, by_text, by_typing, by_sharing, IsSharedOn, shared_lines}
 
 one_program : (bytes : List ℕ) (p q : List Routine) → IsProgram bytes p → IsProgram bytes q → p ≡ q
 one_program bytes p q a b = one_reading laws bytes p q a.reads b.reads
 
-one_typing : (e : Entry) (p q : List Routine) (T U : List Fact) → p ≡ q → IsTyping T p e.name e.types → IsTyping U q e.name e.types → T ≡ U
-one_typing e p q T U same t u = one_typing_of T U q e.name e.types (subst (λ r. IsTyping T r e.name e.types) same t) u
+one_typing : (e : Entry) (p q : List Routine) (T U : List Fact) → p ≡ q → IsTyping T p e → IsTyping U q e → T ≡ U
+one_typing e p q T U same t u = one_typing_of T U q e (subst (λ r. IsTyping T r e) same t) u
 
 pub one_typed_program : (bytes : List ℕ) (e : Entry) (p q : List Routine) (T U : List Fact) → IsTypedProgram bytes e p T → IsTypedProgram bytes e q U → (p ≡ q) × (T ≡ U)
 one_typed_program bytes e p q T U a b =
     let same = one_program bytes p q a.read b.read in
     (same, one_typing e p q T U same a.typing b.typing)
 
-no_fault : (T : List Fact) (p : List Routine) (e : Entry) (f : TypeError) → IsTyping T p e.name e.types → IsFaultOf f p e → ⊥
-no_fault T p e f t (inl early) = typed_or_early T f p e.name e.types t early
-no_fault T p e f t (inr first) = typed_or_not T f p e.name e.types t first
+no_fault : (T : List Fact) (p : List Routine) (e : Entry) (f : TypeError) → IsTyping T p e → IsFaultOf f p e → ⊥
+no_fault T p e f t (inl early) = typed_or_early T f p e t early
+no_fault T p e f t (inr first) = typed_or_not T f p e t first
 
-no_typing_refusal : (T : List Fact) (p : List Routine) (e : Entry) (c : Cause) (line : ℕ) → IsTyping T p e.name e.types → IsTypingRefused p e c line → ⊥
+no_typing_refusal : (T : List Fact) (p : List Routine) (e : Entry) (c : Cause) (line : ℕ) → IsTyping T p e → IsTypingRefused p e c line → ⊥
 no_typing_refusal T p e c line t (by_fault d m f) = no_fault T p e (Fault d m) t f
 no_typing_refusal T p e c line t (by_conflict m one other f) = no_fault T p e (Conflict m one other) t f
 
-typed_not_refused : (bytes : List ℕ) (T : List Fact) (p q : List Routine) (e : Entry) (c : Cause) (line : ℕ) → IsProgram bytes p → IsTyping T p e.name e.types → IsProgram bytes q → IsTypingRefused q e c line → ⊥
+typed_not_refused : (bytes : List ℕ) (T : List Fact) (p q : List Routine) (e : Entry) (c : Cause) (line : ℕ) → IsProgram bytes p → IsTyping T p e → IsProgram bytes q → IsTypingRefused q e c line → ⊥
 typed_not_refused bytes T p q e c line a t b r =
-    no_typing_refusal T q e c line (subst (λ s. IsTyping T s e.name e.types) (one_program bytes p q a b) t) r
+    no_typing_refusal T q e c line (subst (λ s. IsTyping T s e) (one_program bytes p q a b) t) r
 
 least_of_none : (line : ℕ) (ns : List ℕ) → ns ≡ [] → least ns ≡ Some line → ⊥
 unfolding least
@@ -59,9 +60,9 @@ some_fault f g o a b = let both : Some f ≡ Some g = sym a ∙ b in cc
 
 one_fault_of : (p : List Routine) (e : Entry) (f g : TypeError) → IsFaultOf f p e → IsFaultOf g p e → f ≡ g
 one_fault_of p e f g (inl a) (inl b) = some_fault f g _ a b
-one_fault_of p e f g (inl a) (inr b) = early_fault f g p e.name e.types a b
-one_fault_of p e f g (inr a) (inl b) = sym (early_fault g f p e.name e.types b a)
-one_fault_of p e f g (inr a) (inr b) = one_fault f g p e.name e.types a b
+one_fault_of p e f g (inl a) (inr b) = early_fault f g p e a b
+one_fault_of p e f g (inr a) (inl b) = sym (early_fault g f p e b a)
+one_fault_of p e f g (inr a) (inr b) = one_fault f g p e a b
 
 abbrev Same : Cause → Cause → ℕ → ℕ → Type 0
 Same c d m n = (c ≡ d) × (m ≡ n)

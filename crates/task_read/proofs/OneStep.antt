@@ -6,10 +6,11 @@ use Rattle.mpy_tree.specs.declared.refusal.Source.TheVariants as source
 use Rattle.mpy_tree.specs.declared.refusal.Refusal.{Refusal}
 use Rattle.bounds_reader.proofs.Judged.{one_bounds, one_refusal as one_bounds_refusal, not_read_and_refused as bounds_not_refused}
 use Rattle.eml_reader.proofs.Judged.{one_reading, not_both as rules_not_refused, one_refusal as one_rules_refusal}
-use Rattle.task_read.specs.Sources.{IsOf, Typed, bounds_step, entry_at, program_step, rules_step}
+use Rattle.input_space.specs.Tasks.{entry_at}
+use Rattle.task_read.specs.Sources.{IsOf, Typed, bounds_step, program_step, rules_step}
 use Rattle.task_read.specs.Steps.{IsOne}
 use Rattle.task_read.specs.TaskSteps.{parts_step, task_step}
-use Rattle.task_read.specs.TypedPrograms.{Entry}
+use Rattle.mpy_tree.specs.Entries.{Entry}
 use Rattle.task_read.proofs.OneAnswer.{one_typed_program, not_typed_and_refused, one_refusal}
 use Rattle.task_read.proofs.Steps.{one_done, one_refuse, one_then}
 

@@ -6,7 +6,8 @@ use Rattle.eml_reader.specs.RuleFiles.{IsRules}
 use Rattle.bounds_reader.specs.declared.bounds.Bounds.{Bounds}
 use Rattle.mpy_round_trip.specs.ReadingProper.{ReadsProper}
 use Rattle.input_space.specs.Tasks.{IsReady, IsSound, Task, result_type}
-use Rattle.task_read.specs.Sources.{Typed, entry_at}
+use Rattle.input_space.specs.Tasks.{entry_at}
+use Rattle.task_read.specs.Sources.{Typed}
 use Rattle.task_read.specs.TaskSteps.{AreReady, GiveOneType, parts_step, task, task_step}
 use Rattle.task_read.specs.TypedPrograms.{IsTypedProgram}
 use Rattle.task_read.proofs.Judged.{one_or_not}

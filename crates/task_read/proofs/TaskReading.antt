@@ -11,7 +11,8 @@ use Rattle.bounds_reader.specs.Files.{IsBounds}
 use Rattle.choice_tree.specs.Templates.{Correction}
 use Rattle.eml_reader.specs.RuleFiles.{IsRules}
 use Rattle.input_space.specs.Tasks.{IsTooLarge, Task}
-use Rattle.task_read.specs.Sources.{Typed, entry_at, program_step, rules_step}
+use Rattle.input_space.specs.Tasks.{entry_at}
+use Rattle.task_read.specs.Sources.{Typed, program_step, rules_step}
 use Rattle.task_read.specs.Steps.{refuse_if}
 use Rattle.task_read.specs.TaskSteps.{GiveOneType, at_entry, parts_step, task, task_step}
 use Rattle.task_read.specs.TypedPrograms.{IsTypedProgram}

@@ -5,4 +5,3 @@ pub mod Steps
 pub mod TaskLaws
 pub mod TaskSteps
 pub mod TypedPrograms
-pub mod Views

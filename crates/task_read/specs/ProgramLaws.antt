@@ -3,7 +3,8 @@ use Rattle.std.specs.Prelude.{◌≡◌, ◌⊎◌, ℕ, List}
 use Rattle.mpy_tree.specs.declared.refusal.Cause.{Cause}
 use Rattle.mpy_tree.specs.declared.typing.Fact.{Fact}
 use Rattle.mpy_tree.specs.Syntax.{Routine}
-use Rattle.task_read.specs.TypedPrograms.{Entry, IsTypedProgram, IsProgramRefused}
+use Rattle.mpy_tree.specs.Entries.{Entry}
+use Rattle.task_read.specs.TypedPrograms.{IsTypedProgram, IsProgramRefused}
 
 -- a text spells one typed program at most
 abbrev pub OneTypedProgram : Type 0

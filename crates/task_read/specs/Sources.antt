@@ -1,18 +1,18 @@
 -- The steps that read the sources of a task, each by itself.
-use Rattle.std.specs.Prelude.{◌≡◌, ℕ, List, map}
+use Rattle.std.specs.Prelude.{◌≡◌, ℕ, List}
 use Rattle.mpy_tree.specs.declared.refusal.Cause.{Cause}
 use Rattle.mpy_tree.specs.declared.refusal.Source.{Source}
 use Rattle.mpy_tree.specs.declared.refusal.Source.TheVariants as source
 use Rattle.mpy_tree.specs.declared.refusal.Refusal.{Refusal}
 use Rattle.mpy_tree.specs.declared.typing.Fact.{Fact}
+use Rattle.mpy_tree.specs.Entries.{Entry}
 use Rattle.mpy_tree.specs.Syntax.{Routine}
 use Rattle.bounds_reader.specs.declared.bounds.Bounds.{Bounds}
 use Rattle.bounds_reader.specs.Files.{IsBounds, IsRefused as IsBoundsRefused}
 use Rattle.choice_tree.specs.Templates.{Correction}
 use Rattle.eml_reader.specs.RuleFiles.{IsRules, IsRefused as IsRulesRefused}
-use Rattle.input_space.specs.Inputs.{param_type}
 use Rattle.task_read.specs.Steps.{Step}
-use Rattle.task_read.specs.TypedPrograms.{Entry, IsTypedProgram, IsProgramRefused}
+use Rattle.task_read.specs.TypedPrograms.{IsTypedProgram, IsProgramRefused}
 
 abbrev pub refusal : Source → Cause → ℕ → Refusal
 refusal s cause line = record { source = s; cause = cause; line = line }
@@ -27,10 +27,6 @@ bounds_step text = record {
   gives = IsBounds text;
   refuses = IsOf source.Bounds (IsBoundsRefused text);
 }
-
--- the function that a run within the bounds enters
-abbrev pub entry_at : Bounds → Entry
-entry_at b = record { name = b.entry; types = map param_type b.params }
 
 -- a program, and the types of its names and results
 pub record Typed : Type 0 where

@@ -10,7 +10,8 @@ use Rattle.eml_faults.specs.LimitFaults.{limit_fault}
 use Rattle.eml_faults.specs.MeaningFaults.{meaning_fault}
 use Rattle.input_space.specs.ProperRules.{AreProperRules}
 use Rattle.input_space.specs.Tasks.{IsReady, IsTooLarge, Task, entry_line, result_type}
-use Rattle.task_read.specs.Sources.{Typed, bounds_step, entry_at, program_step, refusal}
+use Rattle.input_space.specs.Tasks.{entry_at}
+use Rattle.task_read.specs.Sources.{Typed, bounds_step, program_step, refusal}
 use Rattle.task_read.specs.Sources.{rules_step}
 use Rattle.task_read.specs.Steps.{Step, ◌>>=◌, done, refuse_if}
 

@@ -1,5 +1,4 @@
--- Which typed program a text spells, where the run enters a function with arguments of given types,
--- and which texts are refused.
+-- Which typed program a text spells that a run enters so, and which texts are refused.
 use Rattle.std.specs.Prelude.{◌≡◌, ◌⊎◌, ℕ, List, [], Some}
 use Rattle.mpy_tree.specs.declared.refusal.Cause.{Cause}
 use Rattle.mpy_tree.specs.declared.refusal.Cause.TheVariants as cause
@@ -7,17 +6,13 @@ use Rattle.mpy_tree.specs.declared.typing.Ty.{Ty}
 use Rattle.mpy_tree.specs.declared.typing.Fact.{Fact}
 use Rattle.mpy_tree.specs.declared.typing.TypeError.{TypeError}
 use Rattle.mpy_tree.specs.declared.typing.TypeError.TheVariants.{Fault, Conflict}
+use Rattle.mpy_tree.specs.Entries.{Entry}
 use Rattle.mpy_tree.specs.Syntax.{Routine}
 use Rattle.mpy_tree.specs.Leasts.{least}
 use Rattle.mpy_tree.specs.Rules.{single}
 use Rattle.mpy_tree.specs.Sharing.{shared}
 use Rattle.mpy_tree.specs.Typings.{IsTyping, IsFirstFault, IsEarlyFault, set_of}
 use Rattle.mpy_parser.specs.Programs.{IsProgram, IsRefused}
-
--- the function that a run enters, and the types of its parameters
-pub record Entry : Type 0 where
-  pub name : List ℕ
-  pub types : List Ty
 
 -- the lines of the statements by which two names could share a list
 abbrev pub shared_lines : List Fact → List Routine → List ℕ
@@ -27,12 +22,12 @@ shared_lines T p = shared (single (set_of T)) p
 pub record IsTypedProgram (bytes : List ℕ) (e : Entry) (p : List Routine) (T : List Fact)
     : Type 0 where
   pub read : IsProgram bytes p
-  pub typing : IsTyping T p e.name e.types
+  pub typing : IsTyping T p e
   pub unshared : shared_lines T p ≡ []
 
 -- the first fault of the names and types of a program
 abbrev pub IsFaultOf : TypeError → List Routine → Entry → Type 0
-IsFaultOf f p e = IsEarlyFault f p e.name e.types ⊎ IsFirstFault f p e.name e.types
+IsFaultOf f p e = IsEarlyFault f p e ⊎ IsFirstFault f p e
 
 -- the least line of a statement that shares a list
 abbrev pub IsSharedOn : List Fact → List Routine → Cause → ℕ → Type 0
@@ -59,6 +54,6 @@ pub data IsProgramRefused (bytes : List ℕ) (e : Entry) : Cause → ℕ → Typ
       → IsProgramRefused bytes e c line
   by_sharing : (p : List Routine) (T : List Fact) (c : Cause) (line : ℕ)
       → IsProgram bytes p
-      → IsTyping T p e.name e.types
+      → IsTyping T p e
       → IsSharedOn T p c line
       → IsProgramRefused bytes e c line

@@ -2,16 +2,17 @@
 ghost use Rattle.std.specs.Prelude.{◌≡◌, ◌≤◌, ℕ, List, [], length, IfErr, IfOk, OnOk};
 ghost use Rattle.mpy_tree.specs.declared.refusal.Cause.{Cause as AnyCause};
 ghost use Rattle.mpy_tree.specs.declared.typing.Fact.{Fact as AnyFact};
+ghost use Rattle.mpy_tree.specs.Entries.{entry_of};
 ghost use Rattle.mpy_tree.specs.Syntax.{Routine};
 ghost use Rattle.mpy_tree.specs.View.{routines_of};
 ghost use Rattle.mpy_tree.specs.Typings.{IsTyping};
 ghost use Rattle.mpy_parser.specs.Programs.{IsProgram, IsRefused};
 ghost use Rattle.task_read.specs.Errors.{IsGiven, IsRefusal, RefusesBy};
 ghost use Rattle.task_read.specs.declared.error.TaskError.TheVariants as task_error;
-ghost use Rattle.task_read.specs.Sources.{entry_at, refusal};
+ghost use Rattle.input_space.specs.Tasks.{entry_at};
+ghost use Rattle.task_read.specs.Sources.{refusal};
 ghost use Rattle.task_read.specs.TypedPrograms.{IsProgramRefused, IsSharedOn, IsTypedProgram};
 ghost use Rattle.task_read.specs.TypedPrograms.{IsTypingRefused, shared_lines};
-ghost use Rattle.task_read.specs.Views.{entry_of};
 
 use crate::error::TaskError;
 use bounds_reader::Bounds;
@@ -58,7 +59,7 @@ impl Reader<'_> {
     // The typing of a program.
     fn check(&self, p: &Prog) -> Result<Types, TaskError>
         ensures typing { IfOk result (λ t. IsTyping t.facts (routines_of p.now)
-            self.now.signature.now.entry self.now.signature.now.params) }
+            (entry_of self.now.signature.now)) }
         ensures refused { IfErr result (RefusesBy self.now.source (IsTypingRefused
             (routines_of p.now) (entry_of self.now.signature.now))) }
     {

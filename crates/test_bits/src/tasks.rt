@@ -21,8 +21,9 @@ pub struct Texts {
 
 /// A product; a `while` that may make too many turns; a `for` over a list with an `if`; a `for`
 /// over a text; calls, one of them of itself; a `while` with `break` and `continue`; changed
-/// elements and builtins; and slices of a text in a choice of which one arm may have a fault.
-pub const TASKS: [Texts; 8] = [
+/// elements and builtins; slices of a text in a choice of which one arm may have a fault; and a
+/// `print` that has a fault for one input, or with another operator for none.
+pub const TASKS: [Texts; 9] = [
     Texts {
         bounds: "width 5\nturns 1\ndepth 1\ncap 1\nentry square\nparam n int 3..4\n",
         reference: "def square(n):\n    return n * n\n",
@@ -106,6 +107,12 @@ pub const TASKS: [Texts; 8] = [
                      if i < len(s) and s[i] == 'c' or i == 2 or s[i] == 'b' \
                      else s * i + s[0]\n",
         rules: "rule a: 'c' => {'a', ''}\nrule turn: $a[$v:] => $a[1:$v]\n",
+    },
+    Texts {
+        bounds: "width 6\nturns 1\ndepth 1\ncap 1\nentry f\nparam x int 0..3\n",
+        reference: "def f(x):\n    return x + 1\n",
+        submission: "def f(x):\n    print(6 // x)\n    return x + 1\n",
+        rules: "rule safe: $n // $a => {$n, $n % $a}\n",
     },
 ];
 

@@ -10,7 +10,7 @@ use Rattle.choice_tree.specs.WeightedTrees.{base_of, lifted}
 use Rattle.typed_programs.proofs.TypingFacts.{are_types}
 use Rattle.typed_trees.specs.Wholes.{IsWholeSide}
 use Rattle.input_space.specs.Inputs.{param_type}
-use Rattle.input_space.specs.Tasks.{Task}
+use Rattle.input_space.specs.Tasks.{Task, entry_at}
 use Rattle.sym_values.specs.declared.value.SymOutcome.{SymOutcome}
 use Rattle.sym_values.specs.declared.value.SymValue.{SymValue}
 use Rattle.sym_values.specs.Forms.{form_for}
@@ -31,7 +31,7 @@ pub program_typed : (b : Bounds) (t : Typed) (w : WProg) → IsTypedFor b t
 program_typed b t w typing e =
     rewritten_typed [] t.types.facts (program_of t) b.entry (map param_type b.params) w
     (All-nil (λ r. IsWholeSide r.right))
-    (are_types t.types.facts (program_of t) b.entry (map param_type b.params) typing)
+    (are_types t.types.facts (program_of t) (entry_at b) typing)
     (e ∙ sym (without_rules (program_of t) t.types.facts))
 
 -- a task of a program alone

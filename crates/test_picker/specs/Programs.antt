@@ -7,8 +7,7 @@ use Rattle.mpy_tree.specs.View.{routines_of}
 use Rattle.bounds_reader.specs.declared.bounds.Bounds.{Bounds}
 use Rattle.input_space.specs.declared.case.Case.{Case}
 use Rattle.mpy_tree.specs.declared.value.Value.{Value}
-use Rattle.input_space.specs.Inputs.{param_type}
-use Rattle.input_space.specs.Tasks.{result_type}
+use Rattle.input_space.specs.Tasks.{entry_at, result_type}
 use Rattle.test_picker.specs.declared.typed_list.Typed.{Typed}
 
 abbrev pub program_of : Typed → List Routine
@@ -19,7 +18,7 @@ programs_of = map program_of
 
 -- the types are the program's typing, where a run within the bounds enters it
 abbrev pub IsTypedFor : Bounds → Typed → Type 0
-IsTypedFor b t = IsTyping t.types.facts (program_of t) b.entry (map param_type b.params)
+IsTypedFor b t = IsTyping t.types.facts (program_of t) (entry_at b)
 
 -- the type of what its entry gives
 abbrev pub gives_type : Bounds → Typed → Option Ty

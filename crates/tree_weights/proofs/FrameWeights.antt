@@ -43,23 +43,15 @@ pub entered : (p : TypedProgram) (f : List ℕ) (levels : ℕ) (g : Found) (inne
     → inner.program ≡ p → inner.number ≡ g.number → levels ≡ suc inner.levels
     → Some (found_seen g) ≡ function_of (functions_in p) f
     → weight_in inner (weighted_func g.func.now)
-    ≡ levels_weight p.limits.now p.facts.facts.now (functions_in p) levels f
+    ≡ levels_weight p.limits.now p.facts.facts.now (functions_in p) p.entry levels f
 entered p f levels g inner same number deeper found =
     (λ i. weight (same i).limits.now (scope_in (same i) (number i))
     (levels_weight (same i).limits.now (same i).facts.facts.now (functions_in (same i))
-    inner.levels) (weighted_func g.func.now))
-    ∙ ap (function_weight p.limits.now p.facts.facts.now (functions_in p)
-    (levels_weight p.limits.now p.facts.facts.now (functions_in p) inner.levels)) found
-    ∙ ap (λ n. levels_weight p.limits.now p.facts.facts.now (functions_in p) n f) (sym deeper)
-
--- where no function has the name
-pub none_entered : (p : TypedProgram) (f : List ℕ) (levels n : ℕ) → levels ≡ suc n
-    → None ≡ function_of (functions_in p) f
-    → 0 ≡ levels_weight p.limits.now p.facts.facts.now (functions_in p) levels f
-none_entered p f levels n deeper none =
-    ap (function_weight p.limits.now p.facts.facts.now (functions_in p)
-    (levels_weight p.limits.now p.facts.facts.now (functions_in p) n)) none
-    ∙ ap (λ m. levels_weight p.limits.now p.facts.facts.now (functions_in p) m f) (sym deeper)
+    (same i).entry inner.levels) (weighted_func g.func.now))
+    ∙ ap (function_weight p.limits.now p.facts.facts.now (functions_in p) p.entry
+    (levels_weight p.limits.now p.facts.facts.now (functions_in p) p.entry inner.levels)) found
+    ∙ ap (λ n. levels_weight p.limits.now p.facts.facts.now (functions_in p) p.entry n f)
+    (sym deeper)
 
 -- a function that was found has no more nodes than all
 pub found_within : (f : Frame) (x : List ℕ) (g : Found)

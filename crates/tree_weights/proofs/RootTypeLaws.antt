@@ -149,7 +149,7 @@ negative_is : (a t : Ty) → negative_type a ≡ Some t → Some ty.Int ≡ Some
 negative_is ty.Int t h = h
 negative_is _ t h = cc
 
-module _ (facts : List Fact) (p : List Routine) (w : WProg) (i : ℕ) where
+module _ (facts : List Fact) (p : List Routine) (w : WProg) (entry i : ℕ) where
   abbrev given : Option Callee → Option Ty
   given None = None
   given (Some g) = single (set_of facts) g.number slot.Result
@@ -169,7 +169,8 @@ module _ (facts : List Fact) (p : List Routine) (w : WProg) (i : ℕ) where
   same_result : (rs : List Routine) (fs : List WFunc) (f : List ℕ) (n : ℕ)
       → routine_shapes rs ≡ bases_of (weighteds (map weighted_func fs))
       → given (called_from rs f n)
-      ≡ result_type (weighted_scope facts w i) (function_from (weighteds (map weighted_func fs)) f n)
+      ≡ result_type (weighted_scope facts w entry i)
+      (function_from (weighteds (map weighted_func fs)) f n)
   same_result [] [] f n h = refl
   same_result [] (x ∷ fs) f n h = cc
   same_result (r ∷ rs) [] f n h = cc
@@ -181,10 +182,10 @@ module _ (facts : List Fact) (p : List Routine) (w : WProg) (i : ℕ) where
     where
       by_name : (a b : Bool) → a ≡ b
           → given (called_from rs f (n + 1))
-          ≡ result_type (weighted_scope facts w i)
+          ≡ result_type (weighted_scope facts w entry i)
           (function_from (weighteds (map weighted_func fs)) f (n + 1))
           → given (if a then Some (callee n r) else called_from rs f (n + 1))
-          ≡ result_type (weighted_scope facts w i)
+          ≡ result_type (weighted_scope facts w entry i)
           (if b then Some (function n (weighted_func x))
           else function_from (weighteds (map weighted_func fs)) f (n + 1))
       by_name true true e rest = refl
@@ -194,7 +195,7 @@ module _ (facts : List Fact) (p : List Routine) (w : WProg) (i : ℕ) where
 
   -- an operator, by the types of its operands
   op_gives : (op : ArithOp) (a b t : Ty) (o : Option Ty) → o ≡ Some a → arith_type op a b ≡ Some t
-      → root_type (weighted_scope facts w i) (kind.Arith op) o ≡ Some t
+      → root_type (weighted_scope facts w entry i) (kind.Arith op) o ≡ Some t
   op_gives arith.Add a b t o e h = e ∙ sum_first a b t h
   op_gives arith.Mul a b t o e h = e ∙ product_first a b t h
   op_gives _ a b t o e h = both_give ty.Int a b t h
@@ -202,7 +203,7 @@ module _ (facts : List Fact) (p : List Routine) (w : WProg) (i : ℕ) where
   module _ (same : program_shape p ≡ base_of (weighted_prog w)) where
     by_root : (k : Kind) (os : List (Option Ty)) (o : Option Ty) (t : Ty) → FirstIs os o
         → node_type (plain_scope facts p i) k os ≡ Some t
-        → root_type (weighted_scope facts w i) k o ≡ Some t
+        → root_type (weighted_scope facts w entry i) k o ≡ Some t
     by_root (kind.Int n) os o t first h = h
     by_root (kind.Bool b) os o t first h = h
     by_root (kind.Text cs) os o t first h = h
@@ -235,23 +236,23 @@ module _ (facts : List Fact) (p : List Routine) (w : WProg) (i : ℕ) where
     by_root (kind.Call f) os o t first h =
         let shapes : routine_shapes p ≡ bases_of (functions_of w) = cc in
         call_gives (single (set_of facts) i (slot.Local f)) (builtin_of f) (called p f) os
-        (result_type (weighted_scope facts w i) (function_of (functions_of w) f)) t
+        (result_type (weighted_scope facts w entry i) (function_of (functions_of w) f)) t
         (same_result p w.funcs.items.items f 0 shapes) h
     by_root _ os o t first h = cc
 
     mutual
       typed : (e : Weighted) (t : Ty) → type_of (plain_scope facts p i) (base_of e) ≡ Some t
-          → type_at (weighted_scope facts w i) e ≡ Some t
+          → type_at (weighted_scope facts w entry i) e ≡ Some t
       typed (plainly k ws) t h =
           by_root k (types_of (plain_scope facts p i) (bases_of ws))
-          (first_type (weighted_scope facts w i) ws) t (first_typed ws) h
+          (first_type (weighted_scope facts w entry i) ws) t (first_typed ws) h
       typed (pick number base os) t h = typed base t h
 
       first_typed : (ws : Weighteds) → FirstIs (types_of (plain_scope facts p i) (bases_of ws))
-          (first_type (weighted_scope facts w i) ws)
+          (first_type (weighted_scope facts w entry i) ws)
       first_typed no_weighted = tt
       first_typed (weighted_and e ws) = λ t h. typed e t h
 
     pub root_typed : (e : Weighted) (t : Ty) → type_of (plain_scope facts p i) (base_of e) ≡ Some t
-        → type_at (weighted_scope facts w i) e ≡ Some t
+        → type_at (weighted_scope facts w entry i) e ≡ Some t
     root_typed e t h = typed e t h

@@ -25,10 +25,12 @@ wide =
       turns = 4;
       depth = 2;
       cap = 4;
+      prints = 0;
       width_range = (lit≤ tt, lit≤ tt);
       turns_range = (lit≤ tt, lit≤ tt);
       depth_range = (lit≤ tt, lit≤ tt);
       cap_range = (lit≤ tt, lit≤ tt);
+      prints_range = lit≤ tt;
     }
 
 abbrev deep : Limits
@@ -38,10 +40,12 @@ deep =
       turns = 3;
       depth = 3;
       cap = 4;
+      prints = 0;
       width_range = (lit≤ tt, lit≤ tt);
       turns_range = (lit≤ tt, lit≤ tt);
       depth_range = (lit≤ tt, lit≤ tt);
       cap_range = (lit≤ tt, lit≤ tt);
+      prints_range = lit≤ tt;
     }
 
 abbrev narrow : Limits
@@ -51,10 +55,12 @@ narrow =
       turns = 2;
       depth = 2;
       cap = 3;
+      prints = 0;
       width_range = (lit≤ tt, lit≤ tt);
       turns_range = (lit≤ tt, lit≤ tt);
       depth_range = (lit≤ tt, lit≤ tt);
       cap_range = (lit≤ tt, lit≤ tt);
+      prints_range = lit≤ tt;
     }
 
 abbrev fact : ℕ → Slot → Ty → Fact
@@ -84,6 +90,55 @@ number_facts = fact 0 (local (codes "x")) ty.Int ∷ fact 0 Result ty.Int ∷ []
 -- the statement 2 * (6 + 1), the sum 8 * 6, and its operands
 sum_weight : program_weight wide number_facts f (lifted (program_shape one_sum)) ≡ 64
 sum_weight = refl
+
+-- def f(x): print(x)
+abbrev one_print : List Routine
+one_print = routine f (codes "x" ∷ []) (step (at 2 (ast.Print x)) end) ∷ []
+
+-- a print weighs as any statement, 2 * (6 + 1), and what is printed
+print_weight : program_weight wide number_facts f (lifted (program_shape one_print)) ≡ 15
+print_weight = refl
+
+-- two printed values are kept
+abbrev keeping : Limits
+keeping =
+    record {
+      width = 6;
+      turns = 4;
+      depth = 2;
+      cap = 4;
+      prints = 2;
+      width_range = (lit≤ tt, lit≤ tt);
+      turns_range = (lit≤ tt, lit≤ tt);
+      depth_range = (lit≤ tt, lit≤ tt);
+      cap_range = (lit≤ tt, lit≤ tt);
+      prints_range = lit≤ tt;
+    }
+
+-- They have 5 + 2 * (2 + 33) = 75 bits. A statement of the entry has these too, 2 * (7 + 75), and a
+-- print adds a value to them, 4 * 75.
+kept_weight : program_weight keeping number_facts f (lifted (program_shape one_print)) ≡ 465
+kept_weight = refl
+
+-- def f(x): return g(x)
+-- def g(x):
+--     print(x)
+--     return x
+abbrev printing_below : List Routine
+printing_below =
+    routine f (codes "x" ∷ [])
+    (step (at 2 (ast.Return (a_term (ast.Call (codes "g") (term_and x no_terms))))) end)
+    ∷ routine (codes "g") (codes "x" ∷ [])
+    (step (at 4 (ast.Print x)) (step (at 5 (ast.Return (a_term x))) end)) ∷ []
+
+abbrev below_facts : List Fact
+below_facts =
+    fact 0 (local (codes "x")) ty.Int ∷ fact 0 Result ty.Int ∷ fact 1 (local (codes "x")) ty.Int
+    ∷ fact 1 Result ty.Int ∷ []
+
+-- what a called function prints isn't kept: its statements weigh 2 * 7 each
+below_weight : program_weight keeping below_facts f (lifted (program_shape printing_below)) ≡ 196
+below_weight = refl
 
 -- def f(x): return x, with a pick of x and x + 1
 abbrev one_pick : Weighted

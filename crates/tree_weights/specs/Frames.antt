@@ -13,7 +13,8 @@ scope_of f = scope_in f.program f.number
 -- what the functions weigh that are called there
 abbrev pub bodies_of : Frame → Bodies
 bodies_of f =
-    levels_weight f.program.limits.now f.program.facts.facts.now (functions_in f.program) f.levels
+    levels_weight f.program.limits.now f.program.facts.facts.now (functions_in f.program)
+    f.program.entry f.levels
 
 abbrev pub weight_in : Frame → Weighted → ℕ
 weight_in f w = weight f.program.limits.now (scope_of f) (bodies_of f) w

@@ -19,10 +19,12 @@ use Rattle.choice_tree.specs.WeightedTrees.{Weighted, Weighteds, plainly, pick, 
 use Rattle.choice_tree.specs.WeightedTrees.{weighted_and}
 use Rattle.tree_weights.specs.Functions.{Function, function_of}
 
--- a function, by its number, of a weighted program whose names have these types
+-- a function, by its number, of a weighted program whose names have these types, and the number of
+-- the function that a run enters
 pub record WeightedScope : Type 0 where
   pub facts : List Fact
   pub functions : Weighteds
+  pub entry : ℕ
   pub number : ℕ
 
 abbrev pub slot_type : WeightedScope → Slot → Option Ty

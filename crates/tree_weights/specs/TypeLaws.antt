@@ -19,11 +19,13 @@ functions_of w = weighteds (map weighted_func w.funcs.items.items)
 abbrev pub plain_scope : List Fact → List Routine → ℕ → Scope
 plain_scope facts p i = record { slots = single (set_of facts); program = p; number = i }
 
-abbrev pub weighted_scope : List Fact → WProg → ℕ → WeightedScope
-weighted_scope facts w i = record { facts = facts; functions = functions_of w; number = i }
+abbrev pub weighted_scope : List Fact → WProg → ℕ → ℕ → WeightedScope
+weighted_scope facts w entry i =
+    record { facts = facts; functions = functions_of w; entry = entry; number = i }
 
 -- The type of an expression whose base keeps the rules is read off its root.
 abbrev pub RootsHaveTypes : List Fact → List Routine → WProg → Type 0
 RootsHaveTypes facts p w =
-    (i : ℕ) (e : Weighted) (t : Ty) → type_of (plain_scope facts p i) (base_of e) ≡ Some t
-    → type_at (weighted_scope facts w i) e ≡ Some t
+    (entry i : ℕ) (e : Weighted) (t : Ty)
+    → type_of (plain_scope facts p i) (base_of e) ≡ Some t
+    → type_at (weighted_scope facts w entry i) e ≡ Some t

@@ -12,7 +12,13 @@ abbrev pub functions_in : TypedProgram → Weighteds
 functions_in p = weighteds (map weighted_func p.funcs.now)
 
 abbrev pub scope_in : TypedProgram → ℕ → WeightedScope
-scope_in p i = record { facts = p.facts.facts.now; functions = functions_in p; number = i }
+scope_in p i =
+    record {
+      facts = p.facts.facts.now;
+      functions = functions_in p;
+      entry = p.entry;
+      number = i;
+    }
 
 abbrev pub found_seen : Found → Function
 found_seen f = function f.number (weighted_func f.func.now)

@@ -1,6 +1,6 @@
 -- The weight of a weighted program: an estimate of how large a formula for all its runs becomes.
 use Rattle.std.specs.Prelude.{ℕ, zero, suc, ◌+◌, ◌*◌, ◌^◌, ◌==◌, ◌&&◌, not, Bool, true, false}
-use Rattle.std.specs.Prelude.{if◌then◌else◌, List, [], ◌∷◌, sum, Option, Some, None}
+use Rattle.std.specs.Prelude.{if◌then◌else◌, List, [], ◌∷◌, sum, max, Option, Some, None}
 use Rattle.std.specs.List.{list_any}
 use Rattle.mpy_tree.specs.declared.builtins.Builtin.{Builtin}
 use Rattle.mpy_tree.specs.declared.builtins.Builtin.TheVariants as builtin
@@ -99,9 +99,19 @@ locals_weight l i [] = 0
 locals_weight l i (f ∷ fs) =
     (if is_local_of i f fs then bits l f.ty + 1 else 0) + locals_weight l i fs
 
--- a statement
+-- the bits of the printed values that are kept: their number, and for each its type and its value
+abbrev pub kept_bits : Limits → ℕ
+kept_bits l =
+    if l.prints == 0 then 0
+    else 5 + l.prints * (2 + max (bits l ty.List) (bits l ty.Text))
+
+-- those that a function keeps: the entry alone keeps what it prints
+abbrev pub printed_bits : Limits → WeightedScope → ℕ
+printed_bits l σ = if σ.number == σ.entry then kept_bits l else 0
+
+-- a statement, whose outcome has the locals of its function and what was printed
 abbrev pub statement_weight : Limits → WeightedScope → ℕ
-statement_weight l σ = 2 * locals_weight l σ.number σ.facts
+statement_weight l σ = 2 * (locals_weight l σ.number σ.facts + printed_bits l σ)
 
 -- a node itself, before these parts
 abbrev pub own_weight : Limits → WeightedScope → Kind → Weighteds → ℕ
@@ -120,15 +130,25 @@ own_weight l σ kind.Cond ws = 4 * bits_of l (first_type σ ws)
 own_weight l σ kind.Index ws = 4 * bits_of l (first_type σ ws)
 own_weight l σ (kind.Slice from to) ws = 4 * (l.cap * bits_of l (first_type σ ws))
 own_weight l σ (kind.Call f) ws = call_weight l (builtin_of f)
+own_weight l σ (kind.Assign line x) ws = statement_weight l σ
 own_weight l σ (kind.Augment line x op) ws =
     statement_weight l σ + arith_weight l op (slot_type σ (slot.Local x))
+own_weight l σ (kind.Put line x) ws = statement_weight l σ
 own_weight l σ (kind.AugmentAt line x op) ws =
     statement_weight l σ + arith_weight l op (Some ty.Int)
+own_weight l σ (kind.Append line x) ws = statement_weight l σ
+own_weight l σ (kind.Print line) ws = statement_weight l σ + 4 * printed_bits l σ
+own_weight l σ (kind.Return line) ws = statement_weight l σ
+own_weight l σ (kind.Pass line) ws = statement_weight l σ
+own_weight l σ (kind.Break line) ws = statement_weight l σ
+own_weight l σ (kind.Continue line) ws = statement_weight l σ
+own_weight l σ (kind.If line) ws = statement_weight l σ
 own_weight l σ (kind.Arm line) ws = 0
+own_weight l σ (kind.While line) ws = statement_weight l σ
+own_weight l σ (kind.For line x) ws = statement_weight l σ
 own_weight l σ kind.Block ws = 0
 own_weight l σ (kind.Function line f params) ws = 0
 own_weight l σ kind.Program ws = 0
-own_weight l σ _ ws = statement_weight l σ
 
 -- the weights of the functions, by name, where a node stands
 abbrev pub Bodies : Type 0
@@ -163,18 +183,27 @@ abbrev mutual
   other_weights l σ bodies (other_and rule cost w os) =
       weight l σ bodies w + other_weights l σ bodies os
 
-abbrev pub function_weight : Limits → List Fact → Weighteds → Bodies → Option Function → ℕ
-function_weight l facts fs bodies None = 0
-function_weight l facts fs bodies (Some g) =
-    weight l (record { facts = facts; functions = fs; number = g.number }) bodies g.tree
+abbrev pub function_weight :
+    Limits → List Fact → Weighteds → ℕ → Bodies → Option Function → ℕ
+function_weight l facts fs entry bodies None = 0
+function_weight l facts fs entry bodies (Some g) =
+    weight l (record { facts = facts; functions = fs; entry = entry; number = g.number }) bodies
+    g.tree
 
--- the weight of a function's body, where calls may go so many levels deep from its call on
-abbrev pub levels_weight : Limits → List Fact → Weighteds → ℕ → Bodies
-levels_weight l facts fs zero f = 0
-levels_weight l facts fs (suc levels) f =
-    function_weight l facts fs (levels_weight l facts fs levels) (function_of fs f)
+-- the weight of a function's body, where calls may go so many levels deep from its call on, in a
+-- run that enters the function of the number `entry`
+abbrev pub levels_weight : Limits → List Fact → Weighteds → ℕ → ℕ → Bodies
+levels_weight l facts fs entry zero f = 0
+levels_weight l facts fs entry (suc levels) f =
+    function_weight l facts fs entry (levels_weight l facts fs entry levels) (function_of fs f)
+
+-- that of the function that is entered, if there is one
+abbrev pub entered_weight : Limits → List Fact → Weighteds → List ℕ → Option Function → ℕ
+entered_weight l facts fs f None = 0
+entered_weight l facts fs f (Some g) = levels_weight l facts fs g.number l.depth f
 
 -- the weight of a program that is entered at a function
 abbrev pub program_weight : Limits → List Fact → List ℕ → Weighted → ℕ
-program_weight l facts entry (plainly kind.Program fs) = levels_weight l facts fs l.depth entry
+program_weight l facts entry (plainly kind.Program fs) =
+    entered_weight l facts fs entry (function_of fs entry)
 program_weight l facts entry _ = 0

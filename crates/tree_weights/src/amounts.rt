@@ -2,7 +2,7 @@
 ghost use Rattle.std.specs.Prelude.{◌≡◌, ◌≤◌};
 ghost use Rattle.mpy_tree.specs.Builtins.{builtin_of};
 ghost use Rattle.tree_weights.specs.Weights.{arith_weight, bits, bits_of, builtin_weight};
-ghost use Rattle.tree_weights.specs.Weights.{call_weight, compare_weight, member_weight};
+ghost use Rattle.tree_weights.specs.Weights.{call_weight, compare_weight, kept_bits, member_weight};
 
 use mpy_tree::{ArithOp, Builtin, CmpOp, Limits, Name, Ty};
 
@@ -30,6 +30,18 @@ pub fn bits_of(l: &Limits, ty: Option<Ty>) -> u128
         None => 0,
         Some(ty) => bits(l, ty),
     }
+}
+
+/// How many bits the printed values have that are kept.
+pub fn kept_bits(l: &Limits) -> u128
+    ensures bits { result ≡ kept_bits l.now }
+    ensures small { result ≤ 4096 }
+{
+    if l.prints == 0 {
+        return 0;
+    }
+    let value = bits(l, Ty::List).max(bits(l, Ty::Text));
+    5 + l.prints as u128 * (2 + value)
 }
 
 /// An operator, by the type of its first operand.

@@ -1,6 +1,7 @@
 //! Functions whose bodies are weighed.
-ghost use Rattle.std.specs.Prelude.{◌≡◌, ◌*◌, ◌≤◌, ◌^◌};
-ghost use Rattle.tree_weights.specs.Weights.{locals_weight};
+ghost use Rattle.std.specs.Prelude.{◌≡◌, ◌≤◌, ◌^◌};
+ghost use Rattle.tree_weights.specs.Views.{scope_in};
+ghost use Rattle.tree_weights.specs.Weights.{statement_weight};
 
 use crate::locals::locals_weight;
 use crate::program::TypedProgram;
@@ -13,7 +14,7 @@ pub struct Frame<'a> {
     pub number: usize,
     pub levels: u32,
     pub step: u128,
-    ghost step_is: { step ≡ 2 * locals_weight program.limits.now number program.facts.facts.now },
+    ghost step_is: { step ≡ statement_weight program.limits.now (scope_in program number) },
     ghost step_small: { step ≤ 2 ^ 80 },
 }
 
@@ -24,7 +25,8 @@ impl<'a> Frame<'a> {
         ensures number { result.number ≡ number }
         ensures levels { result.levels ≡ levels }
     {
-        let step = 2 * locals_weight(program.limits, number, program.facts.facts);
+        let locals = locals_weight(program.limits, number, program.facts.facts);
+        let step = 2 * (locals + program.printed_bits(number));
         Frame {
             program,
             number,

@@ -88,6 +88,7 @@ fn lift_act(alloc: Global, act: &Act, line: u32) -> Result<WAct, NoMemory>
             Ok(WAct::AugmentAt(name, i, *op, e))
         }
         Act::Append(x, e) => Ok(WAct::Append(x.copy()?, lift_expr(alloc, e)?)),
+        Act::Print(e) => Ok(WAct::Print(lift_expr(alloc, e)?)),
         Act::Return(e) => Ok(WAct::Return(lift_maybe(alloc, e)?)),
         Act::Pass => Ok(WAct::Pass),
         Act::Break => Ok(WAct::Break),

@@ -4,7 +4,7 @@ ghost use Rattle.choice_tree.specs.StatementViews.{weighted_prog};
 ghost use Rattle.tree_weights.specs.Weights.{program_weight};
 
 use crate::frame::Frame;
-use crate::program::TypedProgram;
+use crate::program::{TypedProgram, find_function};
 use choice_tree::{Node, WProg};
 use mpy_tree::{Limits, Name, Types};
 use mpy_types::FactList;
@@ -18,16 +18,18 @@ pub fn weight(w: &WProg, t: &Types, l: &Limits, entry: &Name) -> u64
     ensures { result ≡ min (program_weight l.now t.now.facts entry.now (weighted_prog w.now))
         1000001 }
 {
-    let program = TypedProgram {
-        funcs: w.funcs.items.as_slice(),
-        facts: FactList {
-            facts: t.facts.items(),
-        },
-        limits: l,
-    };
-    match program.find(entry) {
+    let funcs = w.funcs.items.as_slice();
+    match find_function(funcs, entry) {
         None => 0,
         Some(found) => {
+            let program = TypedProgram {
+                funcs,
+                entry: found.number,
+                facts: FactList {
+                    facts: t.facts.items(),
+                },
+                limits: l,
+            };
             let frame = Frame::new(program, found.number, l.depth - 1);
             STOP - frame.after(Node::Func(found.func), STOP)
         }

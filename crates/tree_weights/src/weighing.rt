@@ -118,7 +118,17 @@ impl Frame<'_> {
                 self.step + arith_weight(limits, *op, ty)
             }
             WAct::AugmentAt(_, _, op, _) => self.step + arith_weight(limits, *op, Some(Ty::Int)),
-            _ => self.step,
+            WAct::Print(_) => self.step + 4 * self.program.printed_bits(self.number),
+            WAct::Assign(_, _)
+            | WAct::Put(_, _, _)
+            | WAct::Append(_, _)
+            | WAct::Return(_)
+            | WAct::Pass
+            | WAct::Break
+            | WAct::Continue
+            | WAct::If(_, _)
+            | WAct::While(_, _)
+            | WAct::For(_, _, _) => self.step,
         }
     }
 

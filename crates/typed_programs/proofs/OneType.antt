@@ -57,7 +57,7 @@ is_one ty.List ty.List h = refl
 is_one ty.Text ty.Text h = refl
 is_one _ _ h = absurd (cc)
 
-has_one : (t : Ty) → IsTrue (has (just t) t)
+pub has_one : (t : Ty) → IsTrue (has (just t) t)
 has_one ty.Int = refl
 has_one ty.Bool = refl
 has_one ty.List = refl

@@ -19,7 +19,7 @@ use Rattle.mpy_tree.specs.Syntax as ast
 use Rattle.mpy_tree.specs.Values.{◌>>=◌, State, assign, same_bytes, on_line}
 use Rattle.mpy_tree.specs.Operations.{fits, arith, holds, index, put, append, members as members_of_value, numbers, characters}
 use Rattle.mpy_tree.specs.Expressions.{Calls}
-use Rattle.mpy_tree.specs.Statements.{Ran, Next, Broke, Continued, Returned, Failed, given, then_on, then_turn, store, tested, while_turns, for_turns, value_at, local_at, set_by, set_at, set_at_by, run_block, run_action, run_arms, run_else}
+use Rattle.mpy_tree.specs.Statements.{Ran, Next, Broke, Continued, Returned, Failed, given, then_on, then_turn, store, tested, while_turns, for_turns, printed, value_at, local_at, set_by, set_at, set_at_by, run_block, run_action, run_arms, run_else}
 use Rattle.mpy_tree.specs.TypeSets.{just, members, IsWithin}
 use Rattle.mpy_tree.specs.SetTypes.{FactSet, types_in}
 use Rattle.mpy_tree.specs.Sites.{Site, does, sites, inside, in_arms, in_last}
@@ -201,6 +201,12 @@ module _ (l : Limits) (F : FactSet) (p : List Routine) (i : ℕ) (calls : Calls)
       (λ v m. after l line (IsOf l k.1) (IsOf l k.0) (value_at l calls s line e) _ (value_gives s line a e k.1 k.3)
       (λ w n. operated_gives l line op v w k.0 k.1 k.0 m n k.4)))
 
+  -- print(e)
+  print_well : (s : State) (line : ℕ) (e : Term) → Agrees l S i s → IsTrue (is_some (type_in S p i e)) → EndsWell l S i (given (value_at l calls s line e) (printed line s))
+  print_well s line e a h =
+      let t = some_type (type_in S p i e) h in
+      given_well l S i (IsOf l t.0) (value_at l calls s line e) (printed line s) (value_gives s line a e t.0 t.1) (λ v f. a)
+
   -- return e
   give_well : (s : State) (line : ℕ) (e : Term) → Agrees l S i s → IsTrue (is_some (type_in S p i e)) → IsWithin (types_in F p i e) (F i slot.Result) × IsTrue (is_some (S i slot.Result)) → EndsWell l S i (given (value_at l calls s line e) Returned)
   give_well s line e a h k =
@@ -273,6 +279,7 @@ module _ (l : Limits) (F : FactSet) (p : List Routine) (i : ℕ) (calls : Calls)
     action_well (ast.Put x k e) line f h s a = set_at_well s line x k e a f.0
     action_well (ast.AugmentAt x k op e) line f h s a = set_at_by_well s line x k op e a f.0
     action_well (ast.Append x e) line f h s a = append_well s line x e a f.0
+    action_well (ast.Print e) line f h s a = print_well s line e a f.0
     action_well (ast.Return no_term) line f h s a = tt
     action_well (ast.Return (a_term e)) line f h s a = give_well s line e a f.0 f.1.0
     action_well ast.Pass line f h s a = a

@@ -1,10 +1,11 @@
 -- The facts of a typing are about the slots of the program.
-use Rattle.std.proofs.Common.{ℕ, Bool, true, false, ◌||◌, List, [], ◌∷◌, Option, Some, None, IsTrue, refl, sym, subst}
+use Rattle.std.proofs.Common.{Bool, true, false, ◌||◌, List, [], ◌∷◌, Option, Some, None, IsTrue, refl, sym, subst}
 use Rattle.std.specs.List.{All, list_any}
 use Rattle.std.proofs.lemmas.List.Elements.{All-nil, All-cons}
 use Rattle.mpy_tree.specs.declared.typing.Ty.{Ty}
 use Rattle.mpy_tree.specs.declared.typing.Fact.{Fact}
 use Rattle.mpy_tree.specs.Syntax.{Routine}
+use Rattle.mpy_tree.specs.Entries.{Entry}
 use Rattle.mpy_tree.specs.TypeSets.{only}
 use Rattle.mpy_tree.specs.SetTypes.{FactSet, same_place}
 use Rattle.mpy_tree.specs.Faults.{Place, slots, facts_at, facts_with, fact}
@@ -40,8 +41,8 @@ facts_of : (F : FactSet) (p : List Routine) (ss : List Place) → Every (IsAmong
 facts_of F p [] h = All-nil (IsOfSlot p)
 facts_of F p (s ∷ ss) h = fact_of p s (only (F s.func s.slot)) (facts_at F ss) h.0 (facts_of F p ss h.1)
 
-pub are_types : (T : List Fact) (p : List Routine) (entry : List ℕ) (ts : List Ty) → IsTyping T p entry ts → AreTypes T p entry ts
-are_types T p entry ts h =
-    let k = typing_types T p entry ts h in
+pub are_types : (T : List Fact) (p : List Routine) (entry : Entry) → IsTyping T p entry → AreTypes T p entry
+are_types T p entry h =
+    let k = typing_types T p entry h in
     let P : List Fact → Type 0 = λ fs. All (IsOfSlot p) fs in
     record { of_slots = subst P (sym h.facts) (facts_of h.set p (slots p) (all_among (slots p))); closed = k.0.closed; faultless = k.1 }

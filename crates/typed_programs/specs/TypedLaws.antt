@@ -7,6 +7,7 @@ use Rattle.mpy_tree.specs.declared.typing.Ty.{Ty}
 use Rattle.mpy_tree.specs.declared.typing.Fact.{Fact}
 use Rattle.mpy_tree.specs.Syntax.{Term, Block, Routine}
 use Rattle.mpy_tree.specs.Values.{State}
+use Rattle.mpy_tree.specs.Entries.{Entry}
 use Rattle.mpy_tree.specs.Expressions.{Calls, value_of}
 use Rattle.mpy_tree.specs.Statements.{run_block}
 use Rattle.mpy_tree.specs.Running.{bound, calls_below, evaluated}
@@ -39,8 +40,8 @@ TypedStatements =
 -- the statements of a program that facts type are typed
 abbrev pub TypedBodies : Type 0
 TypedBodies =
-    (T : List Fact) (p : List Routine) (entry : List ℕ) (ts : List Ty) (i : ℕ) (r : Routine)
-    → AreTypes T p entry ts → slice_get p i ≡ Some r → All (IsTyped (set_of T) p i) (sites r.body)
+    (T : List Fact) (p : List Routine) (entry : Entry) (i : ℕ) (r : Routine)
+    → AreTypes T p entry → slice_get p i ≡ Some r → All (IsTyped (set_of T) p i) (sites r.body)
 
 -- the parameters are set to arguments that are for them
 abbrev pub TypedParameters : Type 0
@@ -51,17 +52,16 @@ TypedParameters =
 -- the calls of a program that facts type keep the types, at each depth
 abbrev pub TypedCalls : Type 0
 TypedCalls =
-    (l : Limits) (T : List Fact) (p : List Routine) (entry : List ℕ) (ts : List Ty)
-    (depth : ℕ)
-    → AreTypes T p entry ts → KeepTypes (single (set_of T)) l p (calls_below l p depth)
+    (l : Limits) (T : List Fact) (p : List Routine) (entry : Entry) (depth : ℕ)
+    → AreTypes T p entry → KeepTypes (single (set_of T)) l p (calls_below l p depth)
 
 -- A function of such a program, entered with arguments for its parameters, keeps the types of its
 -- locals, and returns a value for its result.
 abbrev pub TypedFunctions : Type 0
 TypedFunctions =
-    (l : Limits) (T : List Fact) (p : List Routine) (entry : List ℕ) (ts : List Ty) (i : ℕ)
-    (r : Routine) (vs : List Value) (depth : ℕ)
-    → AreTypes T p entry ts → slice_get p i ≡ Some r
+    (l : Limits) (T : List Fact) (p : List Routine) (entry : Entry) (i : ℕ) (r : Routine)
+    (vs : List Value) (depth : ℕ)
+    → AreTypes T p entry → slice_get p i ≡ Some r
     → AreFor l (param_slots (single (set_of T)) (callee i r)) vs
     → EndsWell l (single (set_of T)) i
     (run_block l (calls_below l p depth) r.body (bound r.params vs))
@@ -70,22 +70,21 @@ TypedFunctions =
 -- of the entry's result that fits, or a fault.
 abbrev pub TypedPrograms : Type 0
 TypedPrograms =
-    (l : Limits) (T : List Fact) (p : List Routine) (entry : List ℕ) (ts : List Ty)
-    (vs : List Value)
-    → AreTypes T p entry ts → all_fit_as l ts vs ≡ true
-    → Gives (IsFor l (result_slot (single (set_of T)) (called p entry))) (evaluated l p entry vs)
+    (l : Limits) (T : List Fact) (p : List Routine) (entry : Entry) (vs : List Value)
+    → AreTypes T p entry → all_fit_as l entry.types vs ≡ true
+    → Gives (IsFor l (result_slot (single (set_of T)) (called p entry.name)))
+    (evaluated l p entry.name vs)
 
 -- The run is the same where each call is stuck unless its arguments have the types of the
 -- parameters and fit.
 abbrev pub TypedArguments : Type 0
 TypedArguments =
-    (l : Limits) (T : List Fact) (p : List Routine) (entry : List ℕ) (ts : List Ty)
-    (vs : List Value)
-    → AreTypes T p entry ts → all_fit_as l ts vs ≡ true
-    → checked_run l (single (set_of T)) p entry vs ≡ evaluated l p entry vs
+    (l : Limits) (T : List Fact) (p : List Routine) (entry : Entry) (vs : List Value)
+    → AreTypes T p entry → all_fit_as l entry.types vs ≡ true
+    → checked_run l (single (set_of T)) p entry.name vs ≡ evaluated l p entry.name vs
 
 -- the facts of a typing type the program
 abbrev pub TypingsAreTypes : Type 0
 TypingsAreTypes =
-    (T : List Fact) (p : List Routine) (entry : List ℕ) (ts : List Ty)
-    → IsTyping T p entry ts → AreTypes T p entry ts
+    (T : List Fact) (p : List Routine) (entry : Entry)
+    → IsTyping T p entry → AreTypes T p entry

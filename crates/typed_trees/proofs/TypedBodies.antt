@@ -43,10 +43,15 @@ is_typed_act σ (ast.Augment x op e) = augment_obeys op (local_type σ x) (term_
 is_typed_act σ (ast.Put x i e) = puts (local_type σ x) (term_type σ i) (term_type σ e)
 is_typed_act σ (ast.AugmentAt x i op e) = puts (local_type σ x) (term_type σ i) (term_type σ e)
 is_typed_act σ (ast.Append x e) = appends (local_type σ x) (term_type σ e)
+is_typed_act σ (ast.Print e) = is_some (term_type σ e)
+is_typed_act σ (ast.Return no_term) = true
 is_typed_act σ (ast.Return (a_term e)) = same_type (term_type σ e) (result_type σ)
+is_typed_act σ ast.Pass = true
+is_typed_act σ ast.Break = true
+is_typed_act σ ast.Continue = true
+is_typed_act σ (ast.If arms last) = true
 is_typed_act σ (ast.While e body) = is_some (term_type σ e)
 is_typed_act σ (ast.For x e body) = goes_over (local_type σ x) (term_type σ e)
-is_typed_act σ _ = true
 
 abbrev pub is_typed_place : Scope → Place → Bool
 is_typed_place σ (does line act) = is_typed_act σ act
@@ -151,6 +156,10 @@ module _ (g : Setting) (wholes : MakeWholes g.rules) where
         over_parts n s c k (one (shape e)) refl refl
         (λ m. passes (appends local) m elsewhere (below g k 0 c) e
         (appends_there local (term_type c.scope e) f) f)
+    act_grown (ast.Print e) line n s c f h =
+        let k = kind.Print line in
+        over_parts n s c k (one (shape e)) refl refl
+        (λ m. passes is_some m elsewhere (below g k 0 c) e f f)
     act_grown (ast.Return no_term) line n s c f h =
         over_parts n s c (kind.Return line) no_trees refl refl (λ m. refl)
     act_grown (ast.Return (a_term e)) line n s c f h =

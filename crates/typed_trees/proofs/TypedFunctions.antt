@@ -3,7 +3,7 @@ use Rattle.std.proofs.Common.{◌≡◌, ℕ, zero, suc, ◌+◌, List, [], ◌�
 use Rattle.std.proofs.Common.{subst, Some, add-one, arith}
 use Rattle.std.specs.Prelude.{⊤}
 use Rattle.mpy_tree.specs.declared.typing.Fact.{Fact}
-use Rattle.mpy_tree.specs.declared.typing.Ty.{Ty}
+use Rattle.mpy_tree.specs.Entries.{Entry}
 use Rattle.mpy_tree.specs.Shapes.{block_shape, program_shape, routine_shapes, statement_shapes}
 use Rattle.mpy_tree.specs.Sites.{sites}
 use Rattle.mpy_tree.specs.Syntax.{Routine}
@@ -80,16 +80,16 @@ fine_typed rules T p i (r ∷ rs) h =
     let rest = subst (λ j. AreFineFrom (set_of T) p j rs) (add-one i) h.1 in
     (places_are (set_of T) p i (sites r.body) h.0, fine_typed rules T p (suc i) rs rest)
 
-pub program_typed : (rules : List Correction) (T : List Fact) (p : List Routine) (entry : List ℕ)
-    (ts : List Ty) → MakeWholes rules → AreTypes T p entry ts
+pub program_typed : (rules : List Correction) (T : List Fact) (p : List Routine) (entry : Entry)
+    → MakeWholes rules → AreTypes T p entry
     → IsTypedProgram (setting_by rules p T) (weighted_program (setting_by rules p T) p)
-program_typed rules T p entry ts wholes typed =
+program_typed rules T p entry wholes typed =
     let g = setting_by rules p T in
     let w =
     statement_grown g (steps (program_shape p)) elsewhere (outermost g) kind.Program
     (routine_shapes p) refl refl in
     let fs = parts_grown g (grown g w.0) (routine_shapes p) kind.Program 0 (outermost g) in
-    let fit = fine_typed rules T p 0 p (all_fine T p entry ts typed) in
+    let fit = fine_typed rules T p 0 p (all_fine T p entry typed) in
     let grows = functions_grown g wholes p w.0 0 (outermost g) fit in
     subst (λ x. IsTypedProgram g (numbered x 0)) (sym w.1)
     (λ i f is. function_at g 0 (numbered_all fs 0) i i f (functions_numbered g 0 fs 0 grows)

@@ -92,6 +92,16 @@ returned = refl
 two_types_returned : IsTyped scope (plainly (kind.Return 1) (one (either text))) → ⊥
 two_types_returned h = cc
 
+-- a value of any type is printed, but one that has none is not
+text_printed : IsTyped scope (plainly (kind.Print 1) (one text))
+text_printed = refl
+
+either_printed : IsTyped scope (plainly (kind.Print 1) (one (either name)))
+either_printed = refl
+
+two_types_printed : IsTyped scope (plainly (kind.Print 1) (one (either text))) → ⊥
+two_types_printed h = cc
+
 text_assigned : IsTyped scope (plainly (kind.Assign 1 name_x) (one text)) → ⊥
 text_assigned h = cc
 

@@ -41,6 +41,7 @@ obeys σ (kind.Augment line x op) (e ∷ []) = augment_obeys op (local_type σ x
 obeys σ (kind.Put line x) (i ∷ e ∷ []) = puts (local_type σ x) i e
 obeys σ (kind.AugmentAt line x op) (i ∷ e ∷ []) = puts (local_type σ x) i e
 obeys σ (kind.Append line x) (e ∷ []) = appends (local_type σ x) e
+obeys σ (kind.Print line) (e ∷ []) = is_some e
 obeys σ (kind.Return line) [] = true
 obeys σ (kind.Return line) (e ∷ []) = same_type e (result_type σ)
 obeys σ (kind.Pass line) [] = true

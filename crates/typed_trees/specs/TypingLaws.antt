@@ -3,6 +3,7 @@ use Rattle.std.specs.Prelude.{◌≡◌, ◌<◌, ℕ, List, length, Option, Som
 use Rattle.mpy_tree.specs.declared.typing.Fact.{Fact}
 use Rattle.mpy_tree.specs.declared.typing.Slot.{Slot}
 use Rattle.mpy_tree.specs.declared.typing.Ty.{Ty}
+use Rattle.mpy_tree.specs.Entries.{Entry}
 use Rattle.mpy_tree.specs.Rules.{single}
 use Rattle.mpy_tree.specs.Syntax.{Routine}
 use Rattle.mpy_tree.specs.Trees.{Kind, Tree}
@@ -55,16 +56,16 @@ setting_by rules p T = setting_with rules p (single (set_of T))
 -- the weighted tree of a program that facts type is typed
 abbrev pub WeightedProgramsAreTyped : Type 0
 WeightedProgramsAreTyped =
-    (rules : List Correction) (T : List Fact) (p : List Routine) (entry : List ℕ) (ts : List Ty)
-    → MakeWholes rules → AreTypes T p entry ts
+    (rules : List Correction) (T : List Fact) (p : List Routine) (entry : Entry)
+    → MakeWholes rules → AreTypes T p entry
     → IsTypedProgram (setting_by rules p T) (weighted_program (setting_by rules p T) p)
 
 -- and so is each function of the code's tree, by its number
 abbrev pub WeightedFunctionsAreTyped : Type 0
 WeightedFunctionsAreTyped =
-    (rules : List Correction) (T : List Fact) (p : List Routine) (entry : List ℕ) (ts : List Ty)
-    (w : WProg) (i : ℕ) (f : WFunc)
-    → MakeWholes rules → AreTypes T p entry ts
+    (rules : List Correction) (T : List Fact) (p : List Routine) (entry : Entry) (w : WProg) (i : ℕ)
+    (f : WFunc)
+    → MakeWholes rules → AreTypes T p entry
     → weighted_prog w ≡ weighted_program (setting_by rules p T) p
     → slice_get w.funcs.items.items i ≡ Some f
     → IsTyped (scope_in (setting_by rules p T) i) (weighted_func f)

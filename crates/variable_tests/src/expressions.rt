@@ -83,6 +83,7 @@ fn environment<V: Variables>(alloc: Global, g: &mut V) -> Result<Env<V::Bit>, No
         turns: 1,
         depth: 1,
         cap: 1,
+        prints: 0,
     };
     let values = fresh_values(alloc, g, &limits, &[Ty::Int])?;
     let set = fresh_bits(alloc, g, 1)?;

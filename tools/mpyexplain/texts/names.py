@@ -8,7 +8,8 @@ from .rows import Row, missing
 TABLE = {
     'Name': [
         Row('print in a value', missing('print'),
-            'Nothing is printed in mPy, and print would give no value.', 'Leave it out, and give the value by return.'),
+            'A print is a statement of its own, which gives no value.',
+            'Write it on its own line:\n    print(x)\n    y = x'),
         Row('input', missing('input', 'open'),
             'Nothing is read in mPy.', 'The values come as the parameters of the function.'),
         Row('sum', missing('sum'), 'mPy has no sum.', TOTAL),
@@ -71,6 +72,8 @@ TABLE = {
             'An earlier function has the name {word}.', 'Take another name, or leave one out.'),
         Row('name of a builtin', 'builtin function',
             '{word} is a function of mPy itself, and cannot be written anew.', 'Take another name.'),
+        Row('function named print', 'print function',
+            'A print is a statement of mPy itself, and no function has its name.', 'Take another name.'),
         Row('second parameter', 'second parameter',
             'Two parameters have the name {word}.', 'Take another name for one.'),
     ],

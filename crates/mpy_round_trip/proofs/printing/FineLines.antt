@@ -65,13 +65,24 @@ augmentation_at_fine d x i op e n p m q =
     (element_apart x i (gap ∷ mark (arith_text op ++ codes "=") ∷ gap ∷ term_scraps e []) n p (augmenting_apart op (term_scraps e []) m (last_apart e q)))
     (and_then (named x) (and_then (in_square (term_balanced i)) (and_then (augmenting op) (term_balanced e))))
 
+-- a name, and an expression in parentheses
+called_apart : (f : List ℕ) (e : Term) → IsName f → IsProperTerm e → AreApart (name f ∷ mark (codes "(") ∷ term_scraps e (mark (codes ")") ∷ []))
+unfolding mark_len
+called_apart f e n p = name_apart f (mark (codes "(") ∷ term_scraps e (mark (codes ")") ∷ [])) n refl (refl, refl, refl, (term_apart e p).apart (mark (codes ")") ∷ []) refl (refl, refl, refl, tt))
+
 appending_fine : (d : ℕ) (x : List ℕ) (e : Term) → IsName x → IsProperTerm e → IsFine (printed d (name x ∷ mark (codes ".") ∷ name (codes "append") ∷ mark (codes "(") ∷ term_scraps e (mark (codes ")") ∷ [])))
 unfolding mark_len is_reserved
 appending_fine d x e n p =
-    let called : AreApart (name (codes "append") ∷ mark (codes "(") ∷ term_scraps e (mark (codes ")") ∷ [])) = name_apart (codes "append") (mark (codes "(") ∷ term_scraps e (mark (codes ")") ∷ [])) refl refl (refl, refl, refl, (term_apart e p).apart (mark (codes ")") ∷ []) refl (refl, refl, refl, tt)) in
     fine d kind.Name x (λ ss. mark (codes ".") ∷ name (codes "append") ∷ mark (codes "(") ∷ term_scraps e (mark (codes ")") ∷ ss))
-    (name_apart x (mark (codes ".") ∷ name (codes "append") ∷ mark (codes "(") ∷ term_scraps e (mark (codes ")") ∷ [])) n refl (refl, refl, refl, called))
+    (name_apart x (mark (codes ".") ∷ name (codes "append") ∷ mark (codes "(") ∷ term_scraps e (mark (codes ")") ∷ [])) n refl (refl, refl, refl, called_apart (codes "append") e refl p))
     (and_then (named x) (and_then (token kind.Mark (codes ".") (refl, refl)) (and_then (named (codes "append")) (in_round (term_balanced e)))))
+
+printing_fine : (d : ℕ) (e : Term) → IsProperTerm e → IsFine (printed d (name (codes "print") ∷ mark (codes "(") ∷ term_scraps e (mark (codes ")") ∷ [])))
+unfolding is_reserved
+printing_fine d e p =
+    fine d kind.Name (codes "print") (λ ss. mark (codes "(") ∷ term_scraps e (mark (codes ")") ∷ ss))
+    (called_apart (codes "print") e refl p)
+    (and_then (named (codes "print")) (in_round (term_balanced e)))
 
 -- a reserved word, alone on its line
 word_fine : (d : ℕ) (bytes : List ℕ) → is_reserved bytes ≡ true → list_all is_printable bytes ≡ true → IsFine (printed d (reserved bytes ∷ []))
@@ -132,6 +143,7 @@ mutual
   action_fine loop d (ast.Put x i e) ps p h = line_and ps (assignment_at_fine d x i e p.0 p.1 p.2) h
   action_fine loop d (ast.AugmentAt x i op e) ps p h = line_and ps (augmentation_at_fine d x i op e p.0 p.1 p.2 p.3) h
   action_fine loop d (ast.Append x e) ps p h = line_and ps (appending_fine d x e p.0 p.1) h
+  action_fine loop d (ast.Print e) ps p h = line_and ps (printing_fine d e p) h
   action_fine loop d (ast.Return no_term) ps p h = line_and ps (word_fine d (codes "return") refl refl) h
   action_fine loop d (ast.Return (a_term e)) ps p h = line_and ps (returning_fine d e p) h
   action_fine loop d ast.Pass ps p h = line_and ps (word_fine d (codes "pass") refl refl) h

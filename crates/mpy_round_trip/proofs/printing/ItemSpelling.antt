@@ -14,7 +14,7 @@ use Rattle.mpy_expressions.specs.declared.terminals.Terminal.TheVariants as term
 use Rattle.mpy_expressions.specs.Terminals.{word_of, terminal_by}
 use Rattle.mpy_expressions.specs.Programs.{programs}
 use Rattle.mpy_expressions.specs.Grammar.{Spells}
-use Rattle.mpy_parser.specs.Items.{Opening, function, headed, simple, augmented, assign, augment, put, augment_at, append, give, name_list, SpellsHeader, SpellsItem, a_function, open_body, a_statement, a_header}
+use Rattle.mpy_parser.specs.Items.{Opening, function, headed, simple, augmented, assign, augment, put, augment_at, append, print, give, name_list, SpellsHeader, SpellsItem, a_function, open_body, a_statement, a_header}
 use Rattle.mpy_round_trip.specs.Proper.{MayAugment}
 use Rattle.mpy_round_trip.proofs.ProperForms.{IsProperTerm}
 use Rattle.mpy_round_trip.proofs.Scraps.{gap}
@@ -68,6 +68,12 @@ unfolding word_of
 appending x e p =
     let s = whole e p in
     subst (λ l. SpellsItem (terminal.Name x ∷ terminal.Word word.Dot ∷ terminal.Name (codes "append") ∷ terminal.Word word.LeftParen ∷ l) (simple (ast.Append x e))) (sym (s.onto (mark (codes ")") ∷ []))) (a_statement (append x s.spells))
+
+pub printing : (e : Term) → IsProperTerm e → SpellsItem (terminals_in (name (codes "print") ∷ mark (codes "(") ∷ term_scraps e (mark (codes ")") ∷ []))) (simple (ast.Print e))
+unfolding word_of
+printing e p =
+    let s = whole e p in
+    subst (λ l. SpellsItem (terminal.Name (codes "print") ∷ terminal.Word word.LeftParen ∷ l) (simple (ast.Print e))) (sym (s.onto (mark (codes ")") ∷ []))) (a_statement (print s.spells))
 
 pub returning : (e : Term) → IsProperTerm e → SpellsItem (terminals_in (reserved (codes "return") ∷ gap ∷ term_scraps e [])) (simple (ast.Return (a_term e)))
 unfolding word_of

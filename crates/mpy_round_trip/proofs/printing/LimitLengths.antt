@@ -28,6 +28,7 @@ mutual
   action_length d line (ast.Put x i e) = line_if_length _ 0 line
   action_length d line (ast.AugmentAt x i op e) = line_if_length _ 0 line
   action_length d line (ast.Append x e) = line_if_length _ 0 line
+  action_length d line (ast.Print e) = line_if_length _ 0 line
   action_length d line (ast.Return e) = line_if_length _ 0 line
   action_length d line ast.Pass = refl
   action_length d line ast.Break = refl

@@ -15,7 +15,7 @@ use Rattle.mpy_round_trip.proofs.ProperForms.{IsProperBlock, IsProperAction, Are
 use Rattle.mpy_round_trip.proofs.Scraps.{Scrap, Printed, AreLinesOf, an_empty_line, a_line, no_lines as no_lines_of}
 use Rattle.mpy_round_trip.proofs.printing.ProgramLines.{printed, block_lines, action_lines, arms_lines, else_lines, routine_lines, printed_lines}
 use Rattle.mpy_round_trip.proofs.printing.TermSpelling.{terminals_in, terminals_of_tokens}
-use Rattle.mpy_round_trip.proofs.printing.ItemSpelling.{assignment, augmentation, assignment_at, augmentation_at, appending, returning, header, definition}
+use Rattle.mpy_round_trip.proofs.printing.ItemSpelling.{assignment, augmentation, assignment_at, augmentation_at, appending, printing, returning, header, definition}
 
 -- The first of the logical lines are items, and the others are the lines of what is printed further.
 record Taken (ps : List Printed) (ls : List Line) (own : List ItemLine) : Type 0 where
@@ -119,6 +119,7 @@ mutual
   action_read loop d (ast.Put x i e) ps n ls p h = simple_read loop n d (ast.Put x i e) _ _ ps ls (anywhere loop (ast.Put x i e) tt) (assignment_at x i e p.1 p.2) h
   action_read loop d (ast.AugmentAt x i op e) ps n ls p h = simple_read loop n d (ast.AugmentAt x i op e) _ _ ps ls (anywhere loop (ast.AugmentAt x i op e) tt) (augmentation_at x i op e p.1 p.2 p.3) h
   action_read loop d (ast.Append x e) ps n ls p h = simple_read loop n d (ast.Append x e) _ _ ps ls (anywhere loop (ast.Append x e) tt) (appending x e p.1) h
+  action_read loop d (ast.Print e) ps n ls p h = simple_read loop n d (ast.Print e) _ _ ps ls (anywhere loop (ast.Print e) tt) (printing e p) h
   action_read loop d (ast.Return no_term) ps n ls p h = simple_read loop n d (ast.Return no_term) _ _ ps ls (anywhere loop (ast.Return no_term) tt) (a_statement give_nothing) h
   action_read loop d (ast.Return (a_term e)) ps n ls p h = simple_read loop n d (ast.Return (a_term e)) _ _ ps ls (anywhere loop (ast.Return (a_term e)) tt) (returning e p) h
   action_read loop d ast.Pass ps n ls p h = simple_read loop n d ast.Pass _ _ ps ls (anywhere loop ast.Pass tt) (a_statement pass) h

@@ -93,6 +93,7 @@ abbrev mutual
   action_lines d (ast.Put x i e) ps = printed d (name x ∷ mark (codes "[") ∷ term_scraps i (mark (codes "]") ∷ gap ∷ mark (codes "=") ∷ gap ∷ term_scraps e [])) ∷ ps
   action_lines d (ast.AugmentAt x i op e) ps = printed d (name x ∷ mark (codes "[") ∷ term_scraps i (mark (codes "]") ∷ gap ∷ mark (arith_text op ++ codes "=") ∷ gap ∷ term_scraps e [])) ∷ ps
   action_lines d (ast.Append x e) ps = printed d (name x ∷ mark (codes ".") ∷ name (codes "append") ∷ mark (codes "(") ∷ term_scraps e (mark (codes ")") ∷ [])) ∷ ps
+  action_lines d (ast.Print e) ps = printed d (name (codes "print") ∷ mark (codes "(") ∷ term_scraps e (mark (codes ")") ∷ [])) ∷ ps
   action_lines d (ast.Return e) ps = printed d (return_scraps e) ∷ ps
   action_lines d ast.Pass ps = printed d (reserved (codes "pass") ∷ []) ∷ ps
   action_lines d ast.Break ps = printed d (reserved (codes "break") ∷ []) ∷ ps

@@ -114,6 +114,7 @@ mutual
   actions_text d (ast.Put x i e) ps = one_line d (name x ∷ mark (codes "[") ∷ term_scraps i (mark (codes "]") ∷ gap ∷ mark (codes "=") ∷ gap ∷ term_scraps e [])) (x ++ codes "[" ++ text_of i ++ codes "] = " ++ text_of e) (simp (append_assoc, last_text, term_text i)) ps
   actions_text d (ast.AugmentAt x i op e) ps = one_line d (name x ∷ mark (codes "[") ∷ term_scraps i (mark (codes "]") ∷ gap ∷ mark (arith_text op ++ codes "=") ∷ gap ∷ term_scraps e [])) (x ++ codes "[" ++ text_of i ++ codes "] " ++ arith_text op ++ codes "= " ++ text_of e) (simp (append_assoc, last_text, term_text i)) ps
   actions_text d (ast.Append x e) ps = one_line d (name x ∷ mark (codes ".") ∷ name (codes "append") ∷ mark (codes "(") ∷ term_scraps e (mark (codes ")") ∷ [])) (x ++ codes ".append(" ++ text_of e ++ codes ")") (simp (append_assoc, term_text e)) ps
+  actions_text d (ast.Print e) ps = one_line d (name (codes "print") ∷ mark (codes "(") ∷ term_scraps e (mark (codes ")") ∷ [])) (codes "print(" ++ text_of e ++ codes ")") (ap (λ l. codes "print(" ++ l) (term_text e (mark (codes ")") ∷ []))) ps
   actions_text d (ast.Return e) ps = one_line d (return_scraps e) (return_text e) (returned_text e) ps
   actions_text d ast.Pass ps = one_line d (reserved (codes "pass") ∷ []) (codes "pass") refl ps
   actions_text d ast.Break ps = one_line d (reserved (codes "break") ∷ []) (codes "break") refl ps

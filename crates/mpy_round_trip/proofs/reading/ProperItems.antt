@@ -11,7 +11,7 @@ use Rattle.mpy_expressions.specs.declared.words.Word.{Word}
 use Rattle.mpy_expressions.specs.declared.words.Word.TheVariants as word
 use Rattle.mpy_expressions.specs.declared.terminals.Terminal.{Terminal}
 use Rattle.mpy_expressions.specs.declared.terminals.Terminal.TheVariants as terminal
-use Rattle.mpy_parser.specs.Items.{Opening, function, when, else_when, otherwise, while, for_each, LineItem, simple, headed, augmented, SpellsSimple, assign, augment, put, augment_at, append, give_nothing, give, pass, leave, again, name_list, SpellsHeader, a_function, an_if, an_elif, an_else, a_while, a_for, SpellsBody, open_body, one_statement, SpellsItem, a_statement, a_header}
+use Rattle.mpy_parser.specs.Items.{Opening, function, when, else_when, otherwise, while, for_each, LineItem, simple, headed, augmented, SpellsSimple, assign, augment, put, augment_at, append, print, give_nothing, give, pass, leave, again, name_list, SpellsHeader, a_function, an_if, an_elif, an_else, a_while, a_for, SpellsBody, open_body, one_statement, SpellsItem, a_statement, a_header}
 use Rattle.mpy_parser.specs.Nesting.{ItemLine, MayStand}
 use Rattle.mpy_parser.specs.Programs.{AreItems}
 use Rattle.mpy_round_trip.specs.Proper.{IsName, MayAugment}
@@ -66,6 +66,7 @@ proper_simple (augment x w {op} h s) p loop may = (p.0, may_augment w op h, prop
 proper_simple (put x {is} {es} s t) p loop may = let both = around is (terminal.Word word.RightBracket) (terminal.Word word.Assign ∷ es) p.1.1 in (p.0, proper_term s both.0, proper_term t both.1.1)
 proper_simple (augment_at x w {op} {is} {es} h s t) p loop may = let both = around is (terminal.Word word.RightBracket) (terminal.Word w ∷ es) p.1.1 in (p.0, proper_term s both.0, may_augment w op h, proper_term t both.1.1)
 proper_simple (append x {es} s) p loop may = (p.0, proper_term s (halves es (terminal.Word word.RightParen ∷ []) p.1.1.1.1).0)
+proper_simple (print {es} s) p loop may = proper_term s (halves es (terminal.Word word.RightParen ∷ []) p.1.1).0
 proper_simple give_nothing p loop may = All-nil IsProperNode
 proper_simple (give s) p loop may = proper_term s p.1
 proper_simple pass p loop may = tt

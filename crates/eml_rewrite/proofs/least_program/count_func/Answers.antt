@@ -17,7 +17,7 @@ returns-then-nodes-gt-MOST g c =
     one_more (λ s. one (site_of s)) xs c.loop-line.line-index (c.loop-line.line-index + 1)
     c.line-item.result c.loop-line.nodes c.in_ok-more.more c.saturating_add-nodes.result _
     (omega arith) (some_at xs c.loop-line.line-index c.line-item.result c.loop-line-test.true
-    c.line-item.is) c.in_ok-more.ensures (omega arith) c.loop-line.invariant in
+    c.line-item.is) c.in_ok-more.ensures.nodes (omega arith) c.loop-line.invariant in
     lines_counted (setting_at c.args.spot.now) c.requires here (routine_of c.args.func.now) xs
     c.saturating_add-nodes.result
     (ap (map site_of) c.deref-line-items.ensures.value

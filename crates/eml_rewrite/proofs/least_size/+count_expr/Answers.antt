@@ -61,5 +61,6 @@ count_parts-parts-preserved g t c =
           c.parts.nodes c.in_ok-more-in-Some.more c.saturating_add-nodes.result
           (kept_least least e) (omega arith) c.in-Some.ensures.part
           c.in_ok-more-in-Some.ensures.nodes (omega arith) c.parts.invariant.front;
+      some = let before = c.parts.invariant.some in omega arith;
       counted = c.in_ok-more-in-Some.ensures.counted;
     }

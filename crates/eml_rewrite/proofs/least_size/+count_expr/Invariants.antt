@@ -1,4 +1,4 @@
-use Rattle.std.proofs.Common.{◌+◌, ◌-◌, ◌*◌, length}
+use Rattle.std.proofs.Common.{◌≤◌, ◌+◌, ◌-◌, ◌*◌, length}
 use Rattle.mpy_tree.specs.View.{term_of}
 use Rattle.mpy_tree.specs.Shapes.{shape}
 use Rattle.mpy_tree.specs.Trees.{tree_depth}
@@ -14,6 +14,7 @@ invariant-count_parts-parts g l =
     let t = shape (term_of l.fn.e) in
     record {
       front : IsFront least (parts t) l.i l.nodes (kept_least least t);
+      some : 1 ≤ l.nodes;
       counted : AreCounted least l.counted.items;
     }
 

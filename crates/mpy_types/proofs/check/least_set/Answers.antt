@@ -1,9 +1,7 @@
 use Rattle.std.proofs.Common.{length, map, sym, ap, ◌∙◌}
-use Rattle.std.specs.List.{flat_map}
 use Rattle.std.proofs.lemmas.List.{length-map}
 use Rattle.mpy_tree.specs.View.{routine_of}
-use Rattle.mpy_tree.specs.Flows.{flows}
-use Rattle.mpy_types.specs.Inflows.{flow_inflows}
+use Rattle.mpy_tree.specs.Entries.{entry_of}
 use Rattle.mpy_types.specs.Views.{place_of}
 use Rattle.mpy_types.proofs.Linked.{least_facts}
 use Rattle.mpy_types.proofs.check.least_set.Goals as goal
@@ -11,6 +9,6 @@ use Rattle.mpy_types.proofs.check.least_set.Goals as goal
 pub returns-clause-least : goal.returns-clause-least
 returns-clause-least c =
     let p = map routine_of c.args.scopes.now.funcs.now in
-    least_facts c.in_ok-sets.sets.items p c.args.s.now.entry c.args.s.now.params (length c.args.places.now) c.deref.result.now c.in_ok-sets.ensures
+    least_facts c.in_ok-sets.sets.items p (entry_of c.args.s.now) (length c.args.places.now) c.deref.result.now c.in_ok-sets.ensures
     (sym (length-map c.args.places.now place_of) ∙ ap length c.requires)
-    (c.deref.ensures.value ∙ c.in_ok-inflows.ensures ∙ ap (λ ts. flat_map (flow_inflows p) (flows p c.args.s.now.entry ts)) c.items.ensures)
+    (c.deref.ensures.value ∙ c.in_ok-inflows.ensures)

@@ -3,7 +3,7 @@ use Rattle.std.proofs.Common.{arith, map}
 use Rattle.std.proofs.lemmas.List.{length-map}
 use Rattle.file_commands.proofs.Stopping.{stopped}
 use Rattle.source_files.specs.Views.{texts_of}
-use Rattle.task_read.specs.Sources.{entry_at}
+use Rattle.input_space.specs.Tasks.{entry_at}
 use Rattle.pick_command.specs.Requests.{typed_of}
 use Rattle.pick_command.proofs.Reading.{all_read, fit_at, mapped_at, mapped_push, one_refused, read_on}
 use Rattle.pick_command.proofs.request.read_submissions.Goals as goal

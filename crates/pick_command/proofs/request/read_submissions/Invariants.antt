@@ -1,6 +1,6 @@
 use Rattle.std.proofs.Common.{map}
 use Rattle.source_files.specs.Views.{texts_of}
-use Rattle.task_read.specs.Sources.{entry_at}
+use Rattle.input_space.specs.Tasks.{entry_at}
 use Rattle.pick_command.specs.Requests.{typed_of}
 use Rattle.pick_command.proofs.Reading.{ReadsOn}
 use Rattle.pick_command.proofs.request.read_submissions.Given as goal

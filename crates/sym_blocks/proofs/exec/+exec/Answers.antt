@@ -25,7 +25,7 @@ use Rattle.sym_blocks.specs.Runs.{run_if, run_statement, run_while}
 use Rattle.sym_blocks.proofs.Blocks.{FirstArm, FirstOf, arms_end, arms_more, block_end, block_more, body_parts, drop_at}
 use Rattle.sym_blocks.proofs.Going.{arm_goes, arm_parts, else_none, else_some, last_goes, last_turn_goes, one_arm, statement_goes, turn_goes}
 use Rattle.sym_blocks.proofs.Laters.{all_lead_later, body_later, chosen_later, leads_later}
-use Rattle.sym_blocks.proofs.Parts.{append_parts, assign_parts, augment_at_parts, augment_parts, break_parts, continue_parts, for_parts, if_parts, pass_parts, put_parts, return_parts, while_parts}
+use Rattle.sym_blocks.proofs.Parts.{append_parts, assign_parts, augment_at_parts, augment_parts, break_parts, continue_parts, for_parts, if_parts, pass_parts, print_parts, put_parts, return_parts, while_parts}
 use Rattle.mpy_tree.specs.Rules.{member_of}
 use Rattle.mpy_tree.specs.declared.value.Value.{Value}
 use Rattle.mpy_tree.specs.Statements.{for_turns}
@@ -43,7 +43,7 @@ use Rattle.sym_blocks.proofs.Reading.{fault_is, few_items, given_items, has_memb
 use Rattle.sym_blocks.proofs.Settings.{local_type_is}
 use Rattle.sym_blocks.proofs.TypedParts.{gone_over}
 use Rattle.sym_blocks.proofs.Sizes.{arm_smaller, body_smaller, else_smaller, stmt_smaller}
-use Rattle.sym_blocks.proofs.Views.{append_is, arm_is, arms_are, assign_is, augment_at_is, augment_is, body_is, break_is, continue_is, for_is, if_is, pass_is, put_is, return_is, stmt_is, while_is}
+use Rattle.sym_blocks.proofs.Views.{append_is, arm_is, arms_are, assign_is, augment_at_is, augment_is, body_is, break_is, continue_is, for_is, if_is, pass_is, print_is, put_is, return_is, stmt_is, while_is}
 use Rattle.sym_blocks.proofs.exec.+exec.Goals as goal
 
 -- a body
@@ -299,6 +299,28 @@ exec_stmt-returns-in_ok-out-in-Append-clause-value g t c vs m calls o a chosen a
     let view = stmt_is c.args.s.now ∙ ap (λ (a : WAct). weighted_act a line) c.in-Append.is ∙ append_is c.in-Append.x c.in-Append.e line in
     let parts = append_parts run.slots.now.limits calls m a line c.in-Append.x (weighted_of c.in-Append.e) (is ∙ ap (plain m) view) in
     c.in_ok-out-in-Append.ensures.value parts.line vs m calls o parts.part chosen at parts.plain ∙ ap (seen_from o) (sym parts.same)
+
+pub exec_stmt-exec_print-requires-clause-typed : goal.exec_stmt-exec_print-requires-clause-typed
+exec_stmt-exec_print-requires-clause-typed g t c =
+    let run = c.args.run.now in
+    let line = (out-WStmt c.args.s.now).line in
+    let view = stmt_is c.args.s.now ∙ ap (λ (a : WAct). weighted_act a line) c.in-Print.is ∙ print_is c.in-Print.e line in
+    subst (IsTyped (scope_in (g.C.Functions.signatures run.functions.now) run)) view c.requires.typed
+
+pub exec_stmt-exec_print-requires-clause-picks : goal.exec_stmt-exec_print-requires-clause-picks
+exec_stmt-exec_print-requires-clause-picks g t c =
+    let run = c.args.run.now in
+    let line = (out-WStmt c.args.s.now).line in
+    let view = stmt_is c.args.s.now ∙ ap (λ (a : WAct). weighted_act a line) c.in-Print.is ∙ print_is c.in-Print.e line in
+    (subst (HasPicks run.picks.now) view c.requires.picks).0
+
+pub exec_stmt-returns-in_ok-out-in-Print-clause-value : goal.exec_stmt-returns-in_ok-out-in-Print-clause-value
+exec_stmt-returns-in_ok-out-in-Print-clause-value g t c vs m calls o a chosen at is =
+    let run = c.args.run.now in
+    let line = (out-WStmt c.args.s.now).line in
+    let view = stmt_is c.args.s.now ∙ ap (λ (a : WAct). weighted_act a line) c.in-Print.is ∙ print_is c.in-Print.e line in
+    let parts = print_parts run.slots.now.limits calls m a line (weighted_of c.in-Print.e) (is ∙ ap (plain m) view) in
+    c.in_ok-out-in-Print.ensures.value parts.line vs m calls o parts.part chosen at parts.plain ∙ ap (seen_from o) (sym parts.same)
 
 pub exec_stmt-exec_return-requires-clause-typed : goal.exec_stmt-exec_return-requires-clause-typed
 exec_stmt-exec_return-requires-clause-typed g t c =

@@ -7,6 +7,6 @@ use Rattle.typed_programs.proofs.CheckedCalls.{below_refines, checked_keep, unst
 use Rattle.typed_programs.proofs.laws.typed_arguments.Goals as goal
 
 pub returns : goal.returns
-returns c = λ l T p entry ts vs h f.
-    unstuck (IsFor l (result_slot (single (set_of T)) (called p entry))) _ _ (below_refines l (set_of T) p l.depth entry vs 1)
-    (checked_keep l (set_of T) p (all_fine T p entry ts h) l.depth entry vs 1 (entry_for T p entry ts h l vs f))
+returns c = λ l T p entry vs h f.
+    unstuck (IsFor l (result_slot (single (set_of T)) (called p entry.name))) _ _ (below_refines l (set_of T) p l.depth entry.name vs 1)
+    (checked_keep l (set_of T) p (all_fine T p entry h) l.depth entry.name vs 1 (entry_for T p entry h l vs f))

@@ -4,4 +4,4 @@ use Rattle.typed_programs.proofs.Programs.{calls_keep}
 use Rattle.typed_programs.proofs.laws.typed_calls.Goals as goal
 
 pub returns : goal.returns
-returns c = λ l T p entry ts depth h. calls_keep l (set_of T) p (all_fine T p entry ts h) depth
+returns c = λ l T p entry depth h. calls_keep l (set_of T) p (all_fine T p entry h) depth

@@ -4,4 +4,4 @@ use Rattle.typed_programs.proofs.Programs.{calls_keep}
 use Rattle.typed_programs.proofs.laws.typed_programs.Goals as goal
 
 pub returns : goal.returns
-returns c = λ l T p entry ts vs h f. calls_keep l (set_of T) p (all_fine T p entry ts h) l.depth entry vs 1 (entry_for T p entry ts h l vs f)
+returns c = λ l T p entry vs h f. calls_keep l (set_of T) p (all_fine T p entry h) l.depth entry.name vs 1 (entry_for T p entry h l vs f)

@@ -4,6 +4,6 @@ use Rattle.typed_trees.proofs.laws.weighted_functions_are_typed.Goals as goal
 
 pub returns : goal.returns
 returns c =
-    λ rules T p entry ts w i f wholes typed same is.
-    let all = program_typed rules T p entry ts wholes typed in
+    λ rules T p entry w i f wholes typed same is.
+    let all = program_typed rules T p entry wholes typed in
     func_typed (setting_by rules p T) w p i f all same is

@@ -2,11 +2,11 @@ use Rattle.std.proofs.Common.{◌<◌, arith, rules}
 use Rattle.mpy_interp.specs.Frames.{state_of}
 use Rattle.mpy_tree.specs.Syntax as ast
 use Rattle.mpy_tree.specs.View.{term_of, maybe_term, block_of}
-use Rattle.mpy_tree.specs.declared.tree.Act.{Assign, Augment, Put, AugmentAt, Append, Return, While, For}
+use Rattle.mpy_tree.specs.declared.tree.Act.{Assign, Augment, Put, AugmentAt, Append, Print, Return, While, For}
 use Rattle.mpy_tree.specs.Operations.{members}
 use Rattle.mpy_tree.specs.Statements.{run_block}
 use Rattle.mpy_interp.proofs.Turning.{turn_begun}
-use Rattle.mpy_interp.proofs.Arms.{ends_as, assign_is, augment_is, put_is, augment_at_is, append_is, return_is, while_is, for_is}
+use Rattle.mpy_interp.proofs.Arms.{ends_as, assign_is, augment_is, put_is, augment_at_is, append_is, print_is, return_is, while_is, for_is}
 use Rattle.mpy_interp.proofs.machine.Machine.+exec.Goals as goal
 use Rattle.mpy_interp.proofs.machine.Machine.+exec.Goals.{exec_over-in-Next, exec_over-in-Continued}
 
@@ -29,6 +29,10 @@ exec_act-returns-in-AugmentAt g t c =
 pub exec_act-returns-in-Append : goal.exec_act-returns-in-Append
 exec_act-returns-in-Append g t c =
     ends_as c.args.self.now.limits.now (g.C.Calls.gives c.args.self.now.calls.now) c.args.act.now (Append c.in-Append.x c.in-Append.e) (ast.Append c.in-Append.x (term_of c.in-Append.e)) c.args.line (state_of c.args.frame.now) (state_of c.append.new.frame) c.append.result c.in-Append.is (append_is c.in-Append.x c.in-Append.e) c.append.ensures
+
+pub exec_act-returns-in-Print : goal.exec_act-returns-in-Print
+exec_act-returns-in-Print g t c =
+    ends_as c.args.self.now.limits.now (g.C.Calls.gives c.args.self.now.calls.now) c.args.act.now (Print c.in-Print.e) (ast.Print (term_of c.in-Print.e)) c.args.line (state_of c.args.frame.now) (state_of c.args.frame.now) c.exec_print.result c.in-Print.is (print_is c.in-Print.e) c.exec_print.ensures
 
 pub exec_act-returns-in-Return : goal.exec_act-returns-in-Return
 exec_act-returns-in-Return g t c =

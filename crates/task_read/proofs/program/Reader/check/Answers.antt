@@ -1,8 +1,8 @@
 -- the first fault of names or types is told
 use Rattle.std.proofs.Common.{Err, ap, refl, ◌∙◌}
+use Rattle.mpy_tree.specs.Entries.{entry_of}
 use Rattle.mpy_tree.specs.View.{routines_of}
 use Rattle.task_read.specs.TypedPrograms.{by_fault, by_conflict}
-use Rattle.task_read.specs.Views.{entry_of}
 use Rattle.task_read.proofs.Answers.{at_fault, at_conflict}
 use Rattle.task_read.proofs.program.Reader.check.Goals as goal
 

@@ -1,0 +1,4 @@
+def fare(km):
+    price = 2 * km
+    print(price)
+    return 5 + price
