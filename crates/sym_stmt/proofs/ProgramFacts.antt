@@ -1,7 +1,7 @@
 -- What facts that type a program say of its slots, of its functions and of its entry.
 use Rattle.std.proofs.Common.{◌≡◌, ◌<◌, ℕ, zero, suc, ◌+◌, Bool, true, false, ◌||◌, List}
 use Rattle.std.proofs.Common.{[], ◌∷◌, ◌++◌, length, map, get_or, Option, Some, None, if◌then◌else◌, IsTrue}
-use Rattle.std.proofs.Common.{IsSome, refl, sym, ap, ◌∙◌, subst, arith}
+use Rattle.std.proofs.Common.{IsSome, is_some, ◌⊎◌, inl, inr, refl, sym, ap, ◌∙◌, subst, arith}
 use Rattle.std.specs.Prelude.{⊤, ◌==◌, All}
 use Rattle.std.specs.List.{filter, flat_map, list_any}
 use Rattle.std.proofs.lemmas.Bool.{and_from, both_ways, eqb-true, or_left, or_right}
@@ -29,7 +29,7 @@ use Rattle.mpy_tree.specs.Running.{found}
 use Rattle.mpy_tree.specs.SetTypes.{Callee, FactSet, callee, called, called_from, same_place}
 use Rattle.mpy_tree.specs.Sites.{sites}
 use Rattle.mpy_tree.specs.Syntax.{Routine}
-use Rattle.mpy_tree.specs.TypeSets.{IsWithin, join, just}
+use Rattle.mpy_tree.specs.TypeSets.{IsWithin, join, just, no_types, only}
 use Rattle.mpy_tree.specs.Typings.{AreTypes, IsOfSlot, set_of}
 use Rattle.mpy_tree.specs.Values.{same_bytes}
 use Rattle.mpy_scopes.proofs.Places.{at_place, place_same}
@@ -37,7 +37,8 @@ use Rattle.mpy_types.proofs.Every.{Every, every_front, every_of, every_rest}
 use Rattle.typed_programs.proofs.OneType.{settled}
 use Rattle.sym_stmt.proofs.LocalNames.{apart, new_none}
 use Rattle.mpy_tree.proofs.Leasts.{none_least}
-use Rattle.mpy_type_laws.proofs.Nothing.{nil_left, nil_right, none_both, not_earlier, one_type}
+use Rattle.mpy_type_laws.proofs.Nothing.{nil_left, nil_right, none_both, not_earlier}
+use Rattle.mpy_type_laws.proofs.WholeFacts.{one_of}
 use Rattle.typed_programs.proofs.Linked.{either_is}
 
 third_false : (a b c : Bool) (line : ℕ) → (if a || b || c then line ∷ [] else []) ≡ [] → c ≡ false
@@ -45,6 +46,18 @@ third_false true b c line e = absurd cc
 third_false false true c line e = absurd cc
 third_false false false true line e = absurd cc
 third_false false false false line e = refl
+
+just_some : (t : Ty) → IsSome (only (just t))
+just_some ty.Int = refl
+just_some ty.Bool = refl
+just_some ty.List = refl
+just_some ty.Text = refl
+
+-- a set that is at no fault has one type
+some_type : (s : TypeSet)
+    → ((t : Ty) × (s ≡ just t)) ⊎ ((false ≡ true) × (s ≡ no_types)) → IsSome (only s)
+some_type s (inl one) = ap (λ u. is_some (only u)) one.1 ∙ just_some one.0
+some_type s (inr none) = absurd cc
 
 module _ (F : FactSet) where
   -- each slot has one
@@ -54,9 +67,10 @@ module _ (F : FactSet) where
   each_typed : (ss : List Place) → slots_fault None F ss ≡ None → Every HasType ss
   each_typed [] e = tt
   each_typed (s ∷ ss) e =
-      let k = none_both (slot_fault false (listed (F s.func s.slot)) s.line) (slots_fault None F ss) e in
       let set = F s.func s.slot in
-      (one_type set.int set.bool set.list set.text s.line k.0, each_typed ss k.1)
+      let k = none_both (slot_fault false (listed set) s.line) (slots_fault None F ss) e in
+      let one = one_of false set.int set.bool set.list set.text s.line k.0 in
+      (some_type set one, each_typed ss k.1)
 
   of_slot : (ss : List Place) (j : ℕ) (y : Slot) → Every HasType ss
       → list_any (λ s. same_place j y s.func s.slot) ss ≡ true → IsSome (single F j y)
