@@ -1,9 +1,6 @@
 pub mod LaidOut
 pub mod Digits
 pub mod Decoding
-pub mod HighBits
-pub mod Between
-pub mod CharacterDigits
 pub mod Items
 pub mod RangedValues
 pub mod CaseLaws

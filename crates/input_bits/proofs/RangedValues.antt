@@ -20,10 +20,10 @@ use Rattle.sym_values.specs.Forms.{Form, BoolForm, IntForm, ListForm, TextForm, 
 use Rattle.sym_values.specs.Reading.{Reading, spelled}
 use Rattle.sym_values.specs.declared.value.SymValue.TheVariants as sym_value
 use Rattle.sym_values.proofs.Numbers.{same_fits}
-use Rattle.input_bits.specs.Alphabets.{is_among}
-use Rattle.input_bits.specs.Known.{HasCharacters, HoldsItems, highest, is_item, is_right, longest, lowest, shortest}
 use Rattle.input_space.specs.Inputs.{is_between, param_type}
-use Rattle.input_bits.proofs.CharacterDigits.{among_holds}
+use Rattle.input_ranges.specs.Alphabets.{is_among}
+use Rattle.input_ranges.proofs.CharacterDigits.{among_holds}
+use Rattle.input_bits.specs.Known.{HasCharacters, HoldsItems, highest, is_item, is_right, longest, lowest, shortest}
 
 abbrev reading : Bool → Value → Reading
 reading p v = record { proper = p; value = v }

@@ -1,18 +1,13 @@
 -- What the ranges of parameters say of bits.
-use Rattle.std.specs.Prelude.{◌≡◌, ℕ, ◌<◌, ◌≤◌, ℤ, pos, Bool, true, not, ◌&&◌, List}
+use Rattle.std.specs.Prelude.{◌≡◌, ℕ, ◌<◌, ◌≤◌, ℤ, pos, Bool, true, ◌&&◌, List}
 use Rattle.mpy_tree.specs.Printable.{ArePrintable}
-use Rattle.bit_words.specs.Bits.{differ}
 use Rattle.bit_words.specs.Words.{fits, int_of, nat_of}
 use Rattle.bounds_reader.specs.declared.params.Param.{Param}
 use Rattle.bounds_reader.specs.declared.params.Param.TheVariants as param
 use Rattle.sym_values.specs.Reading.{Reading}
-use Rattle.input_bits.specs.Alphabets.{is_among}
-use Rattle.input_bits.specs.Layout.{has_characters}
 use Rattle.input_space.specs.Inputs.{is_between, is_within}
-
--- one truth value is another
-abbrev pub is_bit : Bool → Bool → Bool
-is_bit known b = not (differ b known)
+use Rattle.input_ranges.specs.Alphabets.{is_among}
+use Rattle.input_bits.specs.Layout.{has_characters}
 
 -- the ends of the range of a number, and of a length
 abbrev pub lowest : Param → ℤ

@@ -1,4 +1,3 @@
 pub mod Layout
-pub mod Alphabets
 pub mod Known
 pub mod Cases

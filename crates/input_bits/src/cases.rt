@@ -11,13 +11,13 @@ ghost use Rattle.sym_values.specs.Results.{AreWordsIn, IsValueIn};
 ghost use Rattle.input_bits.specs.Cases.{has_length_of, is_in_case, is_in_part};
 
 use crate::item_ranges::{KnownItems, filled_up};
-use crate::length_ranges::single_length;
 use crate::parts::Split;
 use crate::ranges::Ranged;
 use bit_words::NoMemory;
 use bit_words::bits::Bits;
 use bit_words::logic::Logic;
 use bit_words::words::Words;
+use input_ranges::single_length;
 use std::alloc::Global;
 use sym_values::{SymValue, SymValues};
 

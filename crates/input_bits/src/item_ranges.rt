@@ -10,10 +10,6 @@ ghost use Rattle.sym_values.specs.Forms.{joined, lengths};
 ghost use Rattle.sym_values.specs.Results.{AreWordsIn};
 ghost use Rattle.input_bits.specs.Known.{HoldsItems, is_item};
 
-use crate::alphabets::ranged_character;
-use crate::high_bits::KnownBits;
-use crate::length_ranges::ranged_length;
-use crate::number_ranges::ranged_number;
 use bit_words::NoMemory;
 use bit_words::bits::Bits;
 use bit_words::bitwise::zeros;
@@ -23,6 +19,7 @@ use bit_words::order::less_number;
 use bit_words::word::Word;
 use bit_words::words::Words;
 use bounds_reader::Param;
+use input_ranges::{KnownBits, ranged_character, ranged_length, ranged_number};
 use std::alloc::Global;
 
 // Words with what is known of them in their places, and whether that is right.

@@ -2,15 +2,11 @@
 //! them, inputs by cases, and the input that truth values spell.
 #![tactic(auto)]
 
-mod alphabets;
 mod cases;
 mod decode;
 mod fresh;
-mod high_bits;
 mod item_ranges;
 pub mod laws;
-mod length_ranges;
-mod number_ranges;
 mod numbers;
 mod parts;
 mod ranges;

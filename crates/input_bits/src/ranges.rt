@@ -12,11 +12,11 @@ ghost use Rattle.input_bits.specs.Known.{highest, longest, lowest, shortest};
 ghost use Rattle.input_space.specs.Inputs.{param_type};
 
 use crate::item_ranges::ranged_sequence;
-use crate::number_ranges::ranged_number;
 use bit_words::NoMemory;
 use bit_words::logic::Logic;
 use bit_words::word::Word;
 use bounds_reader::Param;
+use input_ranges::ranged_number;
 use mpy_tree::Limits;
 use std::alloc::Global;
 use sym_values::SymValue;

@@ -8,8 +8,8 @@ use Rattle.sym_values.specs.Forms.{bits_of, form_of, forms_of}
 use Rattle.sym_values.specs.Later.{value_later}
 use Rattle.sym_values.specs.Owned.{owns_one, owns_one_more}
 use Rattle.sym_values.specs.Reading.{read, spelled}
+use Rattle.input_ranges.proofs.Between.{and_same}
 use Rattle.input_bits.specs.Cases.{is_in_case, is_in_part}
-use Rattle.input_bits.proofs.Between.{and_same}
 use Rattle.input_bits.proofs.CaseArgs.{as_many, case_end, case_step, read_at, readings_later}
 use Rattle.input_bits.proofs.Items.{mapped_more}
 use Rattle.input_bits.proofs.cases.input_case.Goals as goal

@@ -8,9 +8,9 @@ use Rattle.bit_words.proofs.Kept.{owns_kept, reads_kept}
 use Rattle.sym_values.specs.Forms.{lengths}
 use Rattle.sym_values.specs.Later.{words_later}
 use Rattle.sym_values.specs.Owned.{owns_one, owns_one_more}
+use Rattle.input_ranges.proofs.Between.{and_same}
+use Rattle.input_ranges.proofs.CharacterDigits.{or_same}
 use Rattle.input_bits.specs.Known.{HoldsItems, is_item}
-use Rattle.input_bits.proofs.Between.{and_same}
-use Rattle.input_bits.proofs.CharacterDigits.{or_same}
 use Rattle.input_bits.proofs.Items.{counted, held, items_same, items_tested, mapped_more}
 use Rattle.input_bits.proofs.item_ranges.ranged_items.Goals as goal
 

@@ -1,5 +1,5 @@
 use Rattle.std.proofs.Common.{◌∙◌, ap, not, refl}
-use Rattle.input_bits.proofs.Between.{and_same}
+use Rattle.input_ranges.proofs.Between.{and_same}
 use Rattle.query_build.proofs.Comparisons.{done_reads, one_reads}
 use Rattle.query_build.proofs.compared.compare_outcomes.Goals as goal
 

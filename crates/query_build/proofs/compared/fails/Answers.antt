@@ -1,5 +1,5 @@
 use Rattle.std.proofs.Common.{◌∙◌, ap, not}
-use Rattle.input_bits.proofs.Between.{and_same}
+use Rattle.input_ranges.proofs.Between.{and_same}
 use Rattle.query_build.proofs.compared.fails.Goals as goal
 
 pub returns-clause-value : goal.returns-clause-value

@@ -3,7 +3,7 @@ use Rattle.std.specs.List.{Contains}
 use Rattle.std.proofs.lemmas.List.{take_all, take_more}
 use Rattle.bit_words.specs.Logic.{extends_keeps, extends_trans}
 use Rattle.bounds_reader.specs.declared.bounds.Bounds.{Bounds}
-use Rattle.input_bits.proofs.Between.{and_same}
+use Rattle.input_ranges.proofs.Between.{and_same}
 use Rattle.input_space.specs.declared.case.Case.{Case}
 use Rattle.input_space.specs.Agreement.{IsInput}
 use Rattle.input_space.specs.TaskParts.{task_with}

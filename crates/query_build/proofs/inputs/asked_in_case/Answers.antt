@@ -1,5 +1,5 @@
 use Rattle.std.proofs.Common.{◌∙◌, ap, map, refl}
-use Rattle.input_bits.proofs.Between.{and_same}
+use Rattle.input_ranges.proofs.Between.{and_same}
 use Rattle.input_space.specs.TaskParts.{task_with}
 use Rattle.sym_values.specs.Reading.{read}
 use Rattle.query_build.specs.Comparing.{is_asked_for}

@@ -12,8 +12,8 @@ use Rattle.sym_values.specs.Forms.{bits_of, form_for, form_of, forms_of}
 use Rattle.sym_values.specs.Later.{value_later}
 use Rattle.sym_values.specs.Owned.{owns_one, owns_one_more}
 use Rattle.sym_values.specs.Reading.{read, spelled}
+use Rattle.input_ranges.proofs.Between.{and_same}
 use Rattle.input_bits.specs.Known.{is_right}
-use Rattle.input_bits.proofs.Between.{and_same}
 use Rattle.input_bits.proofs.CaseArgs.{readings_later}
 use Rattle.input_bits.proofs.Items.{mapped_more}
 use Rattle.input_space.specs.Inputs.{param_type}

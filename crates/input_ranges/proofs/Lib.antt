@@ -1,0 +1,3 @@
+pub mod HighBits
+pub mod Between
+pub mod CharacterDigits
