@@ -22,6 +22,13 @@ use bounds_reader::Param;
 use input_ranges::{KnownBits, ranged_character, ranged_length, ranged_number};
 use std::alloc::Global;
 
+/// The ends of the range of a length.
+#[derive(Clone, Copy)]
+pub(crate) struct LengthRange {
+    pub(crate) least: u32,
+    pub(crate) most: u32,
+}
+
 // Words with what is known of them in their places, and whether that is right.
 #[derive(Drop)]
 struct KnownWords<B: Copy> {
@@ -145,13 +152,12 @@ pub(crate) fn ranged_sequence<L: Logic>(
     alloc: Global,
     g: &mut L,
     param: &Param,
+    ends: LengthRange,
     len: &Bits<L::Bit>,
     items: &Words<L::Bit>,
-    least: u32,
-    most: u32,
 ) -> Result<KnownItems<L::Bit>, NoMemory>
-    requires most { most ≤ length items.now }
-    requires short { most ≤ 16 }
+    requires most { ends.most ≤ length items.now }
+    requires short { ends.most ≤ 16 }
     requires range { All (HoldsItems param.now) (lengths items.now) }
     requires owned_len { OwnsAll L.owns g.old len.now }
     requires owned { OwnsAll L.owns g.old (joined items.now) }
@@ -160,8 +166,8 @@ pub(crate) fn ranged_sequence<L: Logic>(
     ensures made { IfOk result (λ r. AreWordsIn L.owns g.new (lengths items.now) r.items) }
     ensures owned { IfOk result (λ r. L.owns g.new r.within) }
     ensures within { IfOk result (λ r. (vs : List Bool) → L.reads g.new vs r.within
-        ≡ ((nat_le least (nat_read L.reads g.old vs len.now)
-        && nat_le (nat_read L.reads g.old vs len.now) most)
+        ≡ ((nat_le ends.least (nat_read L.reads g.old vs len.now)
+        && nat_le (nat_read L.reads g.old vs len.now) ends.most)
         && list_all (is_item param.now) (take (nat_read L.reads g.old vs len.now)
         (map (map (L.reads g.old vs)) items.now)))) }
     ensures same { IfOk result (λ r. (vs : List Bool) → L.reads g.new vs r.within ≡ true
@@ -169,10 +175,10 @@ pub(crate) fn ranged_sequence<L: Logic>(
         × (take (nat_read L.reads g.old vs len.now) (map (map (L.reads g.new vs)) r.items)
         ≡ take (nat_read L.reads g.old vs len.now) (map (map (L.reads g.old vs)) items.now))) }
 {
-    let length = ranged_length(alloc, g, len.as_slice(), least, most)?;
+    let length = ranged_length(alloc, g, len.as_slice(), ends.least, ends.most)?;
     let fits = length.within;
     let bits = length.bits;
-    let known = ranged_items(alloc, g, param, bits.as_slice(), items, most)?;
+    let known = ranged_items(alloc, g, param, bits.as_slice(), items, ends.most)?;
     let right = known.within;
     let words = known.words;
     let within = g.and(fits, right)?;

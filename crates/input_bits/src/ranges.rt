@@ -11,7 +11,7 @@ ghost use Rattle.input_bits.specs.Known.{HasCharacters, is_right};
 ghost use Rattle.input_bits.specs.Known.{highest, longest, lowest, shortest};
 ghost use Rattle.input_space.specs.Inputs.{param_type};
 
-use crate::item_ranges::ranged_sequence;
+use crate::item_ranges::{LengthRange, ranged_sequence};
 use bit_words::NoMemory;
 use bit_words::logic::Logic;
 use bit_words::word::Word;
@@ -33,13 +33,6 @@ pub struct Ranged<B: Copy> {
 struct NumberRange {
     low: i32,
     high: i32,
-}
-
-// The ends of the range of a length.
-#[derive(Clone, Copy)]
-struct LengthRange {
-    least: u32,
-    most: u32,
 }
 
 fn number_range(param: &Param) -> NumberRange
@@ -119,7 +112,7 @@ pub fn ranged_value<L: Logic>(
         }
         SymValue::List { len, items } => {
             let ends = length_range(param);
-            let known = ranged_sequence(alloc, g, param, len, items, ends.least, ends.most)?;
+            let known = ranged_sequence(alloc, g, param, ends, len, items)?;
             let within = known.within;
             let value = SymValue::List {
                 len: known.len,
@@ -129,7 +122,7 @@ pub fn ranged_value<L: Logic>(
         }
         SymValue::Text { len, items } => {
             let ends = length_range(param);
-            let known = ranged_sequence(alloc, g, param, len, items, ends.least, ends.most)?;
+            let known = ranged_sequence(alloc, g, param, ends, len, items)?;
             let within = known.within;
             let value = SymValue::Text {
                 len: known.len,
