@@ -1,6 +1,6 @@
 -- Splits, and the cases that values belong to.
-use Rattle.std.proofs.Common.{◌≡◌, ◌∙◌, ℕ, zero, suc, ◌+◌, ◌-◌, ◌*◌, ◌/◌, ◌%◌, ◌<◌, ◌≤◌, ◌==◌, Bool, true, false, ◌&&◌, ◌||◌, List, [], ◌∷◌, ◌++◌, length, take, refl, sym, ap, subst, arith}
-use Rattle.std.specs.List.{AllZip, list_all}
+use Rattle.std.proofs.Common.{◌≡◌, ◌∙◌, ℕ, zero, suc, ◌+◌, ◌-◌, ◌*◌, ◌/◌, ◌%◌, ◌<◌, ◌≤◌, ◌==◌, Bool, true, ◌||◌, List, [], ◌∷◌, ◌++◌, length, take, refl, sym, ap, arith}
+use Rattle.std.specs.List.{AllZip}
 use Rattle.std.specs.Prelude.{nat_le}
 use Rattle.std.proofs.lemmas.Bool.{and_parts, eq-eqb, leb-true, or_left, or_right}
 use Rattle.std.proofs.Math.Nat.{mul_assoc, mul-le-mul_left, mul-le-mul_right}
@@ -10,7 +10,7 @@ use Rattle.mpy_tree.specs.declared.value.Value.TheVariants as value
 use Rattle.bounds_reader.specs.declared.params.Param.{Param}
 use Rattle.bounds_reader.specs.declared.params.Param.TheVariants as param
 use Rattle.input_bits.specs.declared.parts.Split.{Split}
-use Rattle.input_bits.specs.Cases.{Covers, CoversLengths, SomeCase, cases, has_length_of, is_in_case, is_in_part}
+use Rattle.input_bits.specs.Cases.{Covers, CoversLengths, SomeCase, cases, has_length_of, is_in_part}
 use Rattle.input_space.specs.Inputs.{are_within, has_length, is_within}
 
 -- PARTS

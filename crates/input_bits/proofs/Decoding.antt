@@ -1,8 +1,8 @@
 -- Values that truth values spell, word by word.
 use Rattle.std.proofs.Common.{◌≡◌, ◌∙◌, ℕ, zero, suc, ◌+◌, ◌*◌, ◌<◌, ◌≤◌, Bool, true, false, ◌&&◌}
-use Rattle.std.proofs.Common.{List, [], ◌∷◌, ◌++◌, length, map, take, drop, get_or, refl, ap, sym, subst}
+use Rattle.std.proofs.Common.{List, [], ◌∷◌, ◌++◌, length, map, take, refl, ap, sym, subst}
 use Rattle.std.proofs.Common.{arith, append_assoc, if◌then◌else◌}
-use Rattle.std.specs.Prelude.{Option, Some, None, option_map, slice_get, slice_index_or, nat_le, ℤ}
+use Rattle.std.specs.Prelude.{Option, Some, None, option_map, slice_get, nat_le, ℤ}
 use Rattle.std.specs.List.{list_all}
 use Rattle.std.proofs.lemmas.Bool.{and_from, le-leb}
 use Rattle.std.proofs.lemmas.Bool.Decides.{nat_tests}

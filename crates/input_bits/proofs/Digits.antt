@@ -1,6 +1,6 @@
 -- Numbers that truth values spell, digit by digit.
-use Rattle.std.proofs.Common.{◌≡◌, ◌∙◌, ℕ, suc, zero, ◌+◌, ◌*◌, ◌^◌, ◌<◌, ◌≤◌, Bool, true, false, List}
-use Rattle.std.proofs.Common.{[], ◌∷◌, ◌++◌, length, Some, ap, refl, arith, subst}
+use Rattle.std.proofs.Common.{◌≡◌, ◌∙◌, ℕ, suc, zero, ◌+◌, ◌*◌, ◌^◌, Bool, false, List}
+use Rattle.std.proofs.Common.{[], ◌∷◌, ◌++◌, length, Some, ap, refl, arith}
 use Rattle.std.specs.Prelude.{slice_get, slice_index_or}
 use Rattle.bit_words.specs.Later.{values_from, values_from_more}
 use Rattle.bit_words.specs.Words.{bit_value, nat_of}

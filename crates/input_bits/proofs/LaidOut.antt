@@ -1,19 +1,18 @@
 -- Truth values in the places of a value's bits, and what they spell.
-use Rattle.std.proofs.Common.{◌≡◌, ℕ, zero, suc, ◌+◌, ◌*◌, Bool, true, false, ◌&&◌, List, [], ◌∷◌, ◌++◌, length, map, take, replicate, refl, sym, ap, ◌∙◌, subst, arith, Some, None}
-use Rattle.std.specs.Prelude.{ℤ, Option, option_map, nat_le, if◌then◌else◌, slice_index_or}
+use Rattle.std.proofs.Common.{◌≡◌, ℕ, zero, suc, ◌+◌, ◌*◌, Bool, true, false, ◌&&◌, List, [], ◌∷◌, ◌++◌, length, map, take, refl, sym, ap, ◌∙◌, arith, Some, None}
+use Rattle.std.specs.Prelude.{ℤ, option_map, nat_le, if◌then◌else◌}
 use Rattle.std.specs.List.{list_all}
 use Rattle.std.proofs.lemmas.List.{length-map}
 use Rattle.mpy_tree.specs.Options.{◌>>=◌}
 use Rattle.mpy_tree.specs.declared.limits.Limits.{Limits}
 use Rattle.mpy_tree.specs.declared.typing.Ty.{Ty}
 use Rattle.mpy_tree.specs.declared.typing.Ty.TheVariants as ty
-use Rattle.mpy_tree.specs.declared.value.Value.{Value}
 use Rattle.mpy_tree.specs.declared.value.Value.TheVariants as value
 use Rattle.bit_words.specs.Later.{values_from}
 use Rattle.bit_words.specs.Words.{nat_of, int_of}
-use Rattle.sym_values.specs.Reading.{Reading, spelled}
-use Rattle.input_space.specs.ValueBits.{all_bits_for, bits_for, first, printable, value_at, words_from}
-use Rattle.input_bits.specs.Layout.{all_laid_out, decoded, has_characters, laid_out}
+use Rattle.sym_values.specs.Reading.{spelled}
+use Rattle.input_space.specs.ValueBits.{all_bits_for, bits_for, printable, value_at, words_from}
+use Rattle.input_bits.specs.Layout.{all_laid_out, decoded, laid_out}
 
 -- one word more
 pub words_from_more : (vs : List Bool) (start width n : ℕ) → words_from vs start width (n + 1) ≡ words_from vs start width n ++ values_from vs (start + n * width) width ∷ []

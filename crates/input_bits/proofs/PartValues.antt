@@ -4,7 +4,6 @@ use Rattle.std.specs.Prelude.{nat_le}
 use Rattle.std.proofs.lemmas.Bool.{leb-true}
 use Rattle.std.proofs.lemmas.List.{length-map}
 use Rattle.mpy_tree.specs.declared.value.Value.{Value}
-use Rattle.mpy_tree.specs.declared.value.Value.TheVariants as val
 use Rattle.bit_words.specs.Words.{int_of, nat_of}
 use Rattle.sym_values.specs.Reading.{Reading, spelled, sure}
 use Rattle.sym_values.specs.declared.value.SymValue.TheVariants as sym_value

@@ -1,7 +1,7 @@
 -- What values within their ranges read as.
-use Rattle.std.proofs.Common.{◌≡◌, ◌∙◌, ℕ, zero, suc, ◌+◌, ◌<◌, ◌≤◌, ◌==◌, Bool, true, false, ◌&&◌, List, [], ◌∷◌, length, map, take, refl, ap, sym, subst, arith, min, length-take, All}
+use Rattle.std.proofs.Common.{◌≡◌, ◌∙◌, ℕ, ◌<◌, ◌≤◌, Bool, true, false, ◌&&◌, List, [], ◌∷◌, length, map, take, refl, ap, sym, subst, arith, length-take, All}
 use Rattle.std.specs.Prelude.{nat_le, int_le, ℤ, pos, replicate}
-use Rattle.std.specs.List.{list_all, list_any}
+use Rattle.std.specs.List.{list_all}
 use Rattle.std.proofs.lemmas.Bool.{and_from, and_parts, false≢true, leb-true, le-leb}
 use Rattle.std.proofs.lemmas.List.{length-map, length-replicate, take-map}
 use Rattle.std.proofs.lemmas.List.Elements.{All-replicate}
@@ -16,7 +16,7 @@ use Rattle.bounds_reader.specs.declared.params.Param.{Param}
 use Rattle.bounds_reader.specs.declared.params.Param.TheVariants as param
 use Rattle.bounds_reader.specs.Forms.{form_of as range_of}
 use Rattle.bounds_reader.specs.Ranges.{are_lengths, are_numbers, is_alphabet, is_in_range}
-use Rattle.sym_values.specs.Forms.{Form, BoolForm, IntForm, ListForm, TextForm, form_for}
+use Rattle.sym_values.specs.Forms.{BoolForm, IntForm, ListForm, TextForm, form_for}
 use Rattle.sym_values.specs.Reading.{Reading, spelled}
 use Rattle.sym_values.specs.declared.value.SymValue.TheVariants as sym_value
 use Rattle.sym_values.proofs.Numbers.{same_fits}

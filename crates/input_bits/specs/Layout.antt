@@ -1,5 +1,5 @@
 -- The bits of the values of an input, in their places.
-use Rattle.std.specs.Prelude.{◌≡◌, ℕ, ◌+◌, Bool, true, false, ◌&&◌, List, [], ◌∷◌, slice_index_or}
+use Rattle.std.specs.Prelude.{ℕ, ◌+◌, Bool, true, false, ◌&&◌, List, [], ◌∷◌, slice_index_or}
 use Rattle.std.specs.Prelude.{Option, Some, None, if◌then◌else◌, nat_le}
 use Rattle.std.specs.List.{list_all}
 use Rattle.mpy_tree.specs.declared.limits.Limits.{Limits}
@@ -10,7 +10,7 @@ use Rattle.mpy_tree.specs.declared.value.Value.TheVariants as value
 use Rattle.bit_words.specs.Later.{values_from}
 use Rattle.sym_values.specs.declared.value.SymValue.{SymValue}
 use Rattle.sym_values.specs.declared.value.SymValue.TheVariants as sym
-use Rattle.sym_values.specs.Reading.{Reading, map_bits}
+use Rattle.sym_values.specs.Reading.{Reading}
 use Rattle.input_space.specs.ValueBits.{bits_for, words_from}
 
 -- truth values from a place on, as those of a value's bits

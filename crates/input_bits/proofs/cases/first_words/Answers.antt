@@ -1,4 +1,4 @@
-use Rattle.std.proofs.Common.{◌≡◌, ◌∙◌, ◌++◌, ◌∷◌, [], ap, arith, length, sym, take}
+use Rattle.std.proofs.Common.{◌∙◌, ◌++◌, ◌∷◌, [], ap, arith, sym, take}
 use Rattle.sym_values.proofs.Held.{take_read}
 use Rattle.input_bits.proofs.Items.{take_least}
 use Rattle.input_bits.proofs.cases.first_words.Goals as goal

@@ -1,4 +1,4 @@
-use Rattle.std.proofs.Common.{◌≡◌, ◌∙◌, ◌+◌, ◌++◌, ◌∷◌, [], ◌&&◌, ◌/◌, ap, arith, drop, get_or, length, map, refl, subst, sym, take}
+use Rattle.std.proofs.Common.{◌∙◌, ◌+◌, ◌++◌, ◌∷◌, [], ◌&&◌, ◌/◌, ap, arith, drop, map, sym, take}
 use Rattle.std.proofs.Math.ListN.{drop_of_length-le}
 use Rattle.std.proofs.lemmas.Bool.{and_parts}
 use Rattle.std.proofs.lemmas.List.{drop_more, length-map, map_push, take_all}
@@ -9,7 +9,7 @@ use Rattle.sym_values.specs.Later.{value_later}
 use Rattle.sym_values.specs.Owned.{owns_one, owns_one_more}
 use Rattle.sym_values.specs.Reading.{read, spelled}
 use Rattle.input_ranges.proofs.Between.{and_same}
-use Rattle.input_bits.specs.Cases.{is_in_case, is_in_part}
+use Rattle.input_bits.specs.Cases.{is_in_case}
 use Rattle.input_bits.proofs.CaseArgs.{as_many, case_end, case_step, read_at, readings_later}
 use Rattle.input_bits.proofs.Items.{mapped_more}
 use Rattle.input_bits.proofs.cases.input_case.Goals as goal

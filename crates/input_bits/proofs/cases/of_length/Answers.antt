@@ -2,9 +2,8 @@ use Rattle.std.proofs.Common.{◌≡◌, ◌∙◌, ap, length, map, sym, take}
 use Rattle.std.proofs.lemmas.Bool.{eqb-true}
 use Rattle.std.proofs.lemmas.List.{length-map, take-map}
 use Rattle.bit_words.specs.Logic.{extends_keeps}
-use Rattle.bit_words.specs.Words.{nat_of, nat_read}
+use Rattle.bit_words.specs.Words.{nat_read}
 use Rattle.bit_words.proofs.Kept.{owns_kept}
-use Rattle.sym_values.specs.Forms.{lengths}
 use Rattle.sym_values.specs.Later.{words_later}
 use Rattle.input_bits.proofs.Items.{front_lengths, front_same, owns_front}
 use Rattle.input_bits.proofs.cases.of_length.Goals as goal

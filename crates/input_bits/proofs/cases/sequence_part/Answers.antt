@@ -1,4 +1,4 @@
-use Rattle.std.proofs.Common.{◌≡◌, ◌∙◌, ◌+◌, ◌==◌, ◌||◌, ap, map, sym}
+use Rattle.std.proofs.Common.{◌∙◌, ◌+◌, ◌==◌, ◌||◌, ap, sym}
 use Rattle.std.proofs.lemmas.Bool.{eq-eqb, ne_eqb, or_left}
 use Rattle.bit_words.specs.Words.{nat_read}
 use Rattle.input_bits.proofs.cases.sequence_part.Goals as goal

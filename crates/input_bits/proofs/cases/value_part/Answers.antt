@@ -1,4 +1,4 @@
-use Rattle.std.proofs.Common.{◌≡◌, ◌∙◌, ap, length, map, sym}
+use Rattle.std.proofs.Common.{◌∙◌, ap, length, map, sym}
 use Rattle.std.proofs.lemmas.List.{length-map}
 use Rattle.bit_words.specs.Later.{owns_both}
 use Rattle.sym_values.specs.Owned.{list_items_owned, list_len_owned, text_items_owned, text_len_owned}

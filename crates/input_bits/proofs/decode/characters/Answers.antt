@@ -1,4 +1,4 @@
-use Rattle.std.proofs.Common.{◌+◌, ◌*◌, ◌∙◌, map, ap, sym, arith, subst, ◌≡◌}
+use Rattle.std.proofs.Common.{◌∙◌, map, ap, sym, arith, subst, ◌≡◌}
 use Rattle.bit_words.specs.Words.{nat_of}
 use Rattle.known_values.proofs.Items.{printable_more}
 use Rattle.mpy_tree.specs.Printable.{ArePrintable}

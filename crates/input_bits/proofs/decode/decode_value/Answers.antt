@@ -1,4 +1,4 @@
-use Rattle.std.proofs.Common.{◌∙◌, ◌≡◌, Some, None, ap, sym, arith}
+use Rattle.std.proofs.Common.{Some, None, arith}
 use Rattle.input_bits.proofs.Decoding.{bool_at, list_at, no_list_at, no_text_at, text_at}
 use Rattle.input_bits.proofs.decode.decode_value.Goals as goal
 

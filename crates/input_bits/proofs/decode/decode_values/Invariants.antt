@@ -1,4 +1,4 @@
-use Rattle.std.proofs.Common.{◌≡◌, ◌+◌, ◌++◌, drop, take}
+use Rattle.std.proofs.Common.{◌≡◌, ◌+◌, ◌++◌, drop}
 use Rattle.std.specs.Prelude.{option_map}
 use Rattle.input_space.specs.ValueBits.{all_bits_for, values_at}
 use Rattle.input_bits.proofs.decode.decode_values.Given as goal

@@ -1,4 +1,4 @@
-use Rattle.std.proofs.Common.{rules, ◌+◌, ◌*◌, arith}
+use Rattle.std.proofs.Common.{rules, arith}
 use Rattle.bit_words.specs.Words.{int_of}
 use Rattle.known_values.proofs.Items.{number_more}
 use Rattle.input_bits.proofs.Decoding.{word_more}

@@ -1,8 +1,7 @@
 use Rattle.std.proofs.Common.{◌≡◌, ◌+◌, ◌++◌, ◌∷◌, [], ℕ, get_or, map, take, ap, ◌∙◌, subst, sym, arith}
 use Rattle.std.proofs.lemmas.List.{map_push, take_more}
 use Rattle.mpy_tree.specs.declared.typing.Ty.TheVariants.{Int}
-use Rattle.bit_words.specs.Logic.{keeps_trans}
-use Rattle.bit_words.specs.Later.{AddsVariables, adds_keeps, adds_trans, owned_later}
+use Rattle.bit_words.specs.Later.{AddsVariables, adds_trans, owned_later}
 use Rattle.sym_values.specs.Forms.{bits_of, form_for, form_of}
 use Rattle.sym_values.specs.Later.{values_later}
 use Rattle.sym_values.specs.Owned.{owns_one_more}

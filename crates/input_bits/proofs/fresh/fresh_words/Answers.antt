@@ -1,12 +1,10 @@
-use Rattle.std.proofs.Common.{◌≡◌, ◌∙◌, ℕ, ◌+◌, ◌*◌, ap, sym, subst, arith, refl, length, map}
-use Rattle.std.specs.Prelude.{replicate}
+use Rattle.std.proofs.Common.{◌≡◌, ◌∙◌, ℕ, ◌+◌, ◌*◌, sym, subst, arith, refl, length, map}
 use Rattle.bit_words.specs.Logic.{keeps_trans}
 use Rattle.bit_words.specs.Later.{AddsVariables, adds_keeps, adds_trans, owned_later}
 use Rattle.sym_values.specs.Later.{words_later}
 use Rattle.sym_values.specs.Owned.{owns_one_more}
 use Rattle.sym_values.proofs.Held.{pushed_read}
 use Rattle.sym_values.proofs.Paddings.{alike_more}
-use Rattle.input_space.specs.ValueBits.{words_from}
 use Rattle.input_bits.proofs.LaidOut.{words_from_more}
 use Rattle.input_bits.proofs.fresh.fresh_words.Goals as goal
 

@@ -1,4 +1,4 @@
-use Rattle.std.proofs.Common.{◌≡◌, ◌∙◌, ap, length, map, subst, sym, w32, rules}
+use Rattle.std.proofs.Common.{◌∙◌, ap, length, map, subst, sym, w32, rules}
 use Rattle.std.specs.Prelude.{FitsSigned}
 use Rattle.std.proofs.lemmas.Int.{to_z-of_z}
 use Rattle.input_bits.specs.Known.{HoldsItems, is_item}

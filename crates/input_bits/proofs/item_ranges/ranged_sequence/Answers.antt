@@ -1,4 +1,4 @@
-use Rattle.std.proofs.Common.{◌≡◌, ◌∙◌, ◌≤◌, ◌&&◌, ap, arith, length, map, sym, take, true}
+use Rattle.std.proofs.Common.{◌≡◌, ◌∙◌, ◌≤◌, ◌&&◌, ap, arith, length, map, sym, take}
 use Rattle.std.specs.Prelude.{nat_le}
 use Rattle.std.specs.List.{list_all}
 use Rattle.std.proofs.lemmas.Bool.{and_parts, leb-true}
@@ -10,7 +10,6 @@ use Rattle.sym_values.specs.Forms.{lengths}
 use Rattle.sym_values.specs.Later.{words_later}
 use Rattle.input_bits.specs.Known.{is_item}
 use Rattle.input_bits.proofs.Items.{and_when, counted, first_words, take_within}
-use Rattle.input_bits.proofs.item_ranges.ranged_sequence.Given as given
 use Rattle.input_bits.proofs.item_ranges.ranged_sequence.Goals as goal
 
 pub returns-clause-within : goal.returns-clause-within

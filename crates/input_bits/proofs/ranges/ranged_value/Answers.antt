@@ -4,8 +4,8 @@ use Rattle.std.proofs.lemmas.Int.{to_z-of_z}
 use Rattle.std.proofs.lemmas.List.{length-map}
 use Rattle.mpy_tree.specs.declared.value.Value.TheVariants as val
 use Rattle.bit_words.specs.Later.{owns_both}
-use Rattle.bit_words.specs.Words.{int_of, int_read}
-use Rattle.sym_values.specs.Forms.{IntForm, form_for, form_of, lengths}
+use Rattle.bit_words.specs.Words.{int_of}
+use Rattle.sym_values.specs.Forms.{IntForm, form_for, form_of}
 use Rattle.sym_values.specs.Owned.{list_items_owned, list_len_owned, text_items_owned, text_len_owned, word_owned}
 use Rattle.sym_values.specs.Reading.{read, sure}
 use Rattle.sym_values.proofs.Held.{list_form, text_form}

@@ -1,4 +1,4 @@
-use Rattle.std.proofs.Common.{◌≡◌, ◌∙◌, ◌+◌, ◌*◌, ◌≤◌, ◌++◌, ◌∷◌, [], ap, arith, sym, take}
+use Rattle.std.proofs.Common.{◌≡◌, ◌∙◌, ◌+◌, ◌*◌, ◌++◌, ◌∷◌, [], ap, arith, sym, take}
 use Rattle.std.proofs.lemmas.List.{take_more}
 use Rattle.input_bits.specs.Cases.{cases}
 use Rattle.input_bits.proofs.CaseLaws.{cases_more, cases_taken}
