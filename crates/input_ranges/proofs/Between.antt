@@ -1,13 +1,11 @@
 -- Numbers and lengths in ranges.
-use Rattle.std.proofs.Common.{◌≡◌, ◌∙◌, ℕ, zero, suc, ◌+◌, ◌*◌, ◌/◌, ◌%◌, ◌^◌, ◌<◌, ◌≤◌, Bool, true, false, not, ◌&&◌, List, [], ◌∷◌, length, map, take, drop, get_or, refl, ap, sym, subst, arith, max}
+use Rattle.std.proofs.Common.{◌≡◌, ℕ, zero, suc, ◌+◌, ◌*◌, ◌^◌, ◌<◌, ◌≤◌, Bool, true, false, not, ◌&&◌, refl, arith, max}
 use Rattle.std.specs.Prelude.{ℤ, pos, negsuc, nat_le, nat_lt, nat_eq}
 use Rattle.std.specs.Int.Signed.{lt_z}
-use Rattle.std.specs.List.{list_all}
 use Rattle.std.specs.Ordering.{int_eq}
 use Rattle.std.proofs.Math.Pow.{pow_mono}
 use Rattle.std.proofs.lemmas.Bool.{false≢true}
 use Rattle.std.proofs.lemmas.Bool.Decides.{Decides-int_eq, nat_tests}
-use Rattle.std.proofs.lemmas.Int.{ints}
 use Rattle.bit_words.specs.Operations.{folded}
 use Rattle.bit_words.specs.Words.{is_negative, is_within}
 use Rattle.input_space.specs.Inputs.{is_between}

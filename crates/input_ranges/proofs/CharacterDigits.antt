@@ -1,14 +1,10 @@
 -- Digits of characters.
-use Rattle.std.proofs.Common.{◌≡◌, ◌∙◌, ℕ, zero, suc, ◌+◌, ◌*◌, ◌/◌, ◌%◌, ◌^◌, ◌<◌, ◌≤◌, ◌==◌, Bool, true, false, not, ◌&&◌, ◌||◌, List, [], ◌∷◌, ◌++◌, length, map, take, get_or, refl, ap, sym, subst, arith, eqb}
-use Rattle.std.specs.Prelude.{slice_get, Some}
-use Rattle.std.specs.List.{list_any}
+use Rattle.std.proofs.Common.{◌≡◌, ◌∙◌, ℕ, zero, suc, ◌+◌, ◌*◌, ◌/◌, ◌%◌, ◌^◌, ◌<◌, ◌==◌, Bool, true, false, not, ◌&&◌, ◌||◌, List, [], ◌∷◌, length, take, get_or, refl, ap, sym, subst, arith, eqb}
 use Rattle.std.proofs.lemmas.Bool.{and_from, and_parts, eqb-true, false≢true}
 use Rattle.std.proofs.lemmas.Bool.Decides.{nat_tests}
-use Rattle.std.proofs.lemmas.List.{length-map, map_push, take-map}
 use Rattle.std.proofs.lemmas.Nat.{div-mul-add}
 use Rattle.bit_words.specs.Bits.{differ}
 use Rattle.bit_words.specs.Words.{bit_value, nat_of}
-use Rattle.bit_words.proofs.Kept.{take_read, value_read}
 use Rattle.bit_words.proofs.Naturals.{power_double}
 use Rattle.bit_words.proofs.Signs.{power_positive}
 use Rattle.input_ranges.specs.Alphabets.{digit_of, is_among}

@@ -1,10 +1,8 @@
-use Rattle.std.proofs.Common.{◌≡◌, ◌∙◌, ◌||◌, ap, arith, eqb, get_or, map, sym, take}
-use Rattle.std.specs.List.{list_any}
+use Rattle.std.proofs.Common.{◌∙◌, ap, arith, eqb, get_or, sym}
 use Rattle.std.proofs.lemmas.List.Folds.{list_any_more}
 use Rattle.bit_words.specs.Logic.{extends_trans}
 use Rattle.bit_words.specs.Words.{nat_of, nat_read}
-use Rattle.bit_words.proofs.Kept.{owns_kept, reads_kept}
-use Rattle.input_ranges.specs.Alphabets.{is_among}
+use Rattle.bit_words.proofs.Kept.{reads_kept}
 use Rattle.input_ranges.proofs.CharacterDigits.{or_same, turned}
 use Rattle.input_ranges.proofs.alphabets.among.Goals as goal
 

@@ -1,8 +1,8 @@
-use Rattle.std.proofs.Common.{◌≡◌, ◌∙◌, ◌<◌, ap, arith, length, map, not, refl, subst, sym}
+use Rattle.std.proofs.Common.{◌∙◌, ◌<◌, ap, arith, length, not, refl, subst, sym}
 use Rattle.std.proofs.lemmas.List.{length-map}
 use Rattle.std.proofs.lemmas.Option.{slice_get_read}
 use Rattle.bit_words.proofs.Kept.{value_read}
-use Rattle.input_ranges.specs.Alphabets.{IsLower, digit_of, guessed}
+use Rattle.input_ranges.specs.Alphabets.{IsLower, guessed}
 use Rattle.input_ranges.proofs.alphabets.guessed_bit.Goals as goal
 
 pub returns-in-Constant-clause-value : goal.returns-in-Constant-clause-value

@@ -1,12 +1,10 @@
-use Rattle.std.proofs.Common.{◌≡◌, ◌∙◌, ◌+◌, ◌++◌, ◌∷◌, [], ◌&&◌, ap, arith, length, length-append, map, not, refl, sym, take}
+use Rattle.std.proofs.Common.{◌∙◌, ◌+◌, ◌++◌, ◌∷◌, [], ◌&&◌, ap, arith, length, length-append, map, not, refl, sym, take}
 use Rattle.std.proofs.lemmas.List.{length-map, map_push, take-map, take_all}
 use Rattle.std.proofs.lemmas.Option.{slice_get_read}
-use Rattle.bit_words.specs.Bits.{differ}
 use Rattle.bit_words.specs.Logic.{extends_trans}
 use Rattle.bit_words.specs.Words.{nat_of}
 use Rattle.bit_words.proofs.Kept.{owns_kept, owns_push, owns_read, reads_kept, take_read, value_read}
 use Rattle.input_ranges.proofs.CharacterDigits.{digit_same, lower_digits, read_digit, same_digit}
-use Rattle.input_ranges.proofs.alphabets.known_digits.Given as given
 use Rattle.input_ranges.proofs.alphabets.known_digits.Goals as goal
 
 pub loop-place-preserved : goal.loop-place-preserved

@@ -1,4 +1,4 @@
-use Rattle.std.proofs.Common.{◌≡◌, ◌∙◌, map, ap, sym}
+use Rattle.std.proofs.Common.{◌∙◌, map, ap, sym}
 use Rattle.std.proofs.lemmas.List.{drop-map}
 use Rattle.std.specs.List.{list_all}
 use Rattle.bit_words.proofs.Kept.{reads_kept}

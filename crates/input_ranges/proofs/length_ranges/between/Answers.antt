@@ -1,4 +1,4 @@
-use Rattle.std.proofs.Common.{◌≡◌, ◌∙◌, ◌+◌, ap, map, not}
+use Rattle.std.proofs.Common.{◌∙◌, ◌+◌, ap, not}
 use Rattle.std.specs.Prelude.{nat_lt}
 use Rattle.bit_words.specs.Words.{nat_of, nat_read}
 use Rattle.bit_words.proofs.Kept.{reads_kept}

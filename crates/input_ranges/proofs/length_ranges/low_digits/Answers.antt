@@ -1,4 +1,4 @@
-use Rattle.std.proofs.Common.{◌∙◌, ◌<◌, ap, refl, arith, length, length-append, map}
+use Rattle.std.proofs.Common.{◌∙◌, ap, refl, arith, length, length-append, map}
 use Rattle.bit_words.specs.Words.{nat_of}
 use Rattle.bit_words.proofs.Constants.{digit_step}
 use Rattle.bit_words.proofs.Kept.{owns_push}

@@ -1,4 +1,4 @@
-use Rattle.std.proofs.Common.{◌≡◌, ◌∙◌, ap, map, not, w32}
+use Rattle.std.proofs.Common.{◌∙◌, ap, map, not, w32}
 use Rattle.std.specs.Int.Signed.{lt_z}
 use Rattle.std.proofs.lemmas.Int.{to_z-of_z}
 use Rattle.bit_words.specs.Words.{int_of, int_read}

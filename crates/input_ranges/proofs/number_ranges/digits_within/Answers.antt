@@ -1,4 +1,4 @@
-use Rattle.std.proofs.Common.{◌≡◌, ◌<◌, ◌^◌, arith, w32}
+use Rattle.std.proofs.Common.{w32}
 use Rattle.std.proofs.lemmas.Int.{to_z-of_z}
 use Rattle.input_ranges.proofs.Between.{low_max, high_max}
 use Rattle.input_ranges.proofs.number_ranges.digits_within.Goals as goal
