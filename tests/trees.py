@@ -24,10 +24,8 @@ import unproved
 from trees_try import MOST, Harness
 
 BATCH = 500
-# The language of rules with neither guards nor deletions, and the limit by tries.
-STAGE = 6
-# The stage of the model from which on `print` is a statement.
-PRINTS = 15
+# The stage of the model whose language has the statement `print`, and whose rules neither insert guards nor delete statements.
+STAGE = 15
 ONE = {'Neg': '-', 'Not': '!', 'And': '&', 'Or': '|', 'Index': 'I'}
 
 
@@ -214,8 +212,6 @@ class Model:
         import weights
         self.grade, self.printer, self.rewrite, self.tree, self.weights = grade, printer, rewrite, tree, weights
         self.text = TreeText(self.written)
-        read = grade.read_program
-        grade.read_program = lambda task, raw, least, source: read(task, raw, max(least, PRINTS), source)
 
     def written(self, e):
         parts = list(self.tree.parts(e))
