@@ -40,9 +40,7 @@ MANY = 200
 # There are circuits where the product of turns, cap and width is no more.
 SMALL = 60
 # The language of rules with neither guards nor deletions, and the limit by tries.
-STAGE = 6
-# The stage of the model from which on `print` is a statement.
-PRINTS = 15
+STAGE = 15
 LETTERS = {'Int': 'n', 'Bool': 'b', 'List': 'l', 'Text': 't'}
 
 
@@ -59,8 +57,6 @@ class Model:
         import rewrite
         import tree
         self.grade, self.interp, self.report, self.rewrite, self.tree = grade, interp, report, rewrite, tree
-        read = grade.read_program
-        grade.read_program = lambda task, raw, least, source: read(task, raw, max(least, PRINTS), source)
         self.stage = stage
 
     def task(self, sources):
