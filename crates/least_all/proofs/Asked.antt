@@ -1,13 +1,13 @@
 -- The sessions of a list: which selections they ask of.
-use Rattle.std.proofs.Common.{◌≡◌, ◌≢◌, ℕ, ◌<◌, ◌≤◌, ◌+◌, Bool, true, false, List, [], ◌∷◌, ◌++◌, length, map, Some, refl, sym, ap, ◌∙◌, arith, subst, inl, inr}
-use Rattle.std.specs.Prelude.{All, AllPairs, if◌then◌else◌, slice_index_or}
+use Rattle.std.proofs.Common.{◌≡◌, ◌≢◌, Bool, true, false, List, [], ◌∷◌, ◌++◌, map, Some, refl, sym, ap, ◌∙◌, arith, subst}
+use Rattle.std.specs.Prelude.{All, if◌then◌else◌}
 use Rattle.std.specs.List.{Contains}
 use Rattle.std.proofs.lemmas.List.{map_push}
-use Rattle.std.proofs.lemmas.List.Elements.{All-cons, All-contains, All-head, All-nil, All-push, All-tail, All-weaker, Contains-append_left, Contains-push}
+use Rattle.std.proofs.lemmas.List.Elements.{All-cons, All-head, All-nil, All-push, All-tail, All-weaker, Contains-append_left, Contains-push}
 use Rattle.std.proofs.lemmas.List.Quantifiers.{all_pairs_push}
 use Rattle.choice_tree.specs.declared.selection.Choice.{Choice}
 use Rattle.cegis_loop.specs.Space.{Space}
-use Rattle.cegis_loop.specs.State.{Question, First, Low, Fail, Told, Refuted, Open}
+use Rattle.cegis_loop.specs.State.{Question, Fail, Told, Refuted, Open}
 use Rattle.input_space.specs.declared.case.Case.{Case}
 use Rattle.input_space.specs.declared.session.Query.{Query}
 use Rattle.input_space.specs.declared.session.Query.TheVariants as query

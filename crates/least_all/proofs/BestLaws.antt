@@ -1,13 +1,10 @@
 -- The best programs are in the best list.
-use Rattle.std.proofs.Common.{◌≡◌, ℕ, zero, suc, Bool, true, false, List, [], ◌∷◌, map, refl, sym, ap, ◌∙◌, arith, subst}
+use Rattle.std.proofs.Common.{◌≡◌, zero, suc, Bool, true, false, List, [], ◌∷◌, map, refl, sym, ap, ◌∙◌, arith, subst}
 use Rattle.std.specs.Prelude.{filter, not}
 use Rattle.std.specs.List.{Contains}
 use Rattle.mpy_tree.specs.Equality.{without_lines}
 use Rattle.mpy_tree.specs.Shapes.{program_shape}
-use Rattle.mpy_tree.specs.Syntax.{Routine}
 use Rattle.choice_tree.specs.declared.selection.Choice.{Choice}
-use Rattle.choice_tree.specs.Choices.{member_of}
-use Rattle.choice_tree.specs.Selections.{cost}
 use Rattle.cost_levels.specs.Levels.{level}
 use Rattle.input_space.specs.Agreement.{Agrees}
 use Rattle.input_space.specs.Tasks.{Task, tree_of}
@@ -15,7 +12,7 @@ use Rattle.input_space.proofs.Elements.{contained_if, first_contained, later_con
 use Rattle.selection_programs.specs.Programs.{MakesPrograms}
 use Rattle.certificate_laws.specs.BestLaws.{Makes}
 use Rattle.certificate_laws.proofs.BestRewritings.{selections}
-use Rattle.least_all.specs.BestLists.{AreSame, AreTests, BestProgramsAreListed, SelectionAgrees, Tests, firsts}
+use Rattle.least_all.specs.BestLists.{AreTests, BestProgramsAreListed, SelectionAgrees, Tests, firsts}
 use Rattle.least_all.proofs.FirstLaws.{IsTransitive}
 use Rattle.least_all.proofs.LiveFits.{levels}
 use Rattle.least_all.proofs.Programs.{all_make, one_program, same_transitive}

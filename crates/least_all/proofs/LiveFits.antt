@@ -3,7 +3,6 @@ use Rattle.std.proofs.Common.{ℕ, Bool, List, [], ◌∷◌, get_or}
 use Rattle.std.specs.Prelude.{All, filter, not, take}
 use Rattle.std.proofs.lemmas.List.Elements.{All-cons, All-filter, All-head, All-nil, All-tail, All-take, Contains-get_or}
 use Rattle.mpy_tree.specs.Shapes.{program_shape}
-use Rattle.choice_tree.specs.declared.selection.Choice.{Choice}
 use Rattle.choice_tree.specs.Contexts.{elsewhere, outermost}
 use Rattle.choice_tree.specs.Growing.{grown, steps}
 use Rattle.choice_tree.specs.Selections.{Fits}

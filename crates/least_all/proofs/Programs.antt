@@ -1,7 +1,6 @@
 -- The programs of selections: whether they agree and are the same can be told.
-use Rattle.std.proofs.Common.{◌≡◌, ◌⊎◌, inl, inr, Bool, true, false, List, [], ◌∷◌, map, refl, sym, ap, ◌∙◌, subst}
+use Rattle.std.proofs.Common.{◌≡◌, ◌⊎◌, inl, inr, Bool, true, false, List, [], ◌∷◌, map, refl, sym, ap, ◌∙◌}
 use Rattle.std.specs.Prelude.{All, IsTrue, ◌↔◌}
-use Rattle.std.specs.Bool.{Decides}
 use Rattle.std.specs.Cmp.Lexicographic.{pointwise}
 use Rattle.std.proofs.lemmas.List.Elements.{All-cons, All-contains, All-head, All-nil, All-tail}
 use Rattle.mpy_tree.specs.Comparing.{same_routine}
@@ -15,7 +14,6 @@ use Rattle.choice_tree.specs.Choices.{member_of}
 use Rattle.choice_tree.specs.Selections.{plain}
 use Rattle.choice_tree.specs.StatementViews.{weighted_prog}
 use Rattle.coding_laws.specs.CodingLaws.{AgreementIsDecided}
-use Rattle.input_space.specs.declared.case.Case.{Case}
 use Rattle.input_space.specs.Tasks.{Task, tree_of}
 use Rattle.input_space.specs.Agreement.{Agrees}
 use Rattle.input_space.specs.TaskSpace.{Meets, SelectionMeets, case_of, wanted_inputs}

@@ -1,5 +1,5 @@
 -- The sessions of a budget that is spent.
-use Rattle.std.proofs.Common.{◌≡◌, ℕ, List, sym, subst}
+use Rattle.std.proofs.Common.{◌≡◌, List, sym, subst}
 use Rattle.std.specs.Prelude.{All}
 use Rattle.choice_tree.specs.declared.selection.Choice.{Choice}
 use Rattle.input_space.specs.declared.session.Session.{Session}

@@ -1,10 +1,10 @@
 -- A walk over selections, from one to the next.
-use Rattle.std.proofs.Common.{◌≡◌, ◌≢◌, ℕ, zero, suc, ◌<◌, ◌≤◌, ◌+◌, List, [], ◌∷◌, ◌++◌, length, take, drop, map, get_or, refl, sym, ap, ◌∙◌, arith, subst, inl, inr, Result, Ok, Err, IfOk}
-use Rattle.std.specs.Prelude.{All, AllPairs, Bool, min}
+use Rattle.std.proofs.Common.{◌≡◌, ◌≢◌, ℕ, zero, suc, ◌<◌, ◌+◌, List, [], ◌∷◌, ◌++◌, length, take, drop, get_or, refl, sym, ap, ◌∙◌, arith, subst, inl, inr, Result, Ok, Err, IfOk}
+use Rattle.std.specs.Prelude.{AllPairs, Bool, min}
 use Rattle.std.specs.List.{Contains}
 use Rattle.std.proofs.lemmas.Bool.{cases_lt}
 use Rattle.std.proofs.lemmas.List.{get_or-take, length-take, map_more, take-append-drop, take_all, take_more}
-use Rattle.std.proofs.lemmas.List.Elements.{All-get_or, All-weaker, Contains-append_left}
+use Rattle.std.proofs.lemmas.List.Elements.{All-weaker, Contains-append_left}
 use Rattle.choice_tree.specs.declared.selection.Choice.{Choice}
 use Rattle.choice_tree.specs.Choices.{member_of}
 use Rattle.cost_levels.specs.Live.{Before}

@@ -1,5 +1,5 @@
 -- What the answers to questions say of a selection.
-use Rattle.std.proofs.Common.{◌≡◌, ℕ, List, sym, ap, subst, ◌∙◌}
+use Rattle.std.proofs.Common.{◌≡◌, List, sym, ap, subst, ◌∙◌}
 use Rattle.std.specs.Prelude.{All, slice_index_or}
 use Rattle.std.specs.List.{Contains}
 use Rattle.mpy_tree.specs.Syntax.{Routine}

@@ -1,6 +1,6 @@
 -- The live selections of a task, and what is answered of them.
-use Rattle.std.proofs.Common.{◌≡◌, ◌≢◌, ℕ, ◌<◌, ◌≤◌, List, length, get_or, refl, sym, ap, ◌∙◌, arith, subst, Result, Ok, Err, IfOk}
-use Rattle.std.specs.Prelude.{All, AllPairs, min}
+use Rattle.std.proofs.Common.{◌≡◌, ◌≢◌, ℕ, ◌<◌, List, length, ap, ◌∙◌, arith, subst, Result, Ok, Err, IfOk}
+use Rattle.std.specs.Prelude.{AllPairs, min}
 use Rattle.mpy_tree.specs.Shapes.{program_shape}
 use Rattle.choice_tree.specs.declared.selection.Choice.{Choice}
 use Rattle.choice_tree.specs.Contexts.{elsewhere, outermost}

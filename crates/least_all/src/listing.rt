@@ -22,14 +22,17 @@ use crate::answer::{Best, Selections};
 use cegis_loop::{Asked, Questions};
 use choice_tree::{Selection, plain};
 use coding_laws::agreement_is_decided;
-use input_space::{Case, Sessions, Task};
+use input_space::{Case, MOST_COUNTED, Sessions, Task, case_at, inputs_count};
 use mpy_tree::{Outcome, Prog, same};
 use selection_programs::selections_make_programs;
 use solver_questions::SolverQuestions;
 use std::alloc::{AllocError, Global};
 use task_runs::Runs;
 
-/// An input on which some selection failed, and how the reference ends there.
+/// About so many inputs are tried before any question is asked.
+const SPREAD: u64 = 64;
+
+/// An input on which selections are run, and how the reference ends there.
 #[derive(Drop)]
 pub(crate) struct Tried {
     pub(crate) case: Case,
@@ -121,6 +124,33 @@ impl<'a> Listing<'a> {
     {
         let end = self.runs.reference(&case)?;
         self.tried.push(Tried { case, end })?;
+        Ok(())
+    }
+
+    // Keeps inputs spread over the space, so that few selections that fail need a question. Their
+    // distance is odd: in an even one their last value would often be the same.
+    fn spread(&mut self) -> Result<(), NoMemory>
+        requires listing { IsListing self.old }
+        ensures listing { OnOk result (IsListing self.new) }
+        ensures runs { OnOk result (self.new.runs ≡ self.old.runs) }
+        ensures questions { OnOk result (self.new.questions ≡ self.old.questions) }
+        ensures found { OnOk result (self.new.found ≡ self.old.found) }
+    {
+        let runs = self.runs;
+        let bounds = runs.task.bounds();
+        let count = inputs_count(bounds);
+        if count >= MOST_COUNTED {
+            return Ok(());
+        }
+        let step = 2 * (count / (2 * SPREAD)) + 1;
+        let mut place = 0;
+        while place < count {
+            let case = case_at(runs.alloc, bounds, place)?;
+            if runs.reference(&case)?.is_done() {
+                self.keep(case)?;
+            }
+            place += step;
+        }
         Ok(())
     }
 
@@ -247,6 +277,7 @@ pub(crate) fn list(
     selections_make_programs();
     let _tree = task.tree();
     let mut listing = Listing::new(alloc, task, budget)?;
+    listing.spread()?;
     for selection in selections {
         if !listing.add(selection)? {
             let sessions = listing.into_sessions();

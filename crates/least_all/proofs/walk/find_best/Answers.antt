@@ -4,7 +4,6 @@ use Rattle.std.specs.Prelude.{All, AllPairs}
 use Rattle.choice_tree.specs.declared.selection.Choice.{Choice}
 use Rattle.choice_tree.specs.Selections.{Fits}
 use Rattle.choice_tree.specs.StatementViews.{weighted_prog}
-use Rattle.choice_tree.specs.WeightedTrees.{Weighted}
 use Rattle.cost_levels.specs.Counts.{count_most}
 use Rattle.input_space.specs.TaskParts.{task_with}
 use Rattle.input_space.specs.Tasks.{tree_of}

@@ -1,5 +1,5 @@
 -- as many as are asked for, or all
-use Rattle.std.proofs.Common.{◌≡◌, ◌∙◌, ◌≤◌, List, ap, arith, length, sym, take}
+use Rattle.std.proofs.Common.{◌∙◌, List, ap, arith, take}
 use Rattle.std.proofs.lemmas.List.{take_all}
 use Rattle.least_all.specs.declared.listing.Found.{Found}
 use Rattle.least_all.specs.Listings.{selections_in}
