@@ -6,8 +6,8 @@
 PROGRAM is crates/grader_cli/out/grader_cli unless it is given; `valgrind`, `gdb` and `nm` are on the path. `all` is run, with MOST 100, on
 one mended submission of each assignment of the examples within the small bounds, and with `--all` on each of them. Counted are the
 instructions within `list_best`, and of these the ones within `solve` of `sat_core`, each with all that it calls: neither what the search before
-takes nor the time of the machine has a part in it. For each assignment: the submissions, the questions, the thousands of
-instructions of both, how many times those of `solve` all of the listing takes, and the greatest such ratio of a submission.
+takes nor the time of the machine has a part in it. For each assignment: the submissions, the questions, those of the search
+before among them, the thousands of instructions of both, how many times those of `solve` all of the listing takes, and the greatest such ratio of a submission.
 
 Below stand the milliseconds of the processor of `list_best` on a tree with 1,041 picks at cost 40, where it counts the live selections
 and stops, since they are too many: `gdb` stops the program where that call begins and ends, and reads its time from /proc.
