@@ -1,11 +1,11 @@
 -- Lines and the items that they spell, one line after another.
-use Rattle.std.proofs.Common.{◌≡◌, ◌<◌, ◌≤◌, ◌+◌, ℕ, zero, suc, Bool, true, false, List, [], ◌∷◌, ◌++◌, length, Option, None, Some, refl, sym, ap, subst, ◌∙◌, append_assoc, append-nil, add-zero, map, take, drop, get_or, arith}
+use Rattle.std.proofs.Common.{◌≡◌, ◌<◌, ◌≤◌, ◌+◌, ℕ, true, false, List, [], ◌∷◌, ◌++◌, length, None, Some, refl, sym, ap, subst, ◌∙◌, append-nil, add-zero, map, take, drop, get_or, arith}
 use Rattle.std.proofs.lemmas.List.{take-append-drop, map-append, drop_more, length-map, length-take-le}
 use Rattle.bounds_reader.specs.declared.place.Place.{Place}
 use Rattle.bounds_reader.specs.declared.place.Place.TheVariants as place
 use Rattle.bounds_reader.specs.declared.file.File.{File}
 use Rattle.bounds_reader.specs.Words.{carries_nothing}
-use Rattle.bounds_reader.specs.Items.{Item, next, SpellsItem}
+use Rattle.bounds_reader.specs.Items.{Item, next}
 use Rattle.bounds_reader.specs.Reading.{item_at}
 use Rattle.bounds_reader.specs.Files.{On, on, BoundsFile, SpellItems, no_lines, no_words, an_item, items_of, place_behind, IsUnexpected, HasSyntaxFault, unexpected, missing}
 use Rattle.bounds_reader.specs.Views.{said, seen, file_view, is_whole, HasOrder, AreDue, IsTaken}

@@ -1,16 +1,15 @@
 -- A line spells the item that is read from it, and the item that it spells is read.
-use Rattle.std.proofs.Common.{◌≡◌, ℕ, Bool, true, false, cond, List, [], ◌∷◌, ◌++◌, Option, None, Some, option_map, refl, sym, ap, subst, ◌∙◌, ℤ, inl, inr}
+use Rattle.std.proofs.Common.{◌≡◌, ℕ, true, false, cond, List, [], ◌∷◌, Option, Some, option_map, refl, sym, subst, ◌∙◌, ℤ, inl, inr}
 use Rattle.std.specs.Prelude.{◌&&◌, codes}
-use Rattle.std.proofs.lemmas.Bool.{and_parts, and_from, cases_Bool, false≢true}
+use Rattle.std.proofs.lemmas.Bool.{and_parts, and_from, cases_Bool}
 use Rattle.std.proofs.lemmas.Slice.Eq.{bytes_eq-Decides}
 use Rattle.mpy_tree.specs.Values.{same_bytes}
 use Rattle.bounds_reader.specs.declared.place.Place.{Place}
 use Rattle.bounds_reader.specs.declared.place.Place.TheVariants as place
 use Rattle.bounds_reader.specs.Forms.{Form, int, bool, list, text}
-use Rattle.bounds_reader.specs.Words.{Word, plain, literal, carries_nothing, BeginsWith, Carries}
+use Rattle.bounds_reader.specs.Words.{Word, plain, carries_nothing, Carries}
 use Rattle.bounds_reader.specs.Items.{Item, width, turns, depth, cap, entry, param, is_short, is_plain_name, form_words, item_words, is_proper_form, is_proper, place_of, SpellsItem, number_word}
 use Rattle.bounds_reader.specs.Reading.{plain_at, behind_word, number_at, span_at, name_at, literal_word_at, at_end, number_line, entry_line, int_form, list_form, text_form, form_behind, form_at, param_name, param_line, item_at}
-use Rattle.bounds_reader.specs.Scanning.{◌>>=◌}
 use Rattle.bounds_reader.proofs.Steps.{bind_some, map_some, when_some}
 use Rattle.bounds_reader.proofs.WordLaws.{plain_takes, plain_again, word_takes, word_again, number_at_takes, number_at_again, span_at_takes, span_at_again, name_takes, name_again, literal_word_takes, literal_word_again, not_nothing}
 

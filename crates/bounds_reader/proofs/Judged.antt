@@ -1,8 +1,7 @@
 -- Each text spells bounds or is refused, for one cause at one line.
-use Rattle.std.proofs.Common.{IfErr, OnOk, ◌≡◌, ◌<◌, ◌≤◌, ◌+◌, ℕ, zero, suc, Bool, true, false, cond, List, [], ◌∷◌, ◌++◌, length, map, Option, None, Some, Result, Ok, Err, refl, sym, ap, subst, ◌∙◌, ℤ, pos, inl, inr, length-append, add-zero, arith, lit≤}
-use Rattle.std.specs.Prelude.{◌⊎◌, nat_abs}
-use Rattle.std.proofs.lemmas.Bool.{cases_Bool, cases_lt, false≢true}
-use Rattle.std.proofs.lemmas.List.{length-map}
+use Rattle.std.proofs.Common.{IfErr, OnOk, ◌≡◌, ◌≤◌, ◌+◌, ℕ, true, false, List, [], ◌∷◌, ◌++◌, length, map, Option, None, Some, Result, Ok, Err, refl, sym, ap, subst, ◌∙◌, ℤ, pos, inl, inr, arith, lit≤}
+use Rattle.std.specs.Prelude.{nat_abs}
+use Rattle.std.proofs.lemmas.Bool.{cases_Bool, cases_lt}
 use Rattle.mpy_tree.specs.declared.limits.Limits.{Limits}
 use Rattle.mpy_tree.specs.declared.refusal.Cause.{Cause}
 use Rattle.mpy_tree.specs.declared.refusal.Cause.TheVariants as cause
@@ -19,7 +18,7 @@ use Rattle.bounds_reader.specs.Reading.{item_at}
 use Rattle.bounds_reader.specs.Files.{On, on, ParamLine, BoundsFile, text_lines, has_faulty_byte, first_line, byte_fault, SpellItems, no_lines, no_words, an_item, param_items, items_of, limit_fault, range_fault, place_behind, IsUnexpected, HasSyntaxFault, unexpected, missing, SayLimits, Says, IsRead, IsBounds, IsRefused, by_byte, by_syntax, by_limit, by_range, IsAnswered, IsGiven, IsRefusal}
 use Rattle.bounds_reader.specs.declared.foreign.Mode.TheVariants.{Plain}
 use Rattle.bounds_reader.specs.Modes.{has_fault_from}
-use Rattle.bounds_reader.specs.Views.{HaveLengths, HasLengths, AreWithin, IsMisspelled}
+use Rattle.bounds_reader.specs.Views.{HaveLengths, HasLengths, IsMisspelled}
 use Rattle.bounds_reader.proofs.Modes.{same_first}
 use Rattle.bounds_reader.specs.BoundsLaws.{OneBounds, IsJudged, ReadOrRefused, NotReadAndRefused, OneRefusal}
 use Rattle.bounds_reader.proofs.ItemLaws.{item_takes}

@@ -1,14 +1,14 @@
 -- Going over a line byte by byte with a mode finds the bytes that its parts have as faulty.
-use Rattle.std.proofs.Common.{◌≡◌, ℕ, zero, suc, ◌+◌, ◌-◌, ◌<◌, ◌≤◌, Bool, true, false, cond, List, [], ◌∷◌, ◌++◌, length, take, drop, Option, Some, None, option_map, refl, sym, ap, subst, ◌∙◌, inl, inr, add-one, arith}
+use Rattle.std.proofs.Common.{◌≡◌, ℕ, zero, suc, ◌+◌, ◌-◌, ◌<◌, ◌≤◌, Bool, true, false, List, [], ◌∷◌, ◌++◌, length, take, drop, Option, Some, None, option_map, refl, sym, ap, ◌∙◌, inl, inr, add-one, arith}
 use Rattle.std.specs.Prelude.{◌||◌, ◌&&◌, ◌==◌, ◌⊎◌, not, nat_le, nat_eq}
 use Rattle.std.specs.List.{list_any, list_all, prefix_len, starts_with}
 use Rattle.std.specs.Char.{is_ascii_digit, is_ascii_alphabetic}
-use Rattle.std.proofs.lemmas.Bool.{or_cases, or_left, or_right, or_parts, or_from, and_parts, and_from, eqb-true, eq-eqb, ne_eqb, cases_eq, cond_both, leb-true, le-leb, false≢true, not_from_false}
+use Rattle.std.proofs.lemmas.Bool.{or_cases, or_left, or_parts, or_from, and_parts, and_from, eqb-true, ne_eqb, cond_both, leb-true, le-leb, false≢true, not_from_false}
 use Rattle.std.proofs.lemmas.List.{take-append-drop, take_all, drop_all, length-drop}
 use Rattle.std.proofs.lemmas.Slice.Eq.{bytes_eq-Decides}
 use Rattle.mpy_lexer.specs.declared.forms.Form.TheVariants.{Program}
 use Rattle.mpy_lexer.specs.Bytes.{is_blank, is_white, is_quote, is_name_start, is_name_byte}
-use Rattle.mpy_lexer.specs.Words.{is_reserved, marks, first_len, mark_len}
+use Rattle.mpy_lexer.specs.Words.{marks, first_len, mark_len}
 use Rattle.mpy_lexer.specs.Pieces.{piece, closing, has_wrong_escape, text_to, name_at, number_value, digits_len, is_glued, number_at, sign_by, sign_at, piece_at, parts}
 use Rattle.mpy_lexer.specs.PhysicalLines.{is_line_feed_next, is_allowed, has_foreign_byte, is_foreign}
 use Rattle.bounds_reader.specs.declared.foreign.Mode.TheVariants.{Plain, Text, Comment}

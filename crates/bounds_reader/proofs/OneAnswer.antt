@@ -1,6 +1,6 @@
 -- A text spells one file at most, and has one fault of syntax at most, and not both.
-use Rattle.std.proofs.Common.{◌≡◌, ◌<◌, ◌≤◌, ◌+◌, ℕ, zero, suc, Bool, true, false, List, [], ◌∷◌, ◌++◌, length, map, Option, None, Some, refl, sym, ap, subst, ◌∙◌, append_assoc, ℤ, pos, inl, inr, length-append, add-zero, rules, arith}
-use Rattle.std.specs.Prelude.{◌⊎◌, nat_abs}
+use Rattle.std.proofs.Common.{◌≡◌, ◌<◌, ◌≤◌, ◌+◌, ℕ, Bool, true, false, List, [], ◌∷◌, ◌++◌, length, map, refl, sym, ap, subst, ◌∙◌, ℤ, pos, inl, inr, add-zero, arith}
+use Rattle.std.specs.Prelude.{nat_abs}
 use Rattle.std.proofs.Math.Bridge.{le_prop}
 use Rattle.std.proofs.Math.Bool.{Bool-set}
 use Rattle.mpy_tree.specs.NameLengths.{is_long}
@@ -13,9 +13,7 @@ use Rattle.bounds_reader.specs.declared.place.Place.{Place}
 use Rattle.bounds_reader.specs.declared.place.Place.TheVariants as place
 use Rattle.bounds_reader.specs.declared.bounds.Bounds.{Bounds}
 use Rattle.bounds_reader.specs.Forms.{Form, int, bool, list, text, form_of}
-use Rattle.bounds_reader.specs.Words.{carries_nothing}
 use Rattle.bounds_reader.specs.Items.{Item, width, turns, depth, cap, entry, param as parameter, next, SpellsItem}
-use Rattle.bounds_reader.specs.Reading.{item_at}
 use Rattle.bounds_reader.specs.Files.{On, on, ParamLine, BoundsFile, SpellItems, no_lines, no_words, an_item, param_items, items_of, place_behind, IsUnexpected, HasSyntaxFault, unexpected, missing, Says}
 use Rattle.bounds_reader.proofs.ItemLaws.{item_again, item_words_some}
 

@@ -1,6 +1,6 @@
 -- What the ranges say of the numbers of a file.
-use Rattle.std.proofs.Common.{◌≡◌, ◌≤◌, ◌+◌, ℕ, Bool, true, false, cond, List, [], ◌∷◌, map, length, Option, None, Some, refl, sym, ap, subst, ◌∙◌, ℤ, pos, negsuc, arith}
-use Rattle.std.specs.Prelude.{◌&&◌, ◌||◌, not, nat_abs, nat_le, int_le}
+use Rattle.std.proofs.Common.{◌≡◌, ◌≤◌, ◌+◌, ℕ, Bool, true, false, cond, List, [], ◌∷◌, map, length, Option, None, Some, refl, sym, ap, ◌∙◌, ℤ, pos, negsuc, arith}
+use Rattle.std.specs.Prelude.{◌&&◌, ◌||◌, nat_abs, nat_le, int_le}
 use Rattle.std.specs.List.{list_all}
 use Rattle.std.proofs.lemmas.Bool.{false≢true, and_parts, and_from, or_parts, leb-true, leb-false, not-false}
 use Rattle.std.proofs.lemmas.List.{length-map}

@@ -1,10 +1,9 @@
 -- A line begins with the word that is read there, and what it begins with is read.
-use Rattle.std.proofs.Common.{◌≡◌, ◌<◌, ◌≤◌, ◌+◌, ℕ, zero, suc, Bool, true, false, cond, List, [], ◌∷◌, ◌++◌, length, take, drop, Option, None, Some, option_map, refl, sym, ap, subst, ◌∙◌, append_assoc, append-nil, ◌^◌, ℤ, pos, negsuc, inl, inr, arith}
-use Rattle.std.specs.Prelude.{◌==◌, ◌||◌, ◌&&◌, not, codes, nat_lt, nat_abs}
-use Rattle.std.specs.Char.{is_ascii_digit}
+use Rattle.std.proofs.Common.{◌≡◌, ◌<◌, ◌+◌, ℕ, suc, Bool, true, false, cond, List, [], ◌∷◌, ◌++◌, length, take, drop, Option, None, Some, refl, sym, ap, subst, ◌∙◌, append_assoc, append-nil, ◌^◌, ℤ, pos, negsuc, inl, inr, arith}
+use Rattle.std.specs.Prelude.{◌==◌, ◌||◌, ◌&&◌, not, codes}
 use Rattle.std.specs.Fmt.{signed_decimal}
 use Rattle.std.specs.List.{list_all, prefix_len}
-use Rattle.std.proofs.lemmas.Bool.{and_parts, and_from, or_parts, or_from, or_cases, eqb-true, eqb-false, ne_eqb, not-false, cases_Bool, false≢true, or_left, or_right, true_from_ne_false, false_from_ne_true, ltb-true, lt-ltb}
+use Rattle.std.proofs.lemmas.Bool.{and_parts, and_from, or_parts, or_cases, eqb-true, ne_eqb, not-false, cases_Bool, ltb-true, lt-ltb}
 use Rattle.std.proofs.lemmas.List.{take_at, drop_at, take-append-drop}
 use Rattle.std.proofs.lemmas.Slice.Eq.{bytes_eq-Decides}
 use Rattle.mpy_tree.specs.Values.{same_bytes}
@@ -12,11 +11,11 @@ use Rattle.mpy_tree.specs.Operations.{fits_width}
 use Rattle.mpy_lexer.specs.Bytes.{is_white, is_quote}
 use Rattle.mpy_lexer.specs.Pieces.{closing}
 use Rattle.mpy_lexer.specs.TextLiterals.{is_escapable, is_printable, characters, with_character, literal_characters}
-use Rattle.bounds_reader.specs.Scanning.{◌>>=◌, signed_at, closed_at, literal_at}
+use Rattle.bounds_reader.specs.Scanning.{signed_at, closed_at, literal_at}
 use Rattle.bounds_reader.specs.Words.{Word, plain, literal, is_plain, are_plain, SpellsWord, ends_word, carries_nothing, BeginsWith}
 use Rattle.bounds_reader.specs.Items.{is_short, is_plain_name, number_word, span_word}
 use Rattle.bounds_reader.specs.Reading.{behind_space, is_empty, plain_in, plain_at, literal_word_at, behind_word, number_of, number_at, behind_dots, span_of, span_at, name_at}
-use Rattle.bounds_reader.proofs.Digits.{Stops, prefix-append, prefix_passes, prefix_stops}
+use Rattle.bounds_reader.proofs.Digits.{Stops, prefix-append, prefix_passes}
 use Rattle.bounds_reader.proofs.Numbers.{signed_takes, signed_again}
 use Rattle.bounds_reader.proofs.Steps.{bind_some, map_some, when_some, unless_some}
 

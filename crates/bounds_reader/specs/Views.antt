@@ -12,7 +12,7 @@ use Rattle.bounds_reader.specs.declared.file.File.{File}
 use Rattle.bounds_reader.specs.declared.file.NumberLine.{NumberLine}
 use Rattle.bounds_reader.specs.declared.file.ParamLine.{ParamLine as ReadParamLine}
 use Rattle.bounds_reader.specs.Forms.{Form, int, bool, list, text}
-use Rattle.bounds_reader.specs.Items.{Item, width, turns, depth, cap, entry, param, SpellsItem}
+use Rattle.bounds_reader.specs.Items.{Item, width, turns, depth, cap, entry, param}
 use Rattle.bounds_reader.specs.declared.bounds_error.BoundsError.{BoundsError}
 use Rattle.bounds_reader.specs.declared.bounds_error.BoundsError.TheVariants as bounds_error
 use Rattle.mpy_tree.specs.declared.refusal.Cause.TheVariants as cause

@@ -1,5 +1,5 @@
 -- The head of a rule, read and spelled.
-use Rattle.std.proofs.Common.{◌≡◌, ℕ, Bool, true, false, ◌&&◌, List, [], ◌∷◌, ◌++◌, Option, Some}
+use Rattle.std.proofs.Common.{◌≡◌, ℕ, Bool, true, false, ◌&&◌, List, [], ◌∷◌, ◌++◌, Some}
 use Rattle.std.proofs.Common.{None}
 use Rattle.std.proofs.Common.{option_map, if◌then◌else◌, refl, ap, subst, ◌∙◌, codes}
 use Rattle.mpy_tree.specs.Values.{same_bytes}

@@ -1,7 +1,7 @@
 -- What a line is read as is what it spells.
-use Rattle.std.proofs.Common.{◌≡◌, ℕ, Bool, true, false, ◌&&◌, List, [], ◌∷◌, ◌++◌, Option, Some}
+use Rattle.std.proofs.Common.{◌≡◌, ℕ, true, ◌&&◌, List, [], ◌∷◌, ◌++◌, Option, Some}
 use Rattle.std.proofs.Common.{None}
-use Rattle.std.proofs.Common.{option_map, if◌then◌else◌, refl, sym, ap, subst, ◌∙◌, codes}
+use Rattle.std.proofs.Common.{refl, sym, ap, subst, ◌∙◌, codes}
 use Rattle.mpy_lexer.specs.declared.token.Token.{Token}
 use Rattle.mpy_lexer.specs.declared.line.Line.{Line}
 use Rattle.mpy_lexer.specs.TextLiterals.{literal_characters}

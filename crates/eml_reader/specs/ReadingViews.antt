@@ -1,5 +1,5 @@
 -- What the code has read of some lines, as mathematics.
-use Rattle.std.specs.Prelude.{◌≡◌, ℕ, List, map, Option, Some, None, option_map, Result, Ok, Err}
+use Rattle.std.specs.Prelude.{◌≡◌, ℕ, List, map, Option, Some, None, option_map, Result, Err}
 use Rattle.mpy_lexer.specs.declared.line.Line.{Line}
 use Rattle.choice_tree.specs.Templates.{Correction}
 use Rattle.choice_tree.specs.RuleViews.{correction_of}

@@ -1,5 +1,5 @@
 -- Which rule, or which message of a rule, a logical line spells.
-use Rattle.std.specs.Prelude.{◌≡◌, ℕ, Bool, true, false, ◌&&◌, List, [], ◌∷◌, ◌++◌, Option, Some}
+use Rattle.std.specs.Prelude.{◌≡◌, ℕ, Bool, true, false, ◌&&◌, List, [], ◌∷◌, ◌++◌, Some}
 use Rattle.std.specs.Prelude.{None, codes}
 use Rattle.std.specs.List.{list_any}
 use Rattle.mpy_tree.specs.Values.{same_bytes}

@@ -1,5 +1,5 @@
 -- From what a search finds to the answer to a task.
-use Rattle.std.proofs.Common.{◌≡◌, ◌≢◌, ℕ, ◌<◌, ◌≤◌, true, List, [], ◌∷◌, All, map, refl, sym, subst, arith, inl, inr}
+use Rattle.std.proofs.Common.{◌≡◌, ◌≢◌, ℕ, List, [], ◌∷◌, All, refl, sym, subst, arith, inl, inr}
 use Rattle.std.specs.List.{Contains}
 use Rattle.std.proofs.lemmas.Bool.{cases_lt}
 use Rattle.std.proofs.lemmas.List.Elements.{All-head}
@@ -18,7 +18,7 @@ use Rattle.input_space.proofs.TaskSpaceLaws.{all_selection_meet}
 use Rattle.certificate_laws.specs.BestLaws.{LeastChoiceIsBest}
 use Rattle.certificate_laws.proofs.BestRewritings as best
 use Rattle.certificate_laws.proofs.BestRewritings.{input_wanted, selected, selections, whole}
-use Rattle.feedback_text.specs.Answers.{NoneBelow, edit_tree}
+use Rattle.feedback_text.specs.Answers.{NoneBelow}
 use Rattle.grade_core.specs.Runs.{IsBestSelection, SomeFails}
 
 pub best_selection : LeastChoiceIsBest → (k : Task) (b : ℕ) (s : List Choice) (n : ℕ) → IsSound k → IsLeast (space k b) (wanted_inputs k) s n → IsBestSelection k s n

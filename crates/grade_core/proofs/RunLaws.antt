@@ -1,7 +1,7 @@
 -- The certificate of a run.
-use Rattle.std.proofs.Common.{◌≡◌, ℕ, ◌≤◌, List, [], Some, refl, sym, ap, ◌∙◌, subst, arith}
+use Rattle.std.proofs.Common.{◌≡◌, ℕ, ◌≤◌, List, Some, refl, sym, ap, ◌∙◌, subst, arith}
 use Rattle.cegis_loop.specs.declared.outcome.Least.{Least}
-use Rattle.cegis_loop.specs.declared.outcome.Least.TheVariants.{Found, Nothing, NoCase, Spent}
+use Rattle.cegis_loop.specs.declared.outcome.Least.TheVariants.{Nothing, Spent}
 use Rattle.cegis_loop.specs.Answers.{IsSpent}
 use Rattle.choice_tree.specs.declared.selection.Choice.{Choice}
 use Rattle.input_space.specs.declared.case.Case.{Case}

@@ -1,6 +1,5 @@
 -- What is kept of a run shows each answer for which the code's stands.
-use Rattle.std.proofs.Common.{◌≡◌, ℕ, List, [], All, Option, Some, None, map, refl, sym, subst, ◌∙◌}
-use Rattle.cegis_loop.specs.declared.outcome.Least.{Least}
+use Rattle.std.proofs.Common.{◌≡◌, ℕ, List, All, Option, Some, None, map, sym, subst}
 use Rattle.cegis_loop.specs.Order.{IsAtLeast}
 use Rattle.choice_tree.specs.declared.selection.Choice.{Choice}
 use Rattle.input_space.specs.Agreement.{Failure}

@@ -1,5 +1,5 @@
 -- Within bounds there is an input.
-use Rattle.std.proofs.Common.{◌≡◌, ℕ, zero, suc, ◌+◌, ◌-◌, ◌*◌, ◌^◌, ◌<◌, ◌≤◌, Bool, true, false, List, [], ◌∷◌, map, length, ℤ, pos, int_le, arith, sym, subst}
+use Rattle.std.proofs.Common.{◌≡◌, ℕ, zero, suc, ◌+◌, ◌-◌, ◌*◌, ◌<◌, Bool, true, List, [], ◌∷◌, map, length, ℤ, pos, arith}
 use Rattle.std.proofs.Math.Nat.{one-le-pow}
 use Rattle.std.proofs.lemmas.List.{length-map}
 use Rattle.mpy_tree.specs.declared.limits.Limits.{Limits}
@@ -7,8 +7,7 @@ use Rattle.mpy_tree.specs.declared.value.Value.TheVariants as value
 use Rattle.bounds_reader.specs.declared.params.Param.{Param}
 use Rattle.bounds_reader.specs.declared.params.Param.TheVariants as param
 use Rattle.bounds_reader.specs.Forms.{form_of}
-use Rattle.bounds_reader.specs.Ranges.{are_in_range, are_lengths, are_numbers, has_twice, is_alphabet, is_in_range}
-use Rattle.mpy_tree.specs.Operations.{fits_width}
+use Rattle.bounds_reader.specs.Ranges.{are_in_range, are_lengths, are_numbers, is_alphabet, is_in_range}
 use Rattle.input_space.specs.Counts.{lists_count}
 use Rattle.input_space.specs.Inputs.{inputs, lists_over, numbers, span, values_of}
 use Rattle.input_space.proofs.Blocks.{length_tuples}

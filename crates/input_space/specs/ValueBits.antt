@@ -1,5 +1,5 @@
 -- The values that truth values spell from a place on, the lowest bit of a number first.
-use Rattle.std.specs.Prelude.{ℕ, zero, suc, ◌+◌, ◌*◌, nat_le, Bool, true, false, ◌&&◌, List, []}
+use Rattle.std.specs.Prelude.{ℕ, zero, suc, ◌+◌, ◌*◌, nat_le, Bool, false, ◌&&◌, List, []}
 use Rattle.std.specs.Prelude.{◌∷◌, length, map, take, Option, Some, None, option_map}
 use Rattle.std.specs.Prelude.{if◌then◌else◌, slice_index_or}
 use Rattle.std.specs.List.{list_all}

@@ -1,5 +1,5 @@
 -- What follows from how `all` ends.
-use Rattle.std.proofs.Common.{◌≡◌, ◌⊎◌, ℕ, zero, suc, ◌≤◌, ◌<◌, List, [], ◌++◌, inl, inr, refl, sym, ap, subst, ◌∙◌, arith, append-nil}
+use Rattle.std.proofs.Common.{◌≡◌, ℕ, zero, suc, List, ◌++◌, inl, inr, refl, sym, subst, arith, append-nil}
 use Rattle.grade_io.specs.Devices.{Devices, SinkState}
 use Rattle.grade_io.specs.Written.{Wrote}
 use Rattle.grade_io.specs.declared.status.Status.{Status}

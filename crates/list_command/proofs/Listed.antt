@@ -1,12 +1,9 @@
 -- Listings and their reports.
-use Rattle.std.proofs.Common.{◌≡◌, ℕ, zero, suc, ◌+◌, ◌<◌, List, [], ◌∷◌, ◌++◌, length, map, take, refl, sym, ap, subst, ◌∙◌, arith, append-nil, append_assoc, codes, Result, Ok, Err, IfOk, None, Option, Some}
-use Rattle.std.specs.Prelude.{Bool, All, option_map}
+use Rattle.std.proofs.Common.{◌≡◌, ℕ, suc, ◌+◌, ◌<◌, List, [], ◌∷◌, ◌++◌, length, map, take, refl, sym, ap, subst, ◌∙◌, arith, append-nil, append_assoc, Result, Ok, Err, IfOk, None, Option}
+use Rattle.std.specs.Prelude.{Bool, option_map}
 use Rattle.std.specs.List.{AllZip}
-use Rattle.std.specs.Fmt.{decimal}
 use Rattle.std.proofs.lemmas.List.{length-take-le, take_more}
 use Rattle.std.proofs.Common.{get_or}
-use Rattle.mpy_tree.specs.Printing.{program_text}
-use Rattle.mpy_tree.specs.Syntax.{Routine}
 use Rattle.choice_tree.specs.declared.selection.Choice.{Choice}
 use Rattle.choice_tree.specs.Templates.{Correction}
 use Rattle.grade_io.specs.declared.status.Status.{Status}
@@ -16,14 +13,14 @@ use Rattle.cert_text.specs.Certificates.{IsCertOf, cert_with}
 use Rattle.input_space.specs.declared.session.Session.{Session}
 use Rattle.file_commands.specs.Reports.{IsReport, bytes_of}
 use Rattle.file_commands.specs.declared.report.Report.{Report}
-use Rattle.input_space.specs.Tasks.{HasWanted, IsBestOf, Task, tree_of}
+use Rattle.input_space.specs.Tasks.{Task, tree_of}
 use Rattle.feedback_text.specs.declared.answer.Answer as code
 use Rattle.feedback_text.specs.declared.answer.Failure.{Failure}
 use Rattle.feedback_text.specs.Answers.{Answer, Correct, Corrected, NoCorrection, EmptyReference, Spent, IsAnswer, edit_tree}
 use Rattle.feedback_text.specs.AnswerViews.{Makes, StandsFor, failure_of}
 use Rattle.feedback_text.specs.ReportViews.{IsReportOf, ShowsCorrection}
 use Rattle.feedback_text.specs.Reports.{report_of}
-use Rattle.grade_core.specs.Commands.{answer_text, status_of}
+use Rattle.grade_core.specs.Commands.{answer_text}
 use Rattle.grade_core.specs.declared.grading.Graded.{Graded}
 use Rattle.grade_core.specs.Decisions.{task_step}
 use Rattle.grade_core.specs.Gradings.{HasStatus, IsGradedSo, IsTextOf}
@@ -31,7 +28,7 @@ use Rattle.grade_core.proofs.DecidingLaws.{failure_wanted}
 use Rattle.input_space.specs.TaskParts.{task_with}
 use Rattle.least_all.specs.Answers.{AreMany, IsListed, IsSpent, live_at}
 use Rattle.list_command.specs.Commands.{all_command}
-use Rattle.list_command.specs.Decisions.{AllAnswer, AsGraded, Best, Change, IsLeastCost, IsListing, IsNoCorrection, Listed, Listing, TooMany, Unlisted}
+use Rattle.list_command.specs.Decisions.{AsGraded, Best, Change, IsLeastCost, IsNoCorrection, Listed, TooMany, Unlisted}
 use Rattle.list_command.specs.Reports.{HasNoCorrection, IsListReport, AddsCorrection, IsSpentText, ListsChanges, cert_behind}
 use Rattle.list_command.specs.Texts.{best_status, change_text, changes_text, heading_text, listing_text, number_text, spent_cert}
 use Rattle.list_command.specs.Words.{AllWords}

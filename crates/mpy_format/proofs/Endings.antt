@@ -1,5 +1,5 @@
 -- From an outcome that is due and written to how a file ends.
-use Rattle.std.proofs.Common.{◌≡◌, ◌≤◌, ◌<◌, ℕ, List, length, Result, Ok, Err, IfErr, IsErrAnd, Option, Some, inl, inr, refl}
+use Rattle.std.proofs.Common.{◌≡◌, ◌≤◌, ◌<◌, ℕ, List, length, Result, Ok, Err, IfErr, IsErrAnd, Some, inl, inr, refl}
 use Rattle.grade_io.specs.Devices.{Devices, ShelfState}
 use Rattle.grade_io.specs.Kept.{Holds}
 use Rattle.grade_io.specs.Says.{Says}

@@ -1,7 +1,7 @@
 -- Files in turn: the first of those that are left, and the rest.
-use Rattle.std.proofs.Common.{◌≡◌, ◌∙◌, ◌+◌, ◌<◌, ◌≤◌, ◌⊎◌, ◌++◌, ℕ, List, [], ◌∷◌, length, map, drop, take, get_or, zero, suc, Option, Some, None, false, true, refl, sym, ap, subst, arith, inl, inr}
+use Rattle.std.proofs.Common.{◌≡◌, ◌∙◌, ◌+◌, ◌<◌, ◌≤◌, ◌++◌, ℕ, List, [], ◌∷◌, length, map, drop, take, get_or, zero, suc, Option, Some, None, false, true, refl, sym, ap, subst, arith, inl, inr}
 use Rattle.std.proofs.lemmas.List.{append-nil, drop_all, drop_more}
-use Rattle.grade_io.specs.Devices.{Devices, ShelfState, ShelfCall, Fetch, added}
+use Rattle.grade_io.specs.Devices.{Devices, ShelfState, Fetch, added}
 use Rattle.grade_io.proofs.CallList.{go_on}
 use Rattle.grade_io.specs.declared.status.Status.{Status}
 use Rattle.grade_io.specs.declared.status.Status.TheVariants as status

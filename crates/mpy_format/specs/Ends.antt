@@ -1,6 +1,6 @@
 -- What comes of a file, what is written of it, and what each status means.
-use Rattle.std.specs.Prelude.{◌≡◌, ◌⊎◌, ℕ, ◌<◌, ◌≤◌, List, [], ◌∷◌, Option, length}
-use Rattle.grade_io.specs.Devices.{ShelfState, ShelfCall, Fetch, Devices, Rose, added}
+use Rattle.std.specs.Prelude.{◌≡◌, ◌⊎◌, ℕ, ◌<◌, ◌≤◌, List, [], ◌∷◌, length}
+use Rattle.grade_io.specs.Devices.{ShelfState, Fetch, Devices, Rose, added}
 use Rattle.grade_io.specs.Kept.{Holds}
 use Rattle.grade_io.specs.Says.{Says, StoodStill}
 use Rattle.grade_io.specs.Written.{WroteNothing}

@@ -1,6 +1,6 @@
 -- What comes of several files in turn, and the status of all.
 use Rattle.std.specs.Prelude.{◌≡◌, ℕ, Bool, true, false, List, [], ◌∷◌, map, take}
-use Rattle.grade_io.specs.Devices.{Devices, ShelfState, ShelfCall, Fetch, added}
+use Rattle.grade_io.specs.Devices.{Devices, ShelfState, Fetch, added}
 use Rattle.grade_io.specs.declared.status.Status.{Status}
 use Rattle.grade_io.specs.declared.status.Status.TheVariants as status
 use Rattle.mpy_format.specs.Ends.{Ends}

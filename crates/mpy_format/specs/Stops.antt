@@ -1,7 +1,7 @@
 -- Why no program is printed of a file, as the code answers it.
 use Rattle.std.specs.Prelude.{◌≡◌, ◌⊎◌, ℕ, List, [], ◌∷◌, Result, Ok, Err, Vec}
 use Rattle.std.specs.declared.alloc.Global.{Global}
-use Rattle.grade_io.specs.Devices.{ShelfState, ShelfCall, Fetch, Rose, added}
+use Rattle.grade_io.specs.Devices.{ShelfState, Fetch, Rose, added}
 use Rattle.grade_io.specs.declared.devices.FetchError.{FetchError}
 use Rattle.grade_io.specs.declared.devices.FetchError.TheVariants as fetch_error
 use Rattle.mpy_tree.specs.declared.refusal.Cause.TheVariants as cause

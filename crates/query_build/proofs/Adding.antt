@@ -1,5 +1,5 @@
 -- New variables, and then calls that add none.
-use Rattle.std.proofs.Common.{◌≡◌, ℕ, Bool, List, ◌∙◌}
+use Rattle.std.proofs.Common.{ℕ, Bool, List, ◌∙◌}
 use Rattle.bit_words.specs.Later.{AddsVariables}
 use Rattle.bit_words.specs.Logic.{Extends}
 

@@ -1,5 +1,5 @@
 -- When a program gives the value of the reference.
-use Rattle.std.proofs.Common.{◌≡◌, ◌↔◌, Bool, true, false, not, ◌&&◌, List, refl, sym, ap, ◌∙◌, subst}
+use Rattle.std.proofs.Common.{◌≡◌, Bool, true, false, not, ◌&&◌, List, refl, sym, ap, ◌∙◌}
 use Rattle.std.specs.Bool.{Decides}
 use Rattle.std.specs.Cmp.Lexicographic.{pointwise}
 use Rattle.std.specs.Ordering.{int_eq}
@@ -21,7 +21,7 @@ use Rattle.choice_tree.specs.Selections.{plain}
 use Rattle.input_space.specs.declared.case.Case.{Case}
 use Rattle.input_space.specs.Agreement.{ends_on}
 use Rattle.input_space.specs.Tasks.{Task, tree_of}
-use Rattle.input_space.specs.TaskSpace.{Meets, SelectionMeets, case_of, wanted}
+use Rattle.input_space.specs.TaskSpace.{SelectionMeets, wanted}
 use Rattle.input_space.proofs.TaskSpaceLaws.{selection_meets}
 use Rattle.query_build.specs.Comparing.{fails_on, give_one, is_yes, meets_on}
 

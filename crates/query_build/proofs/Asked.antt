@@ -1,6 +1,6 @@
 -- What is asked where picks may be given, and case by case.
 use Rattle.std.proofs.Common.{◌≡◌, ◌∙◌, ℕ, zero, suc, ◌+◌, ◌<◌, Bool, true, false, ◌&&◌, ◌||◌}
-use Rattle.std.proofs.Common.{List, [], ◌∷◌, Option, Some, None, ap, arith, inl, inr, map, refl}
+use Rattle.std.proofs.Common.{List, [], ◌∷◌, Option, Some, None, ap, arith, inl, inr, refl}
 use Rattle.std.proofs.Common.{subst, sym, length}
 use Rattle.std.specs.Prelude.{IfSome, option_map}
 use Rattle.std.specs.List.{AllZip}

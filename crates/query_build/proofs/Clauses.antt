@@ -1,5 +1,5 @@
 -- Clauses without an empty one.
-use Rattle.std.proofs.Common.{◌≢◌, List, [], ◌∷◌, map}
+use Rattle.std.proofs.Common.{◌≢◌, List, [], ◌∷◌}
 use Rattle.std.specs.Prelude.{All}
 use Rattle.std.proofs.lemmas.List.Elements.{All-cons, All-head, All-nil, All-tail}
 use Rattle.clause_base.specs.declared.clause.Clause.{Clause}

@@ -1,5 +1,5 @@
 -- The bit of a counter that says whether a number is above a bound.
-use Rattle.std.proofs.Common.{◌≡◌, ◌∙◌, ℕ, zero, suc, ◌+◌, Bool, List, [], ◌∷◌, ◌++◌, length, map}
+use Rattle.std.proofs.Common.{◌≡◌, ◌∙◌, ℕ, ◌+◌, Bool, List, [], ◌∷◌, ◌++◌, length, map}
 use Rattle.std.proofs.Common.{refl, sym, ap, Some}
 use Rattle.std.specs.Prelude.{nat_lt, option_map, slice_get}
 use Rattle.std.proofs.lemmas.Option.{slice_get-map}

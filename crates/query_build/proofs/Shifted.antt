@@ -1,11 +1,10 @@
 -- What truth values spell behind others.
 use Rattle.std.proofs.Common.{◌≡◌, ◌<◌, ◌≤◌, ℕ, zero, suc, ◌+◌, ◌*◌, Bool, false, List, [], ◌∷◌}
-use Rattle.std.proofs.Common.{length, map, take, drop, refl, sym, ap, ◌∙◌, arith, Option, Some, None}
-use Rattle.std.specs.Prelude.{ℤ, nat_le, option_map, slice_index_or}
+use Rattle.std.proofs.Common.{length, map, take, refl, ap, ◌∙◌, arith, Some}
+use Rattle.std.specs.Prelude.{option_map, slice_index_or}
 use Rattle.mpy_tree.specs.declared.limits.Limits.{Limits}
 use Rattle.mpy_tree.specs.declared.typing.Ty.{Ty}
 use Rattle.mpy_tree.specs.declared.typing.Ty.TheVariants as ty
-use Rattle.mpy_tree.specs.declared.value.Value.{Value}
 use Rattle.mpy_tree.specs.declared.value.Value.TheVariants as value
 use Rattle.mpy_tree.specs.Options.{◌>>=◌}
 use Rattle.bit_words.specs.Later.{values_from}

@@ -1,5 +1,5 @@
 -- Certificates of what searches found are right.
-use Rattle.std.proofs.Common.{◌≡◌, ◌≢◌, ℕ, zero, suc, ◌+◌, ◌-◌, ◌≤◌, true, List, [], ◌∷◌, ◌++◌, length, map, Option, Some, None, refl, sym, ap, ◌∙◌, arith, subst}
+use Rattle.std.proofs.Common.{◌≡◌, ◌≢◌, ℕ, zero, suc, ◌+◌, ◌-◌, ◌≤◌, true, List, [], ◌∷◌, ◌++◌, length, map, Some, None, refl, sym, ap, ◌∙◌, arith, subst}
 use Rattle.std.specs.Prelude.{All, slice_index_or}
 use Rattle.std.specs.List.{Contains}
 use Rattle.std.proofs.lemmas.List.{append-nil}
@@ -12,31 +12,28 @@ use Rattle.clause_base.specs.Logs.{Refutes}
 use Rattle.cegis_loop.specs.declared.outcome.Least.{Least}
 use Rattle.cegis_loop.specs.declared.outcome.Least.TheVariants.{Found, Nothing, NoCase, Spent, NoMemory}
 use Rattle.cegis_loop.specs.Answers.{IsLeast}
-use Rattle.cegis_loop.specs.Order.{Asks, first_refuted, first_open, first_left, low_refuted, any_refuted, low_open, low_left, fail_refuted, fail_open, fail_left, Due, DueFirst, DueLow, DueFail, End, NoInput, NoChoice, Settled, Unfinished, IsSearch, IsWholeSearch, IsAtLeast, no_choice, settled, closed, NeedsClosing}
+use Rattle.cegis_loop.specs.Order.{Asks, first_refuted, first_open, first_left, low_refuted, any_refuted, low_open, low_left, fail_refuted, fail_open, fail_left, Due, DueFirst, DueLow, DueFail, End, NoInput, NoChoice, Settled, Unfinished, IsWholeSearch, IsAtLeast, no_choice, settled, closed}
 use Rattle.cegis_loop.specs.OrderLaws.{AnyRuledOut, CheaperRuledOut, ChoiceDidntFail}
 use Rattle.cegis_loop.specs.Space.{Space, NoneAbove}
-use Rattle.cegis_loop.specs.State.{Fail, Low, Told, Refuted}
+use Rattle.cegis_loop.specs.State.{Fail, Low, Told}
 use Rattle.input_space.specs.declared.case.Case.{Case}
-use Rattle.input_space.specs.declared.session.Query.{Query}
 use Rattle.input_space.specs.declared.session.Query.TheVariants as query
 use Rattle.input_space.specs.declared.session.Session.{Session}
 use Rattle.input_space.specs.Sessions.{IsBacked, is_refuted, logged, told_of}
 use Rattle.input_space.specs.TaskCoding.{coding}
 use Rattle.input_space.specs.Tasks.{Task, tree_of}
 use Rattle.input_space.specs.TaskSpace.{space, wanted_inputs}
-use Rattle.cert_text.specs.declared.cert.Cert.{Cert}
-use Rattle.cert_text.specs.declared.cert.Claim.{Claim}
 use Rattle.cert_text.specs.declared.cert.Claim.TheVariants as claim
-use Rattle.cert_text.specs.Certificates.{IsCertOf, cert_with}
-use Rattle.cert_text.specs.Limits.{KeepsForm, KeepsClaim}
-use Rattle.certificate_laws.specs.Right.{AreRefuted, IsOfCost, IsRight, least_queries, none_queries}
+use Rattle.cert_text.specs.Certificates.{cert_with}
+use Rattle.cert_text.specs.Limits.{KeepsForm}
+use Rattle.certificate_laws.specs.Right.{IsOfCost, IsRight}
 use Rattle.search_certificates.specs.declared.places.Wanted.{Wanted}
 use Rattle.search_certificates.specs.declared.places.Wanted.TheVariants as wanted
 use Rattle.search_certificates.specs.Certified.{Claims, IsCertificateOf, IsChosen, KeepsAsked, claim_of, search_with}
 use Rattle.search_certificates.specs.Places.{IsSessionOf, Refuting}
-use Rattle.search_certificates.specs.Searches.{IsSearchOf, IsTrailOf}
+use Rattle.search_certificates.specs.Searches.{IsSearchOf}
 use Rattle.search_certificates.proofs.FormLaws.{IsNumbered, sessions_kept}
-use Rattle.search_certificates.proofs.Told.{Failing, Lower, failing, failing_told, low_told, lower, refutes_by, told_among}
+use Rattle.search_certificates.proofs.Told.{failing, failing_told, low_told, lower, refutes_by, told_among}
 
 -- SOME INPUT IS KEPT
 

@@ -1,7 +1,7 @@
 -- The first session that passes a test.
-use Rattle.std.proofs.Common.{◌≡◌, ℕ, zero, suc, ◌+◌, ◌<◌, inl, inr, Bool, true, false, if◌then◌else◌, List, [], ◌∷◌, length, take, drop, Option, Some, None, refl, sym, ap, ◌∙◌, arith, subst}
+use Rattle.std.proofs.Common.{◌≡◌, ℕ, zero, suc, ◌+◌, ◌<◌, inl, inr, Bool, true, if◌then◌else◌, List, [], ◌∷◌, length, take, drop, Some, None, refl, ap, ◌∙◌, arith, subst}
 use Rattle.std.specs.List.{Contains}
-use Rattle.std.proofs.lemmas.Bool.{cases_Bool, true≢false}
+use Rattle.std.proofs.lemmas.Bool.{cases_Bool}
 use Rattle.input_space.specs.declared.session.Session.{Session}
 use Rattle.input_space.proofs.Elements.{first_contained, later_contained}
 use Rattle.search_certificates.specs.Places.{first_place}

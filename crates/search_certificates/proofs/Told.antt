@@ -9,7 +9,7 @@ use Rattle.clause_base.specs.declared.lit.Lit.{Lit}
 use Rattle.clause_base.specs.declared.log.Step.{Step}
 use Rattle.clause_base.specs.Logs.{Refutes}
 use Rattle.step_lines.proofs.Apart.{both, two}
-use Rattle.cegis_loop.specs.State.{Question, First, Low, Fail, Told, Refuted, Open}
+use Rattle.cegis_loop.specs.State.{Question, First, Low, Fail, Refuted, Open}
 use Rattle.input_space.specs.declared.session.Query.{Query}
 use Rattle.input_space.specs.declared.session.Query.TheVariants as query
 use Rattle.input_space.specs.declared.session.Session.{Session}

@@ -1,5 +1,5 @@
 -- What a search about a task leaves.
-use Rattle.std.specs.Prelude.{◌≡◌, ◌≤◌, ℕ, ◌+◌, List, All, length, map, Some}
+use Rattle.std.specs.Prelude.{◌≤◌, ℕ, ◌+◌, List, All, length, map, Some}
 use Rattle.choice_tree.specs.declared.selection.Choice.{Choice}
 use Rattle.cegis_loop.specs.declared.outcome.Least.{Least}
 use Rattle.cegis_loop.specs.declared.outcome.Least.TheVariants.{Found, Nothing, NoCase, Spent}

@@ -1,23 +1,20 @@
 -- What a solver's answers say of a question.
-use Rattle.std.proofs.Common.{◌≡◌, ◌≤◌, ◌<◌, ℕ, ◌+◌, ◌-◌, Bool, true, false, List, length, take, drop}
-use Rattle.std.proofs.Common.{refl, sym, ap, ◌∙◌, arith, subst}
+use Rattle.std.proofs.Common.{◌≡◌, ◌≤◌, ◌<◌, ℕ, ◌+◌, ◌-◌, Bool, false, List, length, take, drop}
+use Rattle.std.proofs.Common.{refl, ap, arith}
 use Rattle.std.proofs.lemmas.List.{length-drop, length-take-le}
 use Rattle.clause_base.specs.declared.formula.Formula.{Formula}
 use Rattle.clause_base.specs.declared.log.Log.{Log}
-use Rattle.clause_base.specs.Formulas.{Extend, satisfies}
 use Rattle.clause_base.specs.Logs.{IsFresh, IsNarrow, LogFollows, Refutes}
 use Rattle.clause_base.specs.Solving.{IsModel}
 use Rattle.derivation_check.specs.Soundness.{RefutedHasNoValues}
 use Rattle.input_space.specs.declared.case.Case.{Case}
 use Rattle.input_space.specs.declared.session.Query.{Query}
 use Rattle.input_space.specs.declared.session.Session.{Session}
-use Rattle.input_space.specs.Sessions.{NoneEmpty, cases_of, is_refuted, question_of}
-use Rattle.input_space.specs.Statements.{bits_of}
-use Rattle.input_space.specs.TaskCoding.{StatesQuery, coding}
+use Rattle.input_space.specs.Sessions.{NoneEmpty, cases_of, is_refuted}
+use Rattle.input_space.specs.TaskCoding.{StatesQuery}
 use Rattle.input_space.specs.Tasks.{Task}
 use Rattle.query_build.specs.Asking.{own_bits}
 use Rattle.solver_questions.specs.Replies.{AreFound, IsSessionOf, NoneAnswers, own_of}
-use Rattle.solver_questions.proofs.Refuting.{not_refuted, refuted}
 
 -- what is known of the formula of a question
 pub record IsStated (k : Task) (kept : List Case) (query : Query) (f : Formula) : Type 0 where

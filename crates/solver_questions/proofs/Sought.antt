@@ -1,7 +1,7 @@
 -- What is found, and what there isn't.
-use Rattle.std.proofs.Common.{◌≡◌, ◌↔◌, ◌≤◌, ℕ, ◌+◌, Bool, List, [], ◌∷◌, ◌++◌, length, take, map}
+use Rattle.std.proofs.Common.{◌≡◌, ◌↔◌, ◌≤◌, ℕ, ◌+◌, Bool, List, [], length, take}
 use Rattle.std.proofs.Common.{refl, sym, ap, ◌∙◌, arith, subst, Option, Some, None, inl, inr}
-use Rattle.std.specs.Prelude.{All, IfSome, IsSome, IsSomeAnd}
+use Rattle.std.specs.Prelude.{IfSome, IsSome, IsSomeAnd}
 use Rattle.std.specs.List.{Contains}
 use Rattle.std.proofs.lemmas.List.{take_all}
 use Rattle.std.proofs.lemmas.List.Elements.{All-contains}
@@ -13,12 +13,12 @@ use Rattle.choice_tree.specs.Selections.{plain}
 use Rattle.cegis_loop.specs.declared.asked.Asked.{Asked}
 use Rattle.cegis_loop.specs.declared.asked.Asked.TheVariants as asked
 use Rattle.cegis_loop.specs.Asking.{OnNothing}
-use Rattle.cegis_loop.specs.Space.{AgreesOn, IsFail, IsInput, IsLow, Space}
+use Rattle.cegis_loop.specs.Space.{AgreesOn, IsFail, IsInput, IsLow}
 use Rattle.coding_laws.specs.CodingLaws.{AgreementIsDecided}
 use Rattle.input_space.specs.declared.case.Case.{Case}
 use Rattle.input_space.specs.declared.session.Query.{Query}
 use Rattle.input_space.specs.declared.session.Query.TheVariants as query
-use Rattle.input_space.specs.Statements.{IsFull, SpellsChoice, SpellsInput}
+use Rattle.input_space.specs.Statements.{IsFull}
 use Rattle.input_space.specs.TaskCoding.{coding}
 use Rattle.input_space.specs.Tasks.{Task, tree_of}
 use Rattle.input_space.specs.TaskSpace.{SelectionMeets, space, wanted_inputs}
@@ -29,7 +29,7 @@ use Rattle.input_space.specs.declared.session.Session.{Session}
 use Rattle.solver_questions.specs.declared.reply.Finding.{Finding}
 use Rattle.solver_questions.specs.declared.reply.Finding.TheVariants as finding
 use Rattle.solver_questions.specs.Replies.{AreFound, AsksForInput, IsInputFor, IsSessionOf}
-use Rattle.solver_questions.specs.Replies.{NoneAnswers, Shows, own_of}
+use Rattle.solver_questions.specs.Replies.{NoneAnswers, Shows}
 
 -- what is there is some, and the fact holds of it
 pub some_and : {A : Type 0} (P : A → Type 0) (o : Option A) → IsSomeAnd o P → IsSome o

@@ -1,5 +1,5 @@
 -- What follows of a task's size: small costs.
-use Rattle.std.proofs.Common.{◌⊎◌, ℕ, ◌*◌, ◌<◌, ◌≤◌, ◌^◌, List, inl, inr, arith}
+use Rattle.std.proofs.Common.{◌⊎◌, ℕ, ◌<◌, ◌≤◌, ◌^◌, List, inl, inr, arith}
 use Rattle.std.specs.Prelude.{All}
 use Rattle.std.proofs.lemmas.Bool.{cases_lt}
 use Rattle.choice_tree.specs.Costs.{all_costs}

@@ -1,18 +1,17 @@
 -- Bodies and arms of an `if`, from a place on.
-use Rattle.std.proofs.Common.{◌≡◌, ◌∙◌, ◌<◌, ◌≤◌, ◌+◌, ℕ, zero, suc, List, [], ◌∷◌, map, drop, length, get_or, Option, Some, None, refl, sym, ap, subst, arith}
-use Rattle.std.proofs.lemmas.List.{drop_all}
+use Rattle.std.proofs.Common.{◌≡◌, ◌∙◌, ◌<◌, ◌+◌, ℕ, zero, suc, List, [], ◌∷◌, drop, length, get_or, Option, Some, None, refl, sym, ap, subst, arith}
 use Rattle.mpy_tree.specs.declared.limits.Limits.{Limits}
-use Rattle.mpy_tree.specs.Expressions.{Calls, value_of}
-use Rattle.mpy_tree.specs.Shapes.{arm_shape, arms_shapes, block_shape, last_shapes, shape, statement_shape, statement_shapes}
-use Rattle.mpy_tree.specs.Statements.{Ran, Next, run_arms, run_block, then_on}
-use Rattle.mpy_tree.specs.Syntax.{Action, Block, Branch, Branches, MaybeBlock, Statement, Term, a_block, arm, arm_and, at, end, no_arms, no_block, step}
+use Rattle.mpy_tree.specs.Expressions.{Calls}
+use Rattle.mpy_tree.specs.Shapes.{arm_shape, arms_shapes, block_shape, last_shapes, statement_shape, statement_shapes}
+use Rattle.mpy_tree.specs.Statements.{Ran, run_arms, run_block, then_on}
+use Rattle.mpy_tree.specs.Syntax.{Block, Branch, Branches, MaybeBlock, Statement, a_block, arm, arm_and, at, end, no_arms, no_block, step}
 use Rattle.mpy_tree.specs.Trees as kind
 use Rattle.mpy_tree.specs.Values.{State}
 use Rattle.choice_tree.specs.declared.tree.WStmts.{WStmts}
 use Rattle.choice_tree.specs.Selections.{plain, plains}
-use Rattle.choice_tree.specs.StatementViews.{arms_before, weighted_body, weighted_else}
+use Rattle.choice_tree.specs.StatementViews.{weighted_else}
 use Rattle.choice_tree.specs.WeightedTrees.{Weighted, Weighteds, plainly, no_weighted, weighted_and}
-use Rattle.choice_tree.specs.WeightedViews.{one, two, weighteds}
+use Rattle.choice_tree.specs.WeightedViews.{one, two}
 use Rattle.sym_blocks.specs.Runs.{run_arm, run_statement}
 use Rattle.sym_blocks.proofs.Views.{body_is}
 

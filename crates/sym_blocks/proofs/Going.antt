@@ -1,13 +1,13 @@
 -- What is seen after a statement, an arm and a turn, with what is left.
-use Rattle.std.proofs.Common.{◌≡◌, ◌∙◌, ◌<◌, ◌-◌, ℕ, Bool, List, [], Option, Some, None, refl, sym, ap}
+use Rattle.std.proofs.Common.{◌≡◌, ◌∙◌, ◌<◌, ◌-◌, ℕ, Option, Some, None, refl, sym, ap}
 use Rattle.std.specs.declared.result.Result.{Result}
 use Rattle.mpy_tree.specs.declared.limits.Limits.{Limits}
 use Rattle.mpy_tree.specs.declared.outcome.Halted.{Halted}
 use Rattle.mpy_tree.specs.declared.value.Value.{Value}
 use Rattle.mpy_tree.specs.Expressions.{Calls, value_of}
 use Rattle.mpy_tree.specs.Shapes.{arm_shape, block_shape, last_shapes, shape}
-use Rattle.mpy_tree.specs.Statements.{Ran, Next, run_arms, run_block, run_else, then_on, while_turns}
-use Rattle.mpy_tree.specs.Syntax.{Block, Branch, Branches, MaybeBlock, Statement, Term, a_block, arm, arm_and, no_arms, no_block, step}
+use Rattle.mpy_tree.specs.Statements.{Ran, Next, run_block, run_else, then_on, while_turns}
+use Rattle.mpy_tree.specs.Syntax.{Block, Branch, Branches, MaybeBlock, Term, a_block, arm, arm_and, no_arms, no_block}
 use Rattle.mpy_tree.specs.Trees as kind
 use Rattle.mpy_tree.specs.Values.{State}
 use Rattle.choice_tree.specs.declared.tree.WStmts.{WStmts}
@@ -17,10 +17,10 @@ use Rattle.choice_tree.specs.WeightedTrees.{Weighted, Weighteds, plainly}
 use Rattle.choice_tree.specs.WeightedViews.{two}
 use Rattle.sym_paths.specs.Endings.{Seen, and_seen, ended, nothing_seen, seen_from, turned}
 use Rattle.sym_paths.specs.Sides.{misses, passes}
-use Rattle.sym_paths.specs.Sights.{again, and_assoc, and_nothing, onward}
+use Rattle.sym_paths.specs.Sights.{again, and_assoc, onward}
 use Rattle.sym_paths.specs.Steps.{arm_step, block_step, last_turn, turn_more}
 use Rattle.sym_blocks.specs.Runs.{run_arm, run_if, run_statement}
-use Rattle.sym_blocks.proofs.Blocks.{FirstArm, FirstOf, block_step_is, run_arm_is}
+use Rattle.sym_blocks.proofs.Blocks.{FirstArm, FirstOf, block_step_is}
 
 module _ (l : Limits) (calls : Calls) (m : ℕ → ℕ) where
   -- a statement, and those that are left

@@ -1,5 +1,5 @@
 -- What later states of a logic leave of a body and of what is chosen.
-use Rattle.std.proofs.Common.{◌≡◌, ◌∙◌, ℕ, Bool, List, [], ◌∷◌, Option, Some, ap}
+use Rattle.std.proofs.Common.{◌≡◌, ◌∙◌, ℕ, Bool, List, [], ◌∷◌, Option, ap}
 use Rattle.mpy_tree.specs.declared.limits.Limits.{Limits}
 use Rattle.mpy_tree.specs.Expressions.{Calls}
 use Rattle.bit_words.specs.Later.{nat_later, owned_later}
@@ -7,7 +7,7 @@ use Rattle.bit_words.specs.Logic.{Keeps}
 use Rattle.sym_values.specs.Forms.{Form}
 use Rattle.sym_values.specs.Owned.{owns_one}
 use Rattle.sym_paths.specs.declared.path.Path.{Path}
-use Rattle.sym_paths.specs.Later.{path_later, paths_later, way_later, ways_later}
+use Rattle.sym_paths.specs.Later.{way_later, ways_later}
 use Rattle.sym_paths.specs.Paths.{Arrival, HoldsPath, HoldsPaths, Way, gone_way, way, ways}
 use Rattle.sym_blocks.specs.declared.body.Body.{Body}
 use Rattle.sym_blocks.specs.Bodies.{AreChosen, IsBodyIn}

@@ -1,5 +1,5 @@
 -- Lists that are changed, by their types.
-use Rattle.std.proofs.Common.{◌≡◌, ◌∙◌, Bool, List, length, map, sym, ap, subst}
+use Rattle.std.proofs.Common.{◌≡◌, Bool, List, length, subst}
 use Rattle.std.specs.declared.result.Result.{Result}
 use Rattle.mpy_tree.specs.declared.limits.Limits.{Limits}
 use Rattle.mpy_tree.specs.declared.typing.Ty.TheVariants as ty
@@ -8,11 +8,11 @@ use Rattle.mpy_tree.specs.declared.outcome.Halt.{Halt}
 use Rattle.sym_values.specs.declared.value.SymValue.{SymValue}
 use Rattle.sym_values.specs.declared.value.SymValue.TheVariants as sym_value
 use Rattle.sym_values.specs.declared.value.SymOutcome.{SymOutcome}
-use Rattle.sym_values.specs.Forms.{Form, IntForm, form_for, form_of}
+use Rattle.sym_values.specs.Forms.{IntForm, form_for, form_of}
 use Rattle.sym_values.specs.Operations.{number_read}
 use Rattle.sym_values.specs.Reading.{OutcomeReads, read, sure}
 use Rattle.list_values.specs.Operations.{SequenceGives}
-use Rattle.list_values.specs.Sequences.{IsWordFor, items_of}
+use Rattle.list_values.specs.Sequences.{IsWordFor}
 use Rattle.list_values.specs.Typed.{list_item_form, list_room}
 use Rattle.sym_nodes.proofs.Giving.{number_is_read}
 

@@ -1,5 +1,5 @@
 -- Lists and texts that are gone over.
-use Rattle.std.proofs.Common.{◌≡◌, ◌∙◌, ◌<◌, ◌≤◌, ℕ, zero, suc, Bool, true, false, List, [], ◌∷◌, length, map, take, drop, refl, sym, ap, subst, Option, Some, None, IsSome, is_some, arith}
+use Rattle.std.proofs.Common.{◌≡◌, ◌∙◌, ◌≤◌, ℕ, Bool, List, [], length, map, take, drop, refl, sym, ap, subst, Option, Some, None, IsSome, arith}
 use Rattle.std.proofs.lemmas.List.{drop_all, length-map, length-take}
 use Rattle.std.specs.declared.result.Result.{Result}
 use Rattle.std.specs.declared.result.Result.TheVariants.{Ok, Err}
@@ -20,7 +20,7 @@ use Rattle.sym_values.specs.Later.{value_later}
 use Rattle.sym_values.specs.Reading.{IsOutcome, Reading, read, spelled, sure}
 use Rattle.list_values.specs.Sequences.{items_of}
 use Rattle.sym_nodes.specs.Operands.{ty_of}
-use Rattle.sym_paths.specs.Items.{entering, items, items_at, staying}
+use Rattle.sym_paths.specs.Items.{entering, items, items_at}
 use Rattle.sym_paths.specs.Sides.{IsFault, fine, fine_at}
 use Rattle.sym_paths.specs.Sights.{again}
 use Rattle.sym_blocks.specs.Turns.{HasItems, ItemsRead}

@@ -1,9 +1,8 @@
 -- A `return`, with a value and without one.
-use Rattle.std.proofs.Common.{◌≡◌, ◌∙◌, ℕ, Option, Some, None, IsSome, is_some, refl, ap, subst, List}
+use Rattle.std.proofs.Common.{◌≡◌, ◌∙◌, ℕ, Option, Some, None, refl, ap, subst, List}
 use Rattle.mpy_tree.specs.declared.limits.Limits.{Limits}
 use Rattle.mpy_tree.specs.Expressions.{Calls}
 use Rattle.mpy_tree.specs.Shapes.{shape}
-use Rattle.mpy_tree.specs.Statements.{Ran}
 use Rattle.mpy_tree.specs.Syntax.{MaybeTerm, Term, a_term, no_term}
 use Rattle.mpy_tree.specs.Values.{State}
 use Rattle.choice_tree.specs.declared.tree.WExpr.{WExpr}

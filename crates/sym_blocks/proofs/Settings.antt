@@ -1,5 +1,5 @@
 -- A path as what expressions are evaluated in.
-use Rattle.std.proofs.Common.{◌≡◌, ◌≢◌, ◌<◌, ◌∙◌, ℕ, zero, suc, Bool, true, false, List, [], ◌∷◌, length, map, slice_get, option_map, refl, sym, ap, subst, Option, Some, None, arith}
+use Rattle.std.proofs.Common.{◌≡◌, ◌<◌, ◌∙◌, ℕ, zero, suc, Bool, true, false, List, [], ◌∷◌, length, map, slice_get, option_map, refl, sym, ap, Option, Some, None, arith}
 use Rattle.std.specs.Prelude.{◌==◌, if◌then◌else◌}
 use Rattle.std.specs.Cmp.{unsigned_Decides}
 use Rattle.std.proofs.lemmas.Bool.{false_from_ne_true}
@@ -11,11 +11,10 @@ use Rattle.mpy_tree.specs.declared.typing.Ty.{Ty}
 use Rattle.mpy_tree.specs.declared.value.Value.{Value}
 use Rattle.mpy_tree.specs.Names.{has_twice}
 use Rattle.mpy_tree.specs.Values.{State}
-use Rattle.choice_tree.specs.Typing.{Scope}
 use Rattle.choice_tree.specs.WeightedTrees.{Weighted}
 use Rattle.sym_values.specs.declared.value.SymValue.{SymValue}
 use Rattle.sym_values.specs.Forms.{form_for, form_of, forms_of}
-use Rattle.sym_values.specs.Reading.{Reading, map_bits, read, spelled, sure}
+use Rattle.sym_values.specs.Reading.{map_bits, spelled}
 use Rattle.sym_nodes.specs.declared.env.Env.{Env}
 use Rattle.sym_nodes.specs.Environments.{IsEnvIn, LocalReads, StateReads, slot_type, type_at}
 use Rattle.mpy_tree.specs.Locals.{place_of}

@@ -1,13 +1,12 @@
 -- The parts of a weighted statement have fewer nodes.
-use Rattle.std.proofs.Common.{◌≡◌, ◌∙◌, ◌<◌, ◌≤◌, ◌+◌, ℕ, zero, suc, List, [], ◌∷◌, map, length, get_or, Option, Some, None, sym, ap, subst, arith}
-use Rattle.mpy_tree.specs.Trees as kind
+use Rattle.std.proofs.Common.{◌≡◌, ◌∙◌, ◌<◌, ◌≤◌, ◌+◌, ℕ, zero, suc, List, [], ◌∷◌, map, length, get_or, sym, ap, arith}
 use Rattle.choice_tree.specs.declared.tree.WArm.{WArm, out-WArm}
 use Rattle.choice_tree.specs.declared.tree.WArms.{WArms, out-WArms}
 use Rattle.choice_tree.specs.declared.tree.WStmt.{WStmt}
 use Rattle.choice_tree.specs.declared.tree.WStmts.{WStmts, out-WStmts}
-use Rattle.choice_tree.specs.StatementViews.{arms_before, weighted_arm, weighted_arms, weighted_body, weighted_else, weighted_stmt}
-use Rattle.choice_tree.specs.WeightedTrees.{Weighted, Weighteds, nodes, nodes_in, plainly}
-use Rattle.choice_tree.specs.WeightedViews.{two, weighted_of, weighteds}
+use Rattle.choice_tree.specs.StatementViews.{arms_before, weighted_arm, weighted_arms, weighted_body, weighted_stmt}
+use Rattle.choice_tree.specs.WeightedTrees.{Weighted, Weighteds, nodes, nodes_in}
+use Rattle.choice_tree.specs.WeightedViews.{weighted_of, weighteds}
 use Rattle.sym_blocks.proofs.Views.{arm_is, arms_are, body_is}
 
 part_smaller : {A : Type 0} (f : A → Weighted) (xs : List A) (i : ℕ) (x : A) → i < length xs → x ≡ get_or xs i x → nodes (f x) ≤ nodes_in (weighteds (map f xs))

@@ -1,5 +1,5 @@
 -- What the rule of a statement says of the types of its parts.
-use Rattle.std.proofs.Common.{◌≡◌, ◌∙◌, ℕ, true, List, [], ◌∷◌, refl, sym, ap, Option, Some, None, IsSome, IsTrue, is_some, ◌&&◌}
+use Rattle.std.proofs.Common.{◌≡◌, ◌∙◌, ℕ, true, List, refl, sym, ap, Option, Some, None, IsSome, is_some, ◌&&◌}
 use Rattle.std.proofs.lemmas.Bool.{and_parts}
 use Rattle.mpy_tree.specs.declared.limits.Limits.{Limits}
 use Rattle.mpy_tree.specs.declared.operators.ArithOp.{ArithOp}
@@ -16,7 +16,7 @@ use Rattle.sym_values.specs.Forms.{form_for, form_of}
 use Rattle.sym_nodes.specs.Operands.{ty_of}
 use Rattle.sym_nodes.specs.Plain.{type_of}
 use Rattle.sym_nodes.proofs.Typed.{type_is}
-use Rattle.typed_trees.specs.TypedStatements.{goes_over, local_type, puts, appends, result_type}
+use Rattle.typed_trees.specs.TypedStatements.{local_type, result_type}
 use Rattle.sym_blocks.specs.Typing.{Appends, Assigns, Augments, GoesOver, Puts, Returns}
 
 pub some_of : (o : Option Ty) → IsSome o → (t : Ty) × (o ≡ Some t)

@@ -1,5 +1,5 @@
 -- Calls of functions: their types, and what their outcomes read as.
-use Rattle.std.proofs.Common.{◌≡◌, ◌<◌, ℕ, Bool, true, false, List, [], ◌∷◌, All, length, arith, refl, sym, ap, ◌∙◌, subst, Option, Some, None, is_some}
+use Rattle.std.proofs.Common.{◌≡◌, ◌<◌, ℕ, Bool, true, false, List, [], ◌∷◌, length, arith, refl, sym, ap, ◌∙◌, subst, Option, Some, None, is_some}
 use Rattle.std.specs.Prelude.{◌==◌, if◌then◌else◌}
 use Rattle.std.proofs.lemmas.Bool.Decides.{nat_tests}
 use Rattle.std.proofs.lemmas.List.Elements.{All-head, All-tail}
@@ -27,7 +27,7 @@ use Rattle.sym_values.specs.Later.{outcome_later}
 use Rattle.sym_values.specs.Reading.{OutcomeReads}
 use Rattle.sym_nodes.specs.declared.env.Env.{Env}
 use Rattle.sym_nodes.specs.Environments.{scope_of, slot_type}
-use Rattle.sym_nodes.specs.Nodes.{all_of, node_result}
+use Rattle.sym_nodes.specs.Nodes.{all_of}
 use Rattle.sym_nodes.specs.Operands.{ArePartsIn, IsPartIn, PartsRead}
 use Rattle.sym_nodes.specs.Plain.{AllReadAsPlain, ReadsAsPlain, kind_of, root_type}
 use Rattle.sym_nodes.proofs.Members.{node_plain}

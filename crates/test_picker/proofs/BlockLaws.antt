@@ -1,7 +1,6 @@
 -- Inputs of the order side by side, up to 64 of them.
-use Rattle.std.proofs.Common.{◌≡◌, ◌⊎◌, ℕ, ◌+◌, ◌-◌, ◌<◌, ◌≤◌, ◌∙◌, Bool, true, List, [], ◌∷◌, ◌++◌, Some, sym, ap, subst, arith, refl, inl, inr, min, map, Option, length, take, drop, append_assoc, length-drop}
+use Rattle.std.proofs.Common.{◌≡◌, ℕ, ◌+◌, ◌-◌, ◌<◌, ◌≤◌, ◌∙◌, true, List, [], ◌∷◌, ◌++◌, Some, sym, ap, subst, arith, refl, inl, inr, min, map, Option, length, take, drop, append_assoc, length-drop}
 use Rattle.std.specs.Prelude.{All, slice_get}
-use Rattle.std.specs.List.{AllZip, Contains}
 use Rattle.std.specs.Option.{option_map}
 use Rattle.std.proofs.Math.Seq.{take-add, take-length}
 use Rattle.std.proofs.lemmas.List.{append_cancel_left, length-map, length-take, map_push, take_all}
@@ -12,8 +11,8 @@ use Rattle.mpy_tree.specs.declared.typing.Ty.{Ty}
 use Rattle.mpy_tree.specs.declared.value.Value.{Value}
 use Rattle.mpy_tree.specs.Fitting.{all_fit_as, type_of}
 use Rattle.bounds_reader.specs.declared.bounds.Bounds.{Bounds}
-use Rattle.bit_lanes.specs.Lane.{lane_of, reads_table, truths_of_lane}
-use Rattle.bit_lanes.specs.LaneCases.{AreTabled, FillLanes, IsTabled, ReadAsCases, case_in, first_types}
+use Rattle.bit_lanes.specs.Lane.{lane_of, truths_of_lane}
+use Rattle.bit_lanes.specs.LaneCases.{AreTabled, FillLanes, ReadAsCases, first_types}
 use Rattle.bit_lanes.specs.LaneLaws.{LanesAreNumbers}
 use Rattle.bit_lanes.specs.declared.lanes.Lanes.{Lanes}
 use Rattle.input_space.specs.declared.case.Case.{Case}
@@ -22,7 +21,7 @@ use Rattle.input_space.specs.InputLaws.{InputsFit}
 use Rattle.input_space.specs.Inputs.{inputs, param_type}
 use Rattle.sym_values.specs.declared.value.SymValue.{SymValue}
 use Rattle.sym_values.specs.Forms.{form_for}
-use Rattle.sym_values.specs.Reading.{read, sure}
+use Rattle.sym_values.specs.Reading.{sure}
 use Rattle.sym_values.proofs.Held.{take_read}
 use Rattle.sym_nodes.specs.Operands.{IsTypedIn, ty_of}
 use Rattle.sym_nodes.proofs.Typed.{type_is}

@@ -1,5 +1,5 @@
 -- Chosen cases and marks.
-use Rattle.std.proofs.Common.{◌≡◌, ◌∙◌, ◌↔◌, ℕ, zero, suc, ◌+◌, ◌<◌, List, [], ◌∷◌, ◌++◌, Some, sym, ap, subst, arith, refl, length, append_assoc, append-nil}
+use Rattle.std.proofs.Common.{◌≡◌, ◌∙◌, ◌↔◌, ℕ, zero, suc, ◌+◌, List, [], ◌∷◌, ◌++◌, Some, sym, ap, subst, refl, length, append_assoc, append-nil}
 use Rattle.std.specs.Prelude.{All, slice_get}
 use Rattle.std.proofs.lemmas.List.Elements.{All-append, All-cons, All-nil}
 use Rattle.mpy_tree.specs.declared.value.Value.{Value}
@@ -9,7 +9,7 @@ use Rattle.input_space.specs.Agreement.{Agrees, EndsAlike, IsInput}
 use Rattle.input_space.specs.Inputs.{inputs}
 use Rattle.test_picker.specs.Choosing.{Adds, agrees, by_case, by_input, Chooses, none, more}
 use Rattle.test_picker.specs.Failing.{FailsFirstAt}
-use Rattle.test_picker.specs.PickLaws.{AreMarks, IsMark, MarksStay, OneChoice}
+use Rattle.test_picker.specs.PickLaws.{IsMark, MarksStay, OneChoice}
 use Rattle.test_picker.proofs.Failures.{next, one_first, stays}
 use Rattle.test_picker.proofs.Places.{all_at, contains_at}
 

@@ -1,9 +1,9 @@
 -- From tables to the lanes of inputs.
-use Rattle.std.proofs.Common.{◌≡◌, ℕ, zero, suc, ◌+◌, ◌<◌, ◌≤◌, ◌^◌, ◌==◌, ◌∙◌, Bool, true, false, not, ◌||◌, List, [], ◌∷◌, Option, Some, None, sym, ap, subst, arith, refl, length, take}
+use Rattle.std.proofs.Common.{◌≡◌, ℕ, zero, suc, ◌<◌, ◌≤◌, ◌^◌, ◌==◌, ◌∙◌, Bool, true, false, ◌||◌, List, [], ◌∷◌, Option, Some, None, sym, ap, subst, arith, refl, length, take}
 use lib.Count.{trailing_of_zero}
-use Rattle.std.specs.Prelude.{All, MatchOption, is_some, slice_get}
+use Rattle.std.specs.Prelude.{MatchOption, is_some, slice_get}
 use Rattle.std.specs.List.{list_any}
-use Rattle.std.specs.Int.{bit_at, trailing_zeros, w64}
+use Rattle.std.specs.Int.{trailing_zeros, w64}
 use Rattle.std.proofs.lemmas.Bool.{true≢false}
 use Rattle.std.proofs.lemmas.List.Folds.{list_any_none}
 use Rattle.std.proofs.lemmas.Nat.Bits.{bit_at-trailing_zeros, bit_at-zero}
@@ -12,12 +12,12 @@ use Rattle.mpy_tree.specs.declared.value.Value.{Value}
 use Rattle.mpy_tree.specs.Outcomes.{is_done}
 use Rattle.mpy_tree.specs.Syntax.{Routine}
 use Rattle.bounds_reader.specs.declared.bounds.Bounds.{Bounds}
-use Rattle.bit_lanes.specs.Lane.{lane_bit, lane_of, reads_table, truths_of_lane}
+use Rattle.bit_lanes.specs.Lane.{lane_bit, reads_table, truths_of_lane}
 use Rattle.bit_lanes.specs.LaneLaws.{LanesAreNumbers}
 use Rattle.input_space.specs.Agreement.{EndsAlike, EndsSomewhere, ends_on}
 use Rattle.input_space.specs.Inputs.{inputs}
 use Rattle.test_picker.specs.Comparing.{TellsFailure}
-use Rattle.test_picker.specs.Failing.{FailsFirstAt, IsFirstFailure}
+use Rattle.test_picker.specs.Failing.{IsFirstFailure}
 use Rattle.test_picker.specs.Findings.{ends_on_some}
 use Rattle.test_picker.specs.LaneInputs.{IsFirstLane}
 use Rattle.test_picker.proofs.Places.{all_by, contains_at, of_take, place_of, there}

@@ -18,10 +18,10 @@ use Rattle.mpy_tree.specs.View.{action_of, act_step, arm_step, arms_step, block,
 use Rattle.mpy_tree.specs.View.{block_or_none, branch_of, branches, branches_of, routine_of}
 use Rattle.mpy_tree.specs.View.{statement_of, stmt_step, stmts_step}
 use Rattle.mpy_tree.specs.Trees as kind
-use Rattle.mpy_tree.specs.Trees.{Tree, Trees, node}
+use Rattle.mpy_tree.specs.Trees.{Trees, node}
 use Rattle.mpy_tree.specs.Shapes.{action_shape, arm_shape, arms_shapes, block_shape, last_shapes}
 use Rattle.mpy_tree.specs.Shapes.{routine_shape, routine_shapes, statement_shape, statement_shapes}
-use Rattle.choice_tree.specs.declared.tree.WAct.{WAct, If}
+use Rattle.choice_tree.specs.declared.tree.WAct.{If}
 use Rattle.choice_tree.specs.declared.tree.WAct.TheVariants.{rolls-If}
 use Rattle.choice_tree.specs.declared.tree.WAct.TheOpen as H
 use Rattle.choice_tree.specs.declared.tree.WAct.TheFolds.{fold-roll-WAct, fold-roll-WStmts}
@@ -35,7 +35,7 @@ use Rattle.choice_tree.specs.StatementViews.{arms_before, wact_step, warm_step, 
 use Rattle.choice_tree.specs.StatementViews.{weighted_act, weighted_arm, weighted_arms}
 use Rattle.choice_tree.specs.StatementViews.{weighted_body, weighted_else, weighted_func}
 use Rattle.choice_tree.specs.StatementViews.{weighted_stmt, wstmt_step, wstmts_step}
-use Rattle.choice_tree.specs.WeightedTrees.{Weighted, Weighteds, lifted, lifted_all, plainly}
+use Rattle.choice_tree.specs.WeightedTrees.{Weighted, lifted, lifted_all, plainly}
 use Rattle.choice_tree.specs.WeightedTrees.{weighted_and}
 use Rattle.choice_tree.specs.WeightedViews.{weighteds}
 use Rattle.tree_weights.specs.LiftedParts.{lifted_arms}

@@ -1,15 +1,15 @@
 -- Trees without picks, made one after another.
-use Rattle.std.proofs.Common.{◌≡◌, ℕ, zero, suc, ◌+◌, ◌<◌, ◌≤◌, ◌++◌, max, List, [], ◌∷◌, map, drop}
+use Rattle.std.proofs.Common.{◌≡◌, ℕ, zero, suc, ◌+◌, ◌<◌, ◌≤◌, ◌++◌, List, [], ◌∷◌, map, drop}
 use Rattle.std.proofs.Common.{slice_get, Some, None, Result, Ok, Err, IfOk, refl, sym, ap, ◌∙◌, arith}
 use Rattle.std.proofs.Common.{append_assoc}
 use Rattle.std.proofs.lemmas.List.{append-nil}
 use Rattle.mpy_tree.specs.Trees.{Tree, Trees, node, no_trees, tree_and, tree_depth, most_depth}
 use Rattle.choice_tree.proofs.Walking.{next_of, no_next}
-use Rattle.choice_tree.specs.WeightedTrees.{Weighted, Weighteds, no_weighted, weighted_and, lifted}
+use Rattle.choice_tree.specs.WeightedTrees.{weighted_and, lifted}
 use Rattle.choice_tree.specs.WeightedTrees.{lifted_all, plainly}
 use Rattle.choice_tree.specs.WeightedViews.{weighteds}
 use Rattle.eml_match.specs.Parts.{parts, tree_list}
-use Rattle.choice_tree.specs.Heads.{HasParts, root}
+use Rattle.choice_tree.specs.Heads.{root}
 
 -- of a list one more is made, and then all
 pub made_next : {X Y : Type 0} (f : X → Y) (xs : List X) (i j : ℕ) (x : X) (y : Y)

@@ -12,7 +12,7 @@ use Rattle.mpy_tree.specs.declared.typing.Ty.{Ty}
 use Rattle.mpy_tree.specs.declared.typing.Ty.TheVariants as ty
 use Rattle.mpy_tree.specs.Builtins.{builtin_of}
 use Rattle.mpy_tree.specs.Options.{◌>>=◌}
-use Rattle.mpy_tree.specs.Rules.{all_numbers, are_arguments, are_operands, arith_type, both_are}
+use Rattle.mpy_tree.specs.Rules.{all_numbers, are_arguments, arith_type, both_are}
 use Rattle.mpy_tree.specs.Rules.{call_type, choice_type, compare_type, index_type, member_of}
 use Rattle.mpy_tree.specs.Rules.{member_type, negative_type, order_type, product_type, same_type}
 use Rattle.mpy_tree.specs.Rules.{single}
@@ -21,7 +21,7 @@ use Rattle.mpy_tree.specs.SetTypes.{Callee, called, called_from, callee}
 use Rattle.mpy_tree.specs.Shapes.{program_shape, routine_shapes}
 use Rattle.mpy_tree.specs.Syntax.{Routine}
 use Rattle.mpy_tree.specs.Trees as kind
-use Rattle.mpy_tree.specs.Trees.{Kind, Trees, node, tree_and}
+use Rattle.mpy_tree.specs.Trees.{Kind}
 use Rattle.mpy_tree.specs.Typings.{set_of}
 use Rattle.mpy_tree.specs.Values.{same_bytes}
 use Rattle.choice_tree.specs.declared.tree.WFunc.{WFunc}
@@ -31,7 +31,7 @@ use Rattle.choice_tree.specs.Typing.{node_type, of_one, of_two, of_three, types_
 use Rattle.choice_tree.specs.WeightedTrees.{Weighted, Weighteds, plainly, pick, no_weighted}
 use Rattle.choice_tree.specs.WeightedTrees.{weighted_and, base_of, bases_of}
 use Rattle.choice_tree.specs.WeightedViews.{weighteds}
-use Rattle.tree_weights.specs.Functions.{Function, function, function_from, function_of}
+use Rattle.tree_weights.specs.Functions.{function, function_from, function_of}
 use Rattle.tree_weights.specs.RootTypes.{called_type, first_type, result_type, root_type, type_at}
 use Rattle.tree_weights.specs.TypeLaws.{functions_of, plain_scope, weighted_scope}
 

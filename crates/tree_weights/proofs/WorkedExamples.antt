@@ -1,5 +1,5 @@
 -- Weights of small programs, computed.
-use Rattle.std.proofs.Common.{◌≡◌, ℕ, List, [], ◌∷◌, codes, lit≤, refl, true}
+use Rattle.std.proofs.Common.{◌≡◌, ℕ, List, [], ◌∷◌, codes, lit≤, refl}
 use Rattle.mpy_tree.specs.declared.limits.Limits.{Limits}
 use Rattle.mpy_tree.specs.declared.operators.ArithOp.TheVariants.{Add, Sub}
 use Rattle.mpy_tree.specs.declared.operators.CmpOp.TheVariants.{Lt, Member, Ne}

@@ -1,4 +1,4 @@
-use Rattle.std.proofs.Common.{◌≡◌, map, sym, ap, ◌∙◌}
+use Rattle.std.proofs.Common.{◌≡◌, map, ap, ◌∙◌}
 use Rattle.bounds_reader.specs.Forms.{form_of}
 use Rattle.bounds_reader.specs.Views.{file_view}
 use Rattle.bounds_reader.proofs.RangeLaws.{are_within, file_lengths, within_limits, few_params, params_in_range}

@@ -1,6 +1,5 @@
-use Rattle.std.proofs.Common.{◌≡◌, ℕ, ◌<◌, ◌∷◌, [], ◌++◌, drop, map, length, length-drop, length-append, append-nil, refl, sym, ap, ◌∙◌, arith}
+use Rattle.std.proofs.Common.{ℕ, ◌<◌, ◌++◌, drop, map, length-drop, append-nil, refl, sym, ap, ◌∙◌, arith}
 use Rattle.std.proofs.lemmas.List.{take_rest, map_push, length_push}
-use Rattle.mpy_lexer.specs.PhysicalLines.{physical_lines}
 use Rattle.mpy_lexer.proofs.LineCuts.{line_some}
 use Rattle.bounds_reader.proofs.LineCuts.{lines_more, no_lines}
 use Rattle.bounds_reader.proofs.lines.text_lines.Goals as goal

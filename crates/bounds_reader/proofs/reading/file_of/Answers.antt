@@ -1,7 +1,7 @@
-use Rattle.std.proofs.Common.{◌≡◌, ◌+◌, map, take, drop, length, refl, sym, ap, subst, ◌∙◌, arith}
+use Rattle.std.proofs.Common.{◌≡◌, ◌+◌, map, take, drop, length, refl, sym, subst, ◌∙◌, arith}
 use Rattle.std.proofs.lemmas.List.{map_more, take_all, length-map}
 use Rattle.bounds_reader.specs.Files.{HasSyntaxFault}
-use Rattle.bounds_reader.proofs.FileLaws.{IsFileOf, start_file, file_more, line_unexpected, lines_missing, whole_file, cut_at, length_front}
+use Rattle.bounds_reader.proofs.FileLaws.{IsFileOf, start_file, file_more, line_unexpected, lines_missing, cut_at, length_front}
 use Rattle.bounds_reader.proofs.reading.file_of.Goals as goal
 
 pub loop-i-init : goal.loop-i-init

@@ -1,6 +1,4 @@
-use Rattle.std.proofs.Common.{true}
 use Rattle.std.specs.Char.{is_ascii_digit}
-use Rattle.std.specs.List.{list_all}
 use Rattle.bounds_reader.proofs.Digits.{prefix_passes}
 use Rattle.bounds_reader.proofs.scan.numeral_at.Goals as goal
 

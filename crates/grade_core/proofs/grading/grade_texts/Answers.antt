@@ -1,5 +1,4 @@
 -- the answer is right, and its certificate shows it
-use Rattle.std.proofs.Common.{map}
 use Rattle.std.specs.Prelude.{option_map}
 use Rattle.input_space.specs.TaskParts.{task_with}
 use Rattle.grade_core.proofs.DecidingLaws.{given_told, stands_right}

@@ -1,4 +1,3 @@
-use Rattle.std.proofs.Common.{subst}
 use Rattle.input_space.specs.TaskParts.{task_with}
 use Rattle.grade_core.proofs.RunLaws.{certifies, is_claimed}
 use Rattle.grade_core.proofs.run.certificate.Goals as goal

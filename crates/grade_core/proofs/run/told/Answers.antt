@@ -1,5 +1,5 @@
 -- what the search found, as the answer to the task
-use Rattle.std.proofs.Common.{arith, refl, subst, sym}
+use Rattle.std.proofs.Common.{arith, subst}
 use Rattle.cegis_loop.specs.Answers.{IsLeast}
 use Rattle.input_space.specs.TaskParts.{task_with}
 use Rattle.input_space.specs.TaskSpace.{space, wanted_inputs}

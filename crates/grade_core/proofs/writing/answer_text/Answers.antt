@@ -1,6 +1,6 @@
 -- the report of the answer, or the refusal of its reference
 use Rattle.input_space.specs.TaskParts.{task_with}
-use Rattle.grade_core.proofs.DecidingLaws.{text_of_refusal, text_of_report, told_reported}
+use Rattle.grade_core.proofs.DecidingLaws.{told_reported}
 use Rattle.grade_core.proofs.writing.answer_text.Goals as goal
 
 pub report-requires : goal.report-requires

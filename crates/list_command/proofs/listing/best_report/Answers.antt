@@ -1,4 +1,4 @@
-use Rattle.std.proofs.Common.{◌≡◌, ◌∙◌, ℕ, List, ap, length, subst}
+use Rattle.std.proofs.Common.{ℕ, List, length, subst}
 use Rattle.choice_tree.specs.declared.selection.Choice.{Choice}
 use Rattle.input_space.specs.TaskParts.{task_with}
 use Rattle.list_command.specs.Reports.{ListsChanges}

@@ -1,6 +1,4 @@
 -- the report of each answer
-use Rattle.std.proofs.Common.{refl}
-use Rattle.feedback_text.specs.Answers.{Correct}
 use Rattle.input_space.specs.TaskParts.{task_with}
 use Rattle.list_command.specs.Requests.{all_of}
 use Rattle.list_command.proofs.Listed.{corrected_cost, free_by, reports_listing}

@@ -1,4 +1,4 @@
-use Rattle.std.proofs.Common.{ap, sym, ◌∙◌, arith, length, map, subst}
+use Rattle.std.proofs.Common.{ap, sym, ◌∙◌, length, map, subst}
 use Rattle.bit_words.specs.Logic.{OwnsAll}
 use Rattle.bit_words.specs.Words.{nat_of}
 use Rattle.list_values.proofs.ByPlace.{member_count, place_is_there}

@@ -1,4 +1,4 @@
-use Rattle.std.proofs.Common.{ap, sym, ◌∙◌, map, Some}
+use Rattle.std.proofs.Common.{ap, sym, ◌∙◌, map}
 use Rattle.std.specs.Prelude.{slice_get}
 use Rattle.sym_values.specs.Reading.{sure}
 use Rattle.list_values.specs.Sequences.{item_of_kind}

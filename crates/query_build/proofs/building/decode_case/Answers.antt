@@ -1,11 +1,9 @@
-use Rattle.std.proofs.Common.{◌≡◌, ◌≤◌, ◌∙◌, List, None, Option, Some, ap, arith, length, map, sym}
+use Rattle.std.proofs.Common.{◌≤◌, ◌∙◌, List, Option, ap, arith, length, map, sym}
 use Rattle.std.specs.Prelude.{is_some, option_map}
 use Rattle.std.proofs.lemmas.Bool.{true≢false}
 use Rattle.mpy_tree.specs.declared.value.Value.{Value}
 use Rattle.bounds_reader.specs.declared.bounds.Bounds.{Bounds}
 use Rattle.input_space.specs.Inputs.{param_type}
-use Rattle.input_space.specs.TaskCoding.{coding}
-use Rattle.input_space.specs.TaskParts.{task_with}
 use Rattle.input_space.specs.TaskSpace.{case_of}
 use Rattle.input_space.specs.ValueBits.{values_at}
 use Rattle.query_build.proofs.Shifted.{values_behind}

@@ -1,5 +1,5 @@
 use Rattle.std.proofs.Common.{◌≡◌, ◌∙◌, Option, Some, ap, refl, sym}
-use Rattle.bit_words.specs.Logic.{extends_keeps, extends_trans}
+use Rattle.bit_words.specs.Logic.{extends_keeps}
 use Rattle.mpy_tree.specs.declared.typing.Ty.{Ty}
 use Rattle.mpy_tree.specs.Running.{evaluated}
 use Rattle.mpy_tree.specs.View.{routines_of}

@@ -1,4 +1,4 @@
-use Rattle.std.proofs.Common.{◌≡◌, ◌∙◌, Some, ap, subst, sym}
+use Rattle.std.proofs.Common.{◌∙◌, ap, subst, sym}
 use Rattle.std.specs.Prelude.{option_map}
 use Rattle.input_space.specs.TaskParts.{task_with}
 use Rattle.query_build.specs.Asking.{MayChoose}

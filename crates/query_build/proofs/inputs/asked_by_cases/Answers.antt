@@ -1,4 +1,4 @@
-use Rattle.std.proofs.Common.{◌≡◌, ◌∙◌, ◌&&◌, ap, arith, length, map, rules, subst, sym}
+use Rattle.std.proofs.Common.{◌∙◌, ◌&&◌, ap, arith, length, rules, subst, sym}
 use Rattle.std.specs.List.{AllZip}
 use Rattle.std.proofs.lemmas.List.{length-map}
 use Rattle.bit_words.specs.Logic.{extends_keeps, extends_trans}
@@ -8,7 +8,6 @@ use Rattle.input_bits.proofs.CaseArgs.{readings_later}
 use Rattle.input_space.specs.Inputs.{param_type}
 use Rattle.input_space.specs.TaskParts.{task_with}
 use Rattle.sym_nodes.specs.Operands.{ty_of}
-use Rattle.sym_values.specs.Reading.{read}
 use Rattle.query_build.specs.Comparing.{is_asked_for}
 use Rattle.query_build.proofs.Arguments.{arguments_from, bits_owned, forms_are}
 use Rattle.query_build.proofs.Asked.{as_long, case_more, chosen_later, given_later, in_some}

@@ -1,4 +1,4 @@
-use Rattle.std.proofs.Common.{◌≡◌, ◌∙◌, ◌+◌, ap, false, map, sym}
+use Rattle.std.proofs.Common.{◌∙◌, ◌+◌, ap, false, map, sym}
 use Rattle.std.specs.Option.{option_map_or}
 use Rattle.std.proofs.lemmas.Simd.{map-map}
 use Rattle.input_space.specs.Inputs.{are_within, param_type}

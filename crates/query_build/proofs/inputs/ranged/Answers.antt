@@ -6,7 +6,7 @@ use Rattle.std.proofs.lemmas.List.{drop_all, drop_more, length-map, map_push, ta
 use Rattle.std.proofs.lemmas.Option.{slice_get_read}
 use Rattle.bounds_reader.specs.Forms.{form_of as range_of}
 use Rattle.bounds_reader.specs.Ranges.{is_in_range}
-use Rattle.bit_words.specs.Logic.{OwnsAll, extends_keeps, extends_trans}
+use Rattle.bit_words.specs.Logic.{extends_keeps, extends_trans}
 use Rattle.bit_words.proofs.Kept.{owns_kept}
 use Rattle.sym_values.specs.Forms.{bits_of, form_for, form_of, forms_of}
 use Rattle.sym_values.specs.Later.{value_later}

@@ -1,5 +1,5 @@
 -- the sessions, with no cases
-use Rattle.std.proofs.Common.{◌≡◌, ◌∙◌, ◌++◌, List, [], subst, sym}
+use Rattle.std.proofs.Common.{◌∙◌, ◌++◌, List, [], subst, sym}
 use Rattle.std.specs.Prelude.{All}
 use Rattle.std.proofs.lemmas.List.{append-nil}
 use Rattle.choice_tree.specs.declared.selection.Choice.{Choice}

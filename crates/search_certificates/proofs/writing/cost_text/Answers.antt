@@ -1,9 +1,7 @@
-use Rattle.std.proofs.Common.{◌≡◌, ◌-◌, ◌∙◌, ◌++◌, ℕ, List, [], Some, ap, arith, length, refl, subst, suc, sym}
-use Rattle.cegis_loop.specs.OrderLaws.{CheaperRuledOut, ChoiceDidntFail}
+use Rattle.std.proofs.Common.{◌≡◌, ◌-◌, ◌++◌, Some, ap, arith, length, refl, subst, suc, sym}
 use Rattle.certificate_laws.specs.Topics.{OfTask}
 use Rattle.cert_text.specs.Certificates.{cert_with}
 use Rattle.cert_text.specs.declared.cert.Claim.TheVariants as claim
-use Rattle.input_space.specs.declared.session.Session.{Session}
 use Rattle.input_space.specs.TaskParts.{task_with}
 use Rattle.search_certificates.specs.declared.places.Wanted.TheVariants as wanted
 use Rattle.search_certificates.specs.Places.{IsSessionOf, Refuting}

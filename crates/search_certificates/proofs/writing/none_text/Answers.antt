@@ -1,4 +1,4 @@
-use Rattle.std.proofs.Common.{◌≡◌, ◌∙◌, ◌++◌, List, [], None, ap, length, refl, subst, sym}
+use Rattle.std.proofs.Common.{◌≡◌, ◌∙◌, ◌++◌, List, [], None, length, refl, subst, sym}
 use Rattle.choice_tree.specs.declared.selection.Choice.{Choice}
 use Rattle.certificate_laws.specs.Topics.{OfTask}
 use Rattle.cert_text.specs.Certificates.{IsCertOf, cert_with}

@@ -3,7 +3,7 @@ use Rattle.std.proofs.lemmas.Bool.{true≢false}
 use Rattle.input_space.specs.TaskParts.{task_with}
 use Rattle.solver_questions.specs.Replies.{own_of}
 use Rattle.solver_questions.proofs.Refuting.{none_empty, not_refuted, refuted}
-use Rattle.solver_questions.proofs.Replied.{IsStated, found_by, is_session, nothing_by}
+use Rattle.solver_questions.proofs.Replied.{found_by, is_session, nothing_by}
 use Rattle.solver_questions.proofs.reply.ask_solver.Goals as goal
 
 pub returns-in-Holds-clause-session : goal.returns-in-Holds-clause-session

@@ -1,6 +1,5 @@
-use Rattle.std.proofs.Common.{◌≡◌, ◌∙◌, ap, sym, drop, Option, Some, [], ◌∷◌}
+use Rattle.std.proofs.Common.{◌∙◌, ap, sym, drop, [], ◌∷◌}
 use Rattle.bit_words.specs.Logic.{extends_keeps}
-use Rattle.mpy_tree.specs.Values.{State}
 use Rattle.sym_paths.specs.Items.{leads_on, leads_out}
 use Rattle.sym_paths.specs.Later.{way_later}
 use Rattle.sym_paths.specs.Paths.{Way, gone_way, way}

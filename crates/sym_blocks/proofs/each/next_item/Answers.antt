@@ -1,4 +1,4 @@
-use Rattle.std.proofs.Common.{◌≡◌, ◌∙◌, drop, [], ◌∷◌}
+use Rattle.std.proofs.Common.{drop, [], ◌∷◌}
 use Rattle.sym_paths.specs.Items.{leads_in}
 use Rattle.sym_paths.specs.Paths.{gone_way, way}
 use Rattle.sym_values.specs.Reading.{read}

@@ -1,4 +1,4 @@
-use Rattle.std.proofs.Common.{◌∙◌, sym, ap, is_some}
+use Rattle.std.proofs.Common.{◌∙◌, ap, is_some}
 use Rattle.choice_tree.specs.WeightedViews.{weighted_of}
 use Rattle.sym_blocks.proofs.Settings.{env_in, same_type_on, state_on}
 use Rattle.sym_blocks.proofs.evaluation.eval_on.Goals as goal

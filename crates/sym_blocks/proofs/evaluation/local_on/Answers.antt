@@ -1,4 +1,4 @@
-use Rattle.std.proofs.Common.{◌∙◌, sym, ap, is_some}
+use Rattle.std.proofs.Common.{◌∙◌, ap, is_some}
 use Rattle.mpy_tree.specs.Values.{set_or_fault}
 use Rattle.sym_values.specs.Reading.{read}
 use Rattle.sym_blocks.proofs.Outcomes.{on_its_line}

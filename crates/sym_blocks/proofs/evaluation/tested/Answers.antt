@@ -1,4 +1,4 @@
-use Rattle.std.proofs.Common.{◌≡◌, ◌∙◌, ap, sym, Option, Some, [], ◌∷◌}
+use Rattle.std.proofs.Common.{◌≡◌, ◌∙◌, ap, Some, [], ◌∷◌}
 use Rattle.std.specs.Prelude.{option_to_list}
 use Rattle.bit_words.specs.Logic.{extends_keeps, extends_trans}
 use Rattle.mpy_tree.specs.Expressions.{value_of}

@@ -1,28 +1,28 @@
-use Rattle.std.proofs.Common.{rules, ◌≡◌, ◌∙◌, ◌+◌, ◌-◌, ℕ, Bool, List, [], ◌∷◌, Option, Some, None, map, drop, ap, sym, subst, refl, arith, is_some}
+use Rattle.std.proofs.Common.{◌≡◌, ◌∙◌, ◌+◌, ◌-◌, [], ◌∷◌, Some, map, drop, ap, sym, subst, arith, is_some}
 use Rattle.std.proofs.lemmas.List.{drop_all}
 use Rattle.bit_words.specs.Logic.{extends_keeps, extends_refl, extends_trans}
 use Rattle.mpy_tree.specs.Expressions.{value_of}
-use Rattle.mpy_tree.specs.Statements.{Ran, Next, run_block, run_else, while_turns}
-use Rattle.mpy_tree.specs.Syntax.{Block, Branches}
+use Rattle.mpy_tree.specs.Statements.{Next, run_block, while_turns}
+use Rattle.mpy_tree.specs.Syntax.{Block}
 use Rattle.mpy_tree.specs.Trees as kind
 use Rattle.mpy_tree.specs.Values.{State}
 use Rattle.choice_tree.specs.declared.tree.WAct.{WAct}
-use Rattle.choice_tree.specs.declared.tree.WArm.{WArm, out-WArm}
-use Rattle.choice_tree.specs.declared.tree.WStmt.{WStmt, out-WStmt}
+use Rattle.choice_tree.specs.declared.tree.WArm.{out-WArm}
+use Rattle.choice_tree.specs.declared.tree.WStmt.{out-WStmt}
 use Rattle.choice_tree.specs.Selections.{plain, plains}
 use Rattle.choice_tree.specs.StatementViews.{arms_before, maybe_weighted, weighted_act, weighted_arm, weighted_arms, weighted_body, weighted_else, weighted_stmt}
-use Rattle.choice_tree.specs.WeightedTrees.{Weighted, nodes, nodes_in, plainly}
-use Rattle.choice_tree.specs.WeightedViews.{one, two, weighted_of, weighteds}
+use Rattle.choice_tree.specs.WeightedTrees.{nodes, nodes_in, plainly}
+use Rattle.choice_tree.specs.WeightedViews.{weighted_of, weighteds}
 use Rattle.sym_nodes.specs.Environments.{AllHavePicks, HasPicks}
-use Rattle.sym_paths.specs.Endings.{Seen, and_seen, ended, nothing_seen, or_other, see, seen_from}
+use Rattle.sym_paths.specs.Endings.{Seen, and_seen, or_other, see, seen_from}
 use Rattle.sym_paths.specs.Later.{out_later, path_later, paths_later, see_later}
-use Rattle.sym_paths.specs.Paths.{gone_way, way, ways}
+use Rattle.sym_paths.specs.Paths.{gone_way, way}
 use Rattle.sym_paths.specs.Sides.{misses, passes}
 use Rattle.sym_paths.specs.Sights.{again, again_is, next_is, nothing_from, nothing_more, onward}
 use Rattle.typed_trees.specs.TypedStatements.{AreTyped, IsTyped}
 use Rattle.sym_blocks.specs.Bodies.{scope_in}
 use Rattle.sym_blocks.specs.Runs.{run_if, run_statement, run_while}
-use Rattle.sym_blocks.proofs.Blocks.{FirstArm, FirstOf, arms_end, arms_more, block_end, block_more, body_parts, drop_at}
+use Rattle.sym_blocks.proofs.Blocks.{arms_end, arms_more, block_end, block_more, body_parts, drop_at}
 use Rattle.sym_blocks.proofs.Going.{arm_goes, arm_parts, else_none, else_some, last_goes, last_turn_goes, one_arm, statement_goes, turn_goes}
 use Rattle.sym_blocks.proofs.Laters.{all_lead_later, body_later, chosen_later, leads_later}
 use Rattle.sym_blocks.proofs.Parts.{append_parts, assign_parts, augment_at_parts, augment_parts, break_parts, continue_parts, for_parts, if_parts, pass_parts, print_parts, put_parts, return_parts, while_parts}

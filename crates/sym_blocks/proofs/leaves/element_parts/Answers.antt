@@ -1,4 +1,4 @@
-use Rattle.std.proofs.Common.{◌≡◌, ◌∙◌, ap, is_some}
+use Rattle.std.proofs.Common.{ap, is_some}
 use Rattle.bit_words.specs.Logic.{extends_keeps, extends_trans}
 use Rattle.choice_tree.specs.WeightedViews.{weighted_of}
 use Rattle.mpy_tree.specs.declared.typing.Ty.TheVariants as ty

@@ -1,19 +1,17 @@
-use Rattle.std.proofs.Common.{◌≡◌, ◌∙◌, ap, sym, is_some, Option, Some}
+use Rattle.std.proofs.Common.{◌∙◌, ap, sym, is_some}
 use Rattle.bit_words.specs.Logic.{extends_keeps, extends_trans}
 use Rattle.mpy_tree.specs.Expressions.{value_of}
-use Rattle.mpy_tree.specs.Values.{State}
 use Rattle.sym_paths.specs.Later.{path_later}
 use Rattle.sym_paths.specs.Paths.{reached}
 use Rattle.sym_blocks.specs.Bodies.{scope_in}
-use Rattle.sym_blocks.proofs.Laters.{body_later, chosen_later, leads_later}
+use Rattle.sym_blocks.proofs.Laters.{leads_later}
 use Rattle.choice_tree.specs.WeightedViews.{weighted_of}
 use Rattle.mpy_tree.specs.declared.typing.Ty.TheVariants as ty
-use Rattle.mpy_tree.specs.Operations.{append, arith}
+use Rattle.mpy_tree.specs.Operations.{append}
 use Rattle.mpy_tree.specs.Statements.{local_at, set_by}
 use Rattle.sym_values.specs.Later.{outcome_in_later, outcome_later}
-use Rattle.sym_nodes.proofs.Typed.{typed_as}
 use Rattle.sym_blocks.proofs.Settings.{local_type_is}
-use Rattle.sym_blocks.proofs.TypedParts.{arith_typed, appended}
+use Rattle.sym_blocks.proofs.TypedParts.{appended}
 use Rattle.sym_blocks.proofs.leaves.exec_append.Goals as goal
 
 pub local_on-requires-clause-typed : goal.local_on-requires-clause-typed

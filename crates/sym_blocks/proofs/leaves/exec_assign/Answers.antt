@@ -1,11 +1,10 @@
-use Rattle.std.proofs.Common.{◌≡◌, ◌∙◌, ap, sym, is_some, Option, Some}
+use Rattle.std.proofs.Common.{◌∙◌, ap, sym, is_some}
 use Rattle.bit_words.specs.Logic.{extends_keeps, extends_trans}
 use Rattle.mpy_tree.specs.Expressions.{value_of}
-use Rattle.mpy_tree.specs.Values.{State}
 use Rattle.sym_paths.specs.Later.{path_later}
 use Rattle.sym_paths.specs.Paths.{reached}
 use Rattle.sym_blocks.specs.Bodies.{scope_in}
-use Rattle.sym_blocks.proofs.Laters.{body_later, chosen_later, leads_later}
+use Rattle.sym_blocks.proofs.Laters.{leads_later}
 use Rattle.choice_tree.specs.WeightedViews.{weighted_of}
 use Rattle.sym_blocks.proofs.Settings.{local_type_is}
 use Rattle.sym_blocks.proofs.TypedParts.{assigned}

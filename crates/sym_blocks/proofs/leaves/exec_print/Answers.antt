@@ -1,4 +1,4 @@
-use Rattle.std.proofs.Common.{◌≡◌, ◌∙◌, ap, Option, Some}
+use Rattle.std.proofs.Common.{◌∙◌, ap}
 use Rattle.bit_words.specs.Logic.{extends_keeps, extends_trans}
 use Rattle.mpy_tree.specs.Expressions.{value_of}
 use Rattle.sym_nodes.specs.Plain.{type_of}

@@ -1,10 +1,9 @@
-use Rattle.std.proofs.Common.{◌≡◌, ◌∙◌, ap, sym, Option, Some}
+use Rattle.std.proofs.Common.{◌∙◌, ap, sym}
 use Rattle.bit_words.specs.Logic.{extends_keeps, extends_trans}
 use Rattle.choice_tree.specs.WeightedViews.{weighted_of}
 use Rattle.mpy_tree.specs.declared.typing.Ty.TheVariants as ty
 use Rattle.mpy_tree.specs.Expressions.{value_of}
-use Rattle.mpy_tree.specs.Operations.{arith}
-use Rattle.mpy_tree.specs.Statements.{local_at, set_at, set_at_by}
+use Rattle.mpy_tree.specs.Statements.{local_at, set_at}
 use Rattle.sym_paths.specs.Later.{path_later}
 use Rattle.sym_paths.specs.Paths.{reached}
 use Rattle.sym_blocks.specs.Bodies.{scope_in}

@@ -1,6 +1,4 @@
-use Rattle.std.proofs.Common.{◌≡◌, ◌∙◌, ap, sym, Option}
-use Rattle.mpy_tree.specs.Statements.{Ran}
-use Rattle.mpy_tree.specs.Values.{State}
+use Rattle.std.proofs.Common.{◌∙◌, ap, sym}
 use Rattle.sym_paths.specs.Endings.{seen_from}
 use Rattle.sym_blocks.specs.Bodies.{scope_in}
 use Rattle.sym_blocks.proofs.Returning.{give_nothing, give_value, value_picks, value_typed}

@@ -1,4 +1,4 @@
-use Rattle.std.proofs.Common.{◌∙◌, ap, subst, sym, ◌≡◌, arith}
+use Rattle.std.proofs.Common.{ap, subst, sym}
 use Rattle.bit_words.specs.Logic.{extends_keeps, extends_trans}
 use Rattle.mpy_tree.specs.declared.typing.Ty.TheVariants as ty
 use Rattle.sym_nodes.proofs.Typed.{type_is}

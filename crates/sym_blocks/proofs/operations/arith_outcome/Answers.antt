@@ -1,4 +1,4 @@
-use Rattle.std.proofs.Common.{◌∙◌, ap, subst, sym, ◌≡◌, is_some}
+use Rattle.std.proofs.Common.{ap, subst, sym}
 use Rattle.bit_words.specs.Logic.{extends_keeps, extends_trans}
 use Rattle.sym_values.specs.Later.{value_later}
 use Rattle.sym_values.specs.Reading.{IsOutcome, Reading, read, spelled}

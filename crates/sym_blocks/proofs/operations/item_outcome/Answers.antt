@@ -1,13 +1,11 @@
-use Rattle.std.proofs.Common.{◌∙◌, ap, subst, sym, ◌≡◌, is_some}
+use Rattle.std.proofs.Common.{ap, subst, sym, is_some}
 use Rattle.bit_words.specs.Later.{owned_later}
 use Rattle.bit_words.specs.Logic.{extends_keeps, extends_trans}
 use Rattle.sym_values.specs.Later.{value_later}
 use Rattle.sym_values.specs.Reading.{IsOutcome, Reading, read, spelled}
 use Rattle.mpy_tree.specs.declared.typing.Ty.TheVariants as ty
 use Rattle.mpy_tree.specs.Operations.{index}
-use Rattle.mpy_tree.specs.Rules.{index_type}
-use Rattle.sym_nodes.proofs.Typed.{type_is, typed_as}
-use Rattle.sym_nodes.specs.Operands.{ty_of}
+use Rattle.sym_nodes.proofs.Typed.{typed_as}
 use Rattle.sym_blocks.proofs.Outcomes.{two_is}
 use Rattle.sym_blocks.proofs.TypedParts.{item_typed}
 use Rattle.sym_blocks.proofs.operations.item_outcome.Goals as goal

@@ -1,4 +1,4 @@
-use Rattle.std.proofs.Common.{◌≡◌, IsSome, Some, ap, is_some, subst, sym, ◌∙◌}
+use Rattle.std.proofs.Common.{ap, is_some, subst, sym, ◌∙◌}
 use Rattle.mpy_tree.specs.declared.typing.Ty.TheVariants as ty
 use Rattle.mpy_tree.specs.Expressions.{value_of}
 use Rattle.choice_tree.specs.WeightedViews.{weighted_of}

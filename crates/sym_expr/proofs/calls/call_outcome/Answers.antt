@@ -1,6 +1,5 @@
-use Rattle.std.proofs.Common.{◌≡◌, All, Bool, true, List, Some, IsSome, ap, is_some, map, refl, sym, subst, ◌∙◌}
+use Rattle.std.proofs.Common.{◌≡◌, All, Bool, List, Some, IsSome, ap, is_some, map, sym, subst, ◌∙◌}
 use Rattle.std.specs.Prelude.{◌||◌}
-use Rattle.mpy_tree.specs.declared.value.Value.{Value}
 use Rattle.bit_words.specs.Logic.{OwnsAll, extends_keeps, extends_trans}
 use Rattle.bit_words.specs.Later.{owned_later, read_later}
 use Rattle.sym_values.specs.declared.value.SymOutcome.{SymOutcome}
@@ -10,7 +9,6 @@ use Rattle.sym_values.specs.Later.{value_later}
 use Rattle.sym_values.specs.Reading.{IsOutcome, Reading, read, spelled}
 use Rattle.sym_nodes.specs.Later.{parts_later, picks_later}
 use Rattle.sym_nodes.specs.Operands.{IsTypedIn, any_true, faults_of, types_of}
-use Rattle.sym_nodes.specs.Views.{env_of}
 use Rattle.sym_nodes.proofs.Choosing.{faults_owned}
 use Rattle.sym_nodes.proofs.Outcomes.{faulty_is, joined_is}
 use Rattle.sym_nodes.proofs.TypeRules.{some_type}

@@ -1,4 +1,4 @@
-use Rattle.std.proofs.Common.{◌≡◌, ◌+◌, arith, length, map, List, [], ◌∷◌, refl}
+use Rattle.std.proofs.Common.{◌≡◌, arith, length, map, List, [], ◌∷◌, refl}
 use Rattle.choice_tree.specs.declared.tree.Other.{Other}
 use Rattle.choice_tree.specs.WeightedTrees.{other_trees}
 use Rattle.choice_tree.specs.WeightedViews.{member_seen, members}

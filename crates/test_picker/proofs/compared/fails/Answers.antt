@@ -1,5 +1,5 @@
 -- whether the outcome that is given is the one that is wanted
-use Rattle.std.proofs.Common.{◌≡◌, ◌∙◌, Bool, true, false, not, ◌&&◌, ap, refl, subst, sym}
+use Rattle.std.proofs.Common.{◌∙◌, not, ap, refl, subst, sym}
 use Rattle.mpy_tree.specs.Outcomes.{outcome_of}
 use Rattle.test_picker.specs.Comparing.{TellsFailure}
 use Rattle.test_picker.proofs.Comparisons.{and_same, tells}

@@ -1,13 +1,11 @@
-use Rattle.std.proofs.Common.{◌≡◌, ◌+◌, ◌++◌, [], ◌∷◌, map, sym, ap, ◌∙◌, refl, arith, subst, length}
-use Rattle.std.proofs.lemmas.List.{length-map, map-append}
+use Rattle.std.proofs.Common.{◌+◌, [], ◌∷◌, map, ap, ◌∙◌, refl, arith}
+use Rattle.std.proofs.lemmas.List.{map-append}
 use Rattle.mpy_tree.specs.View.{term_of}
 use Rattle.mpy_tree.specs.Shapes.{shape}
-use Rattle.choice_tree.specs.Heads.{HasParts, head_kind, root}
 use Rattle.choice_tree.specs.WeightedTrees.{lifted, plainly}
 use Rattle.choice_tree.specs.WeightedViews.{weighted_of, weighteds}
 use Rattle.choice_tree.proofs.Walking.{is_place}
 use Rattle.eml_match.specs.Parts.{parts}
-use Rattle.eml_match.proofs.HeadParts.{parts_counted}
 use Rattle.tree_weights.proofs.LiftedTrees.{if_ok, lifted_node, made_all, made_next}
 use Rattle.tree_weights.proofs.LiftedTrees.{part_less_deep}
 use Rattle.tree_weights.proofs.lift_expressions.+lift.Goals as goal

@@ -1,4 +1,4 @@
-use Rattle.std.proofs.Common.{◌≡◌, ◌∙◌, ℕ, length, subst, sym}
+use Rattle.std.proofs.Common.{length, subst, sym}
 use Rattle.std.specs.List.{Contains}
 use Rattle.bounds_reader.specs.declared.bounds.Bounds.{Bounds}
 use Rattle.coding_laws.specs.Alphabets.{HasPrintable}

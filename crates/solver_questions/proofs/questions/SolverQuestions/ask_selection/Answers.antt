@@ -1,4 +1,4 @@
-use Rattle.std.proofs.Common.{◌≡◌, ◌∙◌, ℕ, List, Some, length, subst, sym, take}
+use Rattle.std.proofs.Common.{List, length, subst, take}
 use Rattle.bounds_reader.specs.declared.bounds.Bounds.{Bounds}
 use Rattle.choice_tree.specs.declared.selection.Choice.{Choice}
 use Rattle.cegis_loop.specs.Space.{IsLow}

@@ -1,7 +1,6 @@
 -- one case and one session more
-use Rattle.std.proofs.Common.{◌≡◌, ◌∙◌, ◌≤◌, ◌+◌, ◌-◌, ◌++◌, ◌∷◌, [], ap, arith, length, length-append, subst, sym, take}
+use Rattle.std.proofs.Common.{◌≡◌, ◌≤◌, ◌+◌, ◌-◌, ◌++◌, ◌∷◌, [], arith, length, subst, sym}
 use Rattle.std.specs.List.{Contains}
-use Rattle.std.proofs.Math.Seq.{take-append_seam}
 use Rattle.input_space.specs.Sessions.{logged}
 use Rattle.input_space.specs.TaskSpace.{wanted_inputs}
 use Rattle.solver_questions.specs.Asking.{Asking, task_of}

@@ -1,5 +1,4 @@
-use Rattle.std.proofs.Common.{◌≡◌, ◌∙◌, ap, subst, sym}
-use Rattle.mpy_tree.specs.Shapes.{program_shape}
+use Rattle.std.proofs.Common.{◌∙◌, ap, subst, sym}
 use Rattle.choice_tree.specs.Choices.{member_of}
 use Rattle.choice_tree.specs.Selections.{plain}
 use Rattle.cegis_loop.specs.declared.asked.Asked.{Asked}

@@ -1,5 +1,5 @@
 -- the inputs of the block, their values, and how the reference ends on them
-use Rattle.std.proofs.Common.{◌≡◌, ◌∙◌, ap, drop, length, subst, sym, take}
+use Rattle.std.proofs.Common.{◌∙◌, ap, drop, length, subst, sym, take}
 use Rattle.std.proofs.lemmas.List.{length-map}
 use Rattle.input_space.specs.declared.case.Case.{Case}
 use Rattle.input_space.specs.Inputs.{inputs}

@@ -1,5 +1,5 @@
 -- no program, and one program more
-use Rattle.std.proofs.Common.{◌≡◌, ◌<◌, arith, length, refl}
+use Rattle.std.proofs.Common.{◌<◌, arith, length, refl}
 use Rattle.std.proofs.lemmas.Option.{slice_get_read}
 use Rattle.test_picker.specs.Programs.{inputs_of, program_of}
 use Rattle.test_picker.specs.Settings.{bounds_of, reference_of, routines_in}

@@ -1,9 +1,8 @@
 -- one program more, and all of them
-use Rattle.std.proofs.Common.{◌≡◌, ◌∙◌, ◌<◌, ◌≤◌, ◌||◌, Some, ap, arith, length, refl, sym}
+use Rattle.std.proofs.Common.{◌≡◌, ◌∙◌, ◌<◌, ◌≤◌, ◌||◌, ap, arith, length, refl, sym}
 use Rattle.std.proofs.lemmas.Option.{slice_get_read}
 use Rattle.test_picker.specs.Programs.{GiveOneType, IsTypedFor}
-use Rattle.test_picker.specs.Settings.{bounds_of, reference_of, typed_in, typed_reference}
-use Rattle.test_picker.specs.Findings.{ends_on_some}
+use Rattle.test_picker.specs.Settings.{bounds_of, typed_in, typed_reference}
 use Rattle.test_picker.proofs.Places.{all_at}
 use Rattle.test_picker.proofs.Searches.{found_more, later_more, typed_at}
 use Rattle.test_picker.proofs.blocks.Setting.found_with.Goals as goal

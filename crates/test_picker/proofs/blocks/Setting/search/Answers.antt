@@ -1,5 +1,5 @@
 -- one block more, and where no input changes anything
-use Rattle.std.proofs.Common.{◌≡◌, ◌∙◌, ◌*◌, ◌+◌, ◌<◌, arith, drop, length, refl, sym, take}
+use Rattle.std.proofs.Common.{◌∙◌, ◌*◌, ◌+◌, ◌<◌, arith, drop, length, refl, sym, take}
 use Rattle.std.proofs.lemmas.List.{length-take-le}
 use Rattle.input_space.specs.Inputs.{inputs}
 use Rattle.test_picker.specs.Settings.{bounds_of, reference_of, routines_in}

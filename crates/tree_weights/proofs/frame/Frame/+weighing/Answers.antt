@@ -1,4 +1,4 @@
-use Rattle.std.proofs.Common.{◌≡◌, ◌+◌, ◌-◌, ◌*◌, ◌<◌, suc, drop, sym, ap, ◌∙◌, arith}
+use Rattle.std.proofs.Common.{◌≡◌, ◌+◌, ◌-◌, ◌*◌, suc, drop, sym, ap, ◌∙◌, arith}
 use Rattle.choice_tree.proofs.Walking.{child_smaller, is_place, no_next, sum_next}
 use Rattle.choice_tree.specs.Costs.{sum_of}
 use Rattle.choice_tree.specs.NodeViews.{node_of}
