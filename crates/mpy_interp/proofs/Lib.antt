@@ -1,3 +1,4 @@
 pub mod Arms
+pub mod Depths
 pub mod Lookups
 pub mod Turning

@@ -14,7 +14,7 @@ use Rattle.mpy_tree.specs.declared.value.Value.{Value}
 use Rattle.mpy_interp.specs.declared.frame.Binding.{Binding}
 use Rattle.mpy_tree.specs.declared.outcome.FaultKind.TheVariants.{Unset}
 use Rattle.mpy_tree.specs.declared.outcome.Halt.{Halt}
-use Rattle.mpy_tree.specs.Values.{◌>>=◌, State, same_bytes, assign, nothing_set, fault, on_line, set_or_fault}
+use Rattle.mpy_tree.specs.Values.{◌>>=◌, Locals, State, same_bytes, assign, with_local, nothing_set, fault, on_line, set_or_fault}
 use Rattle.mpy_tree.specs.Running.{bound}
 use Rattle.mpy_tree.specs.Statements.{Ran, Next, Failed, store}
 use Rattle.value_operations.specs.declared.stop.Stop.{Stop}
@@ -30,7 +30,7 @@ value_at bs None = None
 value_at bs (Some k) = value_in (slice_get bs k)
 
 -- a lookup by the place of the name
-abbrev looked_at : List Binding → State
+abbrev looked_at : List Binding → Locals
 looked_at bs y = value_at bs (place_of bs y)
 
 -- a binding of the same name, at another's place, leaves the places as they are
@@ -134,12 +134,12 @@ known bs k b n x y v at is e f =
     ∙ at_name bs k b n x y v (same_bytes y x) at is e f refl
     ∙ ap (λ o. if same_bytes y x then Some v else o) (looked_is bs y)
 
--- the state after a new name
-pub set_unknown : (bs : List Binding) (n : Binding) (x : List ℕ) (v : Value) → place_of bs x ≡ None → n.name.now ≡ x → n.value ≡ v → looked (bs ++ n ∷ []) ≡ assign (looked bs) x v
+-- the locals after a new name
+pub set_unknown : (bs : List Binding) (n : Binding) (x : List ℕ) (v : Value) → place_of bs x ≡ None → n.name.now ≡ x → n.value ≡ v → looked (bs ++ n ∷ []) ≡ with_local (looked bs) x v
 set_unknown bs n x v none e f = λ i y. (unknown bs n x y v (same_bytes y x) none e f refl) i
 
--- the state after a value is written at the place of its name
-pub set_known : (bs : List Binding) (k : ℕ) (b n : Binding) (x : List ℕ) (v : Value) → place_of bs x ≡ Some k → b ≡ get_or bs k b → n.name.now ≡ b.name.now → n.value ≡ v → looked (set bs k n) ≡ assign (looked bs) x v
+-- the locals after a value is written at the place of its name
+pub set_known : (bs : List Binding) (k : ℕ) (b n : Binding) (x : List ℕ) (v : Value) → place_of bs x ≡ Some k → b ≡ get_or bs k b → n.name.now ≡ b.name.now → n.value ≡ v → looked (set bs k n) ≡ with_local (looked bs) x v
 set_known bs k b n x v at is e f = λ i y. (known bs k b n x y v at is e f) i
 
 -- a local that no binding has isn't set
@@ -159,20 +159,24 @@ set_to bs k b x at is =
 abbrev change_of : State → List ℕ → ℕ → (Value → Result Value Halt) → Option Value → Ran
 change_of s x line op o = store s x (on_line line (set_or_fault o) >>= λ v. on_line line (op v))
 
+-- bindings, beside what is kept of printed values
+abbrev pub with_kept : List Binding → Option (List Value) → State
+with_kept bs o = record { locals = looked bs; printed = o }
+
 -- a change of a local that isn't set
-pub change_unset : (bs : List Binding) (x : List ℕ) (line : ℕ) (op : Value → Result Value Halt) → place_of bs x ≡ None → changed (looked bs) line x op ≡ Failed (fault Unset line)
-change_unset bs x line op none = ap (change_of (looked bs) x line op) (not_set bs x none)
+pub change_unset : (bs : List Binding) (kept : Option (List Value)) (x : List ℕ) (line : ℕ) (op : Value → Result Value Halt) → place_of bs x ≡ None → changed (with_kept bs kept) line x op ≡ Failed (fault Unset line)
+change_unset bs kept x line op none = ap (change_of (with_kept bs kept) x line op) (not_set bs x none)
 
 -- a change of a local's value where it stands
-pub change_known : {A : Type 0} (bs : List Binding) (k : ℕ) (b n : Binding) (x : List ℕ) (line : ℕ) (op : Value → Result Value Halt) (r : Result A Stop) → place_of bs x ≡ Some k → b ≡ get_or bs k b → n.name.now ≡ b.name.now → MeetsBy (λ a. n.value) r (on_line line (op b.value)) → Changes r (looked (set bs k n)) (changed (looked bs) line x op)
-change_known bs k b n x line op (Ok a) at is e h =
-    ap (change_of (looked bs) x line op) (set_to bs k b x at is)
-    ∙ ap (store (looked bs) x) h
-    ∙ ap Next (sym (set_known bs k b n x n.value at is e refl))
-change_known bs k b n x line op (Err (stop.Halted h)) at is e f =
-    ap (change_of (looked bs) x line op) (set_to bs k b x at is)
-    ∙ ap (store (looked bs) x) f
-change_known bs k b n x line op (Err stop.NoMemory) at is e f = tt
+pub change_known : {A : Type 0} (bs : List Binding) (kept : Option (List Value)) (k : ℕ) (b n : Binding) (x : List ℕ) (line : ℕ) (op : Value → Result Value Halt) (r : Result A Stop) → place_of bs x ≡ Some k → b ≡ get_or bs k b → n.name.now ≡ b.name.now → MeetsBy (λ a. n.value) r (on_line line (op b.value)) → Changes r (with_kept (set bs k n) kept) (changed (with_kept bs kept) line x op)
+change_known bs kept k b n x line op (Ok a) at is e h =
+    ap (change_of (with_kept bs kept) x line op) (set_to bs k b x at is)
+    ∙ ap (store (with_kept bs kept) x) h
+    ∙ ap (λ s. Next (record { locals = s; printed = kept })) (sym (set_known bs k b n x n.value at is e refl))
+change_known bs kept k b n x line op (Err (stop.Halted h)) at is e f =
+    ap (change_of (with_kept bs kept) x line op) (set_to bs k b x at is)
+    ∙ ap (store (with_kept bs kept) x) f
+change_known bs kept k b n x line op (Err stop.NoMemory) at is e f = tt
 
 -- the first value, where there is one, or else the second
 abbrev pub or_value : Option Value → Option Value → Option Value

@@ -14,7 +14,7 @@ abbrev pub ran_of : Completion → State → Ran
 ran_of completion.Next s = Next s
 ran_of completion.Broke s = Broke s
 ran_of completion.Continued s = Continued s
-ran_of (completion.Returned v) s = Returned v
+ran_of (completion.Returned v) s = Returned v s
 
 -- the statements end as the definition says, with this state, unless memory lacked
 abbrev pub EndsAs : Result Completion Stop → State → Ran → Type 0

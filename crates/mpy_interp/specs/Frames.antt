@@ -1,4 +1,4 @@
--- The state that a frame holds.
+-- The locals and the state that a frame holds.
 use Rattle.std.specs.Prelude.{◌≡◌, ⊤, ℕ, List, Option, Some, None}
 use Rattle.std.specs.declared.result.Result.{Result}
 use Rattle.std.specs.declared.result.Result.TheVariants.{Ok, Err}
@@ -9,7 +9,8 @@ use Rattle.mpy_interp.specs.declared.frame.Frame.{Frame}
 use Rattle.value_operations.specs.declared.stop.Stop.{Stop}
 use Rattle.value_operations.specs.declared.stop.Stop.TheVariants as stop
 use Rattle.mpy_tree.specs.declared.outcome.Halt.{Halt}
-use Rattle.mpy_tree.specs.Values.{◌>>=◌, State, same_bytes, on_line, set_or_fault}
+use Rattle.mpy_tree.specs.Values.{◌>>=◌, Locals, State, same_bytes, on_line}
+use Rattle.mpy_tree.specs.Values.{set_or_fault}
 use Rattle.mpy_tree.specs.Statements.{Ran, Next, Failed, store}
 
 -- the place of a name among bindings
@@ -21,15 +22,19 @@ value_in None = None
 value_in (Some b) = Some b.value
 
 -- the value of the first binding of a name
-abbrev pub looked : List Binding → State
+abbrev pub looked : List Binding → Locals
 looked bs y = value_in (find (λ b. same_bytes y b.name.now) bs)
 
+abbrev pub locals_of : Frame → Locals
+locals_of f = looked f.locals.items
+
 abbrev pub state_of : Frame → State
-state_of f = looked f.locals.items
+state_of f = record { locals = locals_of f; printed = f.printed }
 
 -- a local is changed by an operation on its value
 abbrev pub changed : State → ℕ → List ℕ → (Value → Result Value Halt) → Ran
-changed s line x op = store s x (on_line line (set_or_fault (s x)) >>= λ v. on_line line (op v))
+changed s line x op =
+    store s x (on_line line (set_or_fault (s.locals x)) >>= λ v. on_line line (op v))
 
 -- the change ends as the definition says, with this state, unless memory lacked
 abbrev pub Changes : {A : Type 0} → Result A Stop → State → Ran → Type 0

@@ -1,4 +1,5 @@
 pub mod Answers
 pub mod Completions
+pub mod Ends
 pub mod Frames
 pub mod Operands

@@ -2,7 +2,7 @@
 ghost use Rattle.std.specs.Prelude.{◌≡◌};
 ghost use Rattle.mpy_tree.specs.View.{term_of};
 ghost use Rattle.mpy_interp.specs.Completions.{EndsAs};
-ghost use Rattle.mpy_interp.specs.Frames.{state_of};
+ghost use Rattle.mpy_interp.specs.Frames.{locals_of, state_of};
 ghost use Rattle.mpy_tree.specs.Expressions.{value_of};
 ghost use Rattle.mpy_tree.specs.Operations.{arith, append};
 ghost use Rattle.mpy_tree.specs.Statements.{store, set_by, set_at, set_at_by};
@@ -40,7 +40,7 @@ impl<C: Calls> Machine<'_, C> {
     ) -> Result<Completion, Stop>
         ensures { EndsAs result (state_of frame.new) (store (state_of frame.old) x.now
             (value_of self.now.limits.now (C.gives self.now.calls.now)
-            (state_of frame.old) line (term_of e.now))) }
+            (locals_of frame.old) line (term_of e.now))) }
     {
         let v = self.value(frame, line, e)?;
         frame.set(x, v)?;

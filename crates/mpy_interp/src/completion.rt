@@ -8,5 +8,6 @@ pub enum Completion {
     Next,
     Broke,
     Continued,
-    Returned(Value),
+    /// With a value, or by a `return` alone that ends the run.
+    Returned(Option<Value>),
 }

@@ -3,7 +3,7 @@ ghost use Rattle.std.specs.Prelude.{◌≡◌, ℕ, List, map};
 ghost use Rattle.mpy_tree.specs.Syntax as ast;
 ghost use Rattle.mpy_tree.specs.View.{term_of, terms_of, end_by};
 ghost use Rattle.value_operations.specs.Answers.{Meets, MeetsBy};
-ghost use Rattle.mpy_interp.specs.Frames.{state_of};
+ghost use Rattle.mpy_interp.specs.Frames.{locals_of};
 ghost use Rattle.mpy_interp.specs.Operands.{value_behind};
 ghost use Rattle.mpy_tree.specs.Expressions.{value_of, values_of, maybe_value_of};
 
@@ -22,7 +22,7 @@ impl<C: Calls> Machine<'_, C> {
     #[cycle(eval)]
     pub fn eval(&self, frame: &Frame<'_>, line: u32, e: &Expr) -> Result<Value, Stop>
         ensures { Meets result (value_of self.now.limits.now (C.gives self.now.calls.now)
-            (state_of frame.now) line (term_of e.now)) }
+            (locals_of frame.now) line (term_of e.now)) }
     {
         match e {
             Expr::Int(n) => make_number(self.limits, line, *n as i64),
@@ -47,7 +47,7 @@ impl<C: Calls> Machine<'_, C> {
     #[cycle(eval)]
     pub fn value(&self, frame: &Frame<'_>, line: u32, e: &Expr) -> Result<Value, Stop>
         ensures { Meets result (value_of self.now.limits.now (C.gives self.now.calls.now)
-            (state_of frame.now) line (term_of e.now)) }
+            (locals_of frame.now) line (term_of e.now)) }
     {
         match e {
             Expr::Name(x) => frame.get(line, x),
@@ -62,7 +62,7 @@ impl<C: Calls> Machine<'_, C> {
     #[cycle(eval)]
     pub fn test(&self, frame: &Frame<'_>, line: u32, e: &Expr) -> Result<Value, Stop>
         ensures { Meets result (value_of self.now.limits.now (C.gives self.now.calls.now)
-            (state_of frame.now) line (term_of e.now)) }
+            (locals_of frame.now) line (term_of e.now)) }
     {
         match self.truth(frame, line, e) {
             Some(b) => Ok(Value::Bool(b)),
@@ -75,7 +75,7 @@ impl<C: Calls> Machine<'_, C> {
     fn operand<'f>(&self, frame: &'f Frame<'_>, line: u32, e: &Expr) -> Result<Operand<'f>, Stop>
         ensures { MeetsBy value_behind result
             (value_of self.now.limits.now (C.gives self.now.calls.now)
-            (state_of frame.now) line (term_of e.now)) }
+            (locals_of frame.now) line (term_of e.now)) }
     {
         match e {
             Expr::Name(x) => Ok(Operand::Local(frame.find(line, x)?)),
@@ -88,7 +88,7 @@ impl<C: Calls> Machine<'_, C> {
     #[cycle(eval)]
     fn eval_list(&self, frame: &Frame<'_>, line: u32, es: &Exprs) -> Result<Value, Stop>
         ensures { Meets result (value_of self.now.limits.now (C.gives self.now.calls.now)
-            (state_of frame.now) line (ast.List (terms_of es.now))) }
+            (locals_of frame.now) line (ast.List (terms_of es.now))) }
     {
         let vs = self.eval_all(frame, line, es)?;
         list_literal(self.alloc, self.limits, line, &vs)
@@ -99,7 +99,7 @@ impl<C: Calls> Machine<'_, C> {
     #[cycle(eval)]
     fn eval_neg(&self, frame: &Frame<'_>, line: u32, a: &Expr) -> Result<Value, Stop>
         ensures { Meets result (value_of self.now.limits.now (C.gives self.now.calls.now)
-            (state_of frame.now) line (ast.Neg (term_of a.now))) }
+            (locals_of frame.now) line (ast.Neg (term_of a.now))) }
     {
         let v = self.operand(frame, line, a)?;
         negate(self.limits, line, v.value())
@@ -110,7 +110,7 @@ impl<C: Calls> Machine<'_, C> {
     #[cycle(eval)]
     fn eval_not(&self, frame: &Frame<'_>, line: u32, a: &Expr) -> Result<Value, Stop>
         ensures { Meets result (value_of self.now.limits.now (C.gives self.now.calls.now)
-            (state_of frame.now) line (ast.Not (term_of a.now))) }
+            (locals_of frame.now) line (ast.Not (term_of a.now))) }
     {
         let v = self.operand(frame, line, a)?;
         Ok(Value::Bool(!is_true(v.value())))
@@ -128,7 +128,7 @@ impl<C: Calls> Machine<'_, C> {
         b: &Expr,
     ) -> Result<Value, Stop>
         ensures { Meets result (value_of self.now.limits.now (C.gives self.now.calls.now)
-            (state_of frame.now) line (ast.Arith op (term_of a.now) (term_of b.now))) }
+            (locals_of frame.now) line (ast.Arith op (term_of a.now) (term_of b.now))) }
     {
         let v = self.operand(frame, line, a)?;
         let w = self.operand(frame, line, b)?;
@@ -147,7 +147,7 @@ impl<C: Calls> Machine<'_, C> {
         b: &Expr,
     ) -> Result<Value, Stop>
         ensures { Meets result (value_of self.now.limits.now (C.gives self.now.calls.now)
-            (state_of frame.now) line (ast.Cmp op (term_of a.now) (term_of b.now))) }
+            (locals_of frame.now) line (ast.Cmp op (term_of a.now) (term_of b.now))) }
     {
         let v = self.operand(frame, line, a)?;
         let w = self.operand(frame, line, b)?;
@@ -159,7 +159,7 @@ impl<C: Calls> Machine<'_, C> {
     #[cycle(eval)]
     fn eval_and(&self, frame: &Frame<'_>, line: u32, a: &Expr, b: &Expr) -> Result<Value, Stop>
         ensures { Meets result (value_of self.now.limits.now (C.gives self.now.calls.now)
-            (state_of frame.now) line (ast.And (term_of a.now) (term_of b.now))) }
+            (locals_of frame.now) line (ast.And (term_of a.now) (term_of b.now))) }
     {
         match self.test(frame, line, a)? {
             Value::Bool(true) => self.test(frame, line, b),
@@ -173,7 +173,7 @@ impl<C: Calls> Machine<'_, C> {
     #[cycle(eval)]
     fn eval_or(&self, frame: &Frame<'_>, line: u32, a: &Expr, b: &Expr) -> Result<Value, Stop>
         ensures { Meets result (value_of self.now.limits.now (C.gives self.now.calls.now)
-            (state_of frame.now) line (ast.Or (term_of a.now) (term_of b.now))) }
+            (locals_of frame.now) line (ast.Or (term_of a.now) (term_of b.now))) }
     {
         match self.test(frame, line, a)? {
             Value::Bool(true) => Ok(Value::Bool(true)),
@@ -194,7 +194,7 @@ impl<C: Calls> Machine<'_, C> {
         no: &Expr,
     ) -> Result<Value, Stop>
         ensures { Meets result (value_of self.now.limits.now (C.gives self.now.calls.now)
-            (state_of frame.now) line
+            (locals_of frame.now) line
             (ast.Cond (term_of test.now) (term_of yes.now) (term_of no.now))) }
     {
         let v = self.test(frame, line, test)?;
@@ -210,7 +210,7 @@ impl<C: Calls> Machine<'_, C> {
     #[cycle(eval)]
     fn eval_index(&self, frame: &Frame<'_>, line: u32, a: &Expr, i: &Expr) -> Result<Value, Stop>
         ensures { Meets result (value_of self.now.limits.now (C.gives self.now.calls.now)
-            (state_of frame.now) line (ast.Index (term_of a.now) (term_of i.now))) }
+            (locals_of frame.now) line (ast.Index (term_of a.now) (term_of i.now))) }
     {
         let v = self.operand(frame, line, a)?;
         let k = self.value(frame, line, i)?;
@@ -229,7 +229,7 @@ impl<C: Calls> Machine<'_, C> {
         end: &Option<Box<Expr>>,
     ) -> Result<Value, Stop>
         ensures { Meets result (value_of self.now.limits.now (C.gives self.now.calls.now)
-            (state_of frame.now) line (ast.Slice (term_of a.now)
+            (locals_of frame.now) line (ast.Slice (term_of a.now)
             (end_by (λ b. term_of b.value) start.now) (end_by (λ b. term_of b.value) end.now))) }
     {
         let v = self.operand(frame, line, a)?;
@@ -243,7 +243,7 @@ impl<C: Calls> Machine<'_, C> {
     #[cycle(eval)]
     fn eval_call(&self, frame: &Frame<'_>, line: u32, f: &Name, es: &Exprs) -> Result<Value, Stop>
         ensures { Meets result (value_of self.now.limits.now (C.gives self.now.calls.now)
-            (state_of frame.now) line (ast.Call f.now (terms_of es.now))) }
+            (locals_of frame.now) line (ast.Call f.now (terms_of es.now))) }
     {
         match self.number_alone(frame, line, es) {
             Some(z) => self.apply_to_number(f, z, line),
@@ -260,7 +260,7 @@ impl<C: Calls> Machine<'_, C> {
     fn eval_all(&self, frame: &Frame<'_>, line: u32, es: &Exprs) -> Result<Vec<Value>, Stop>
         ensures { MeetsBy (λ v. v.items) result
             (values_of self.now.limits.now (C.gives self.now.calls.now)
-            (state_of frame.now) line (terms_of es.now)) }
+            (locals_of frame.now) line (terms_of es.now)) }
     {
         let mut values = Vec::new(self.alloc);
         for e in &es.items {
@@ -279,7 +279,7 @@ impl<C: Calls> Machine<'_, C> {
         e: &Option<Box<Expr>>,
     ) -> Result<Option<Value>, Stop>
         ensures { Meets result (maybe_value_of self.now.limits.now (C.gives self.now.calls.now)
-            (state_of frame.now) line (end_by (λ b. term_of b.value) e.now)) }
+            (locals_of frame.now) line (end_by (λ b. term_of b.value) e.now)) }
     {
         match e {
             None => Ok(None),

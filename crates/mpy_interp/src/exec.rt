@@ -4,7 +4,7 @@ ghost use Rattle.mpy_tree.specs.Syntax as ast;
 ghost use Rattle.mpy_tree.specs.View.{term_of, maybe_term, action_of, block_of, branches_of};
 ghost use Rattle.mpy_tree.specs.View.{block_or_none};
 ghost use Rattle.mpy_interp.specs.Completions.{EndsAs};
-ghost use Rattle.mpy_interp.specs.Frames.{state_of};
+ghost use Rattle.mpy_interp.specs.Frames.{locals_of, state_of};
 ghost use Rattle.mpy_tree.specs.Operations.{members};
 ghost use Rattle.mpy_tree.specs.Expressions.{value_of};
 ghost use Rattle.mpy_tree.specs.Statements.{for_turns, give, given, printed, run_block, run_action};
@@ -71,12 +71,14 @@ impl<C: Calls> Machine<'_, C> {
 
     // Runs `print(e)`.
     #[inline(never)]
-    fn exec_print(&self, frame: &Frame<'_>, line: u32, e: &Expr) -> Result<Completion, Stop>
-        ensures { EndsAs result (state_of frame.now)
+    fn exec_print(&self, frame: &mut Frame<'_>, line: u32, e: &Expr) -> Result<Completion, Stop>
+        ensures { EndsAs result (state_of frame.new)
             (given (value_of self.now.limits.now (C.gives self.now.calls.now)
-            (state_of frame.now) line (term_of e.now)) (printed line (state_of frame.now))) }
+            (locals_of frame.old) line (term_of e.now))
+            (printed self.now.limits.now.prints line (state_of frame.old))) }
     {
-        self.value(frame, line, e)?;
+        let v = self.value(frame, line, e)?;
+        frame.keep(self.limits.prints, line, v)?;
         Ok(Completion::Next)
     }
 
@@ -93,10 +95,13 @@ impl<C: Calls> Machine<'_, C> {
             (state_of frame.now) line (maybe_term e.now)) }
     {
         match e {
-            None => Err(faulted(FaultKind::NoValue, line)),
+            None => match &frame.printed {
+                None => Err(faulted(FaultKind::NoValue, line)),
+                Some(_) => Ok(Completion::Returned(None)),
+            },
             Some(e) => {
                 let v = self.value(frame, line, e)?;
-                Ok(Completion::Returned(v))
+                Ok(Completion::Returned(Some(v)))
             }
         }
     }

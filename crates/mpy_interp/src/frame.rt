@@ -1,12 +1,13 @@
-//! The locals of a call.
+//! The locals of a call, and what is kept of printed values.
 ghost use Rattle.std.specs.Prelude.{◌≡◌, IfOk, OnOk, MatchOption, IfSome, Some, None};
 ghost use Rattle.value_operations.specs.Answers.{Meets, MeetsBy};
 ghost use Rattle.mpy_tree.specs.Values.{on_line, set_or_fault, assign};
 ghost use Rattle.mpy_tree.specs.Running.{bound};
-ghost use Rattle.mpy_interp.specs.Frames.{Changes, changed, place_of, state_of};
+ghost use Rattle.mpy_interp.specs.Frames.{Changes, changed, locals_of, looked, place_of, state_of};
 ghost use Rattle.mpy_tree.specs.Operations.{append, put};
+ghost use Rattle.mpy_tree.specs.Statements.{printed};
 
-use mpy_tree::{Chars, FaultKind, Ints, Limits, Name, NoMemory, Value};
+use mpy_tree::{Chars, FaultKind, Ints, Limits, Name, NoMemory, Value, Values};
 use std::alloc::Global;
 use std::mem::replace;
 use value_operations::{Stop, append_to, faulted, replace_at};
@@ -18,31 +19,34 @@ pub struct Binding<'a> {
     pub value: Value,
 }
 
-/// The locals of a call, in the order in which they were set.
+/// The locals of a call, in the order in which they were set, and the values that were printed so
+/// far, where these are kept.
 #[derive(Drop)]
 pub struct Frame<'a> {
     pub locals: Vec<Binding<'a>>,
+    pub printed: Option<Values>,
 }
 
 impl<'a> Frame<'a> {
-    /// The parameters have the arguments.
-    pub fn bind(alloc: Global, params: &'a [Name], args: Vec<Value>) -> Result<Frame<'a>, NoMemory>
-        ensures { IfOk result (λ f. state_of f ≡ bound params.now args.items) }
+    /// The parameters have the arguments, and this is kept of printed values.
+    pub fn bind(
+        alloc: Global,
+        params: &'a [Name],
+        args: Vec<Value>,
+        printed: Option<Values>,
+    ) -> Result<Frame<'a>, NoMemory>
+        ensures locals { IfOk result (λ f. locals_of f ≡ bound params.now args.items) }
+        ensures printed { IfOk result (λ f. f.printed ≡ printed) }
     {
-        let mut locals = Vec::new(alloc);
-        for value in args {
-            if let Some(name) = params.get(locals.len()) {
-                locals.push(Binding { name, value })?;
-            }
-        }
-        Ok(Frame { locals })
+        let locals = bindings(alloc, params, args)?;
+        Ok(Frame { locals, printed })
     }
 
     /// The value of a local, if it is set.
     #[inline]
     pub fn local(&self, x: &Name) -> Option<&Value>
-        ensures { MatchOption result (state_of self.now x.now ≡ None)
-            (λ v. state_of self.now x.now ≡ Some v.now) }
+        ensures { MatchOption result (locals_of self.now x.now ≡ None)
+            (λ v. locals_of self.now x.now ≡ Some v.now) }
     {
         for b in &self.locals {
             if x.is(b.name) {
@@ -55,7 +59,7 @@ impl<'a> Frame<'a> {
     /// The number that a local is, if it is one.
     #[inline]
     pub fn number(&self, x: &Name) -> Option<i32>
-        ensures { IfSome result (λ z. state_of self.now x.now ≡ Some (Value.Int z)) }
+        ensures { IfSome result (λ z. locals_of self.now x.now ≡ Some (Value.Int z)) }
     {
         match self.local(x)? {
             Value::Int(z) => Some(*z),
@@ -66,7 +70,7 @@ impl<'a> Frame<'a> {
     /// The list that a local is, if it is one.
     #[inline]
     pub fn list(&self, x: &Name) -> Option<&Ints>
-        ensures { IfSome result (λ xs. state_of self.now x.now ≡ Some (Value.List xs.now)) }
+        ensures { IfSome result (λ xs. locals_of self.now x.now ≡ Some (Value.List xs.now)) }
     {
         match self.local(x)? {
             Value::List(xs) => Some(xs),
@@ -77,7 +81,7 @@ impl<'a> Frame<'a> {
     /// The text that a local is, if it is one.
     #[inline]
     pub fn text(&self, x: &Name) -> Option<&Chars>
-        ensures { IfSome result (λ cs. state_of self.now x.now ≡ Some (Value.Text cs.now)) }
+        ensures { IfSome result (λ cs. locals_of self.now x.now ≡ Some (Value.Text cs.now)) }
     {
         match self.local(x)? {
             Value::Text(cs) => Some(cs),
@@ -88,7 +92,7 @@ impl<'a> Frame<'a> {
     /// The value of a local, which must be set.
     pub fn find(&self, line: u32, x: &Name) -> Result<&Value, Stop>
         ensures { MeetsBy (λ v. v.now) result
-            (on_line line (set_or_fault (state_of self.now x.now))) }
+            (on_line line (set_or_fault (locals_of self.now x.now))) }
     {
         match self.local(x) {
             Some(v) => Ok(v),
@@ -98,7 +102,7 @@ impl<'a> Frame<'a> {
 
     /// A copy of the value of a local.
     pub fn get(&self, line: u32, x: &Name) -> Result<Value, Stop>
-        ensures { Meets result (on_line line (set_or_fault (state_of self.now x.now))) }
+        ensures { Meets result (on_line line (set_or_fault (locals_of self.now x.now))) }
     {
         let v = self.find(line, x)?;
         Ok(v.copy()?)
@@ -137,12 +141,45 @@ impl<'a> Frame<'a> {
         }
     }
 
+    /// Keeps a printed value, where they are kept, of which there may be so many.
+    pub fn keep(&mut self, most: u32, line: u32, v: Value) -> Result<(), Stop>
+        ensures { Changes result (state_of self.new) (printed most line (state_of self.old) v) }
+    {
+        match &mut self.printed {
+            None => Ok(()),
+            Some(kept) => {
+                if kept.items().len() >= most as usize {
+                    return Err(faulted(FaultKind::Length, line));
+                }
+                kept.push(v)?;
+                Ok(())
+            }
+        }
+    }
+
     // Where the binding of a name stands.
     fn place(&self, x: &Name) -> Option<usize>
         ensures { result ≡ place_of self.now.locals.items x.now }
     {
         self.locals.iter().position(|b| x.is(b.name))
     }
+}
+
+// The names with the values, one for each.
+fn bindings<'a>(
+    alloc: Global,
+    names: &'a [Name],
+    values: Vec<Value>,
+) -> Result<Vec<Binding<'a>>, NoMemory>
+    ensures { IfOk result (λ bs. looked bs.items ≡ bound names.now values.items) }
+{
+    let mut locals = Vec::new(alloc);
+    for value in values {
+        if let Some(name) = names.get(locals.len()) {
+            locals.push(Binding { name, value })?;
+        }
+    }
+    Ok(locals)
 }
 
 // Replaces an element of a list where it stands.

@@ -1,9 +1,11 @@
-//! What a program gives on its arguments.
-ghost use Rattle.std.specs.Prelude.{◌≡◌, IfOk, Some};
+//! How a program ends on its arguments.
+ghost use Rattle.std.specs.Prelude.{◌≡◌, IfOk, MatchOption, None, Some};
 ghost use Rattle.mpy_tree.specs.View.{routine_of, routines_of};
-ghost use Rattle.value_operations.specs.Answers.{Meets};
-ghost use Rattle.mpy_tree.specs.Running.{no_calls, found, enter, evaluated};
+ghost use Rattle.value_operations.specs.Answers.{Meets, MeetsBy};
+ghost use Rattle.mpy_tree.specs.Running.{no_calls, found, enter, evaluated, given_by, done_by};
+ghost use Rattle.mpy_tree.specs.Running.{kept_first, done_with};
 ghost use Rattle.mpy_tree.specs.Outcomes.{run_outcome};
+ghost use Rattle.mpy_interp.specs.Ends.{done_of};
 
 use crate::calls::Calls;
 use crate::completion::Completion;
@@ -28,7 +30,10 @@ pub fn run(
     ensures { IfOk result (λ o. o ≡ run_outcome l.now (routines_of p.now) entry.now args.now) }
 {
     match evaluate(alloc, p, l, entry, args.copy()?.into_vec()) {
-        Ok(v) => Ok(Outcome::Value(v)),
+        Ok(end) => Ok(Outcome::Done {
+            value: end.value,
+            printed: end.printed,
+        }),
         Err(Stop::Halted(h)) => Ok(Outcome::Fault {
             kind: h.halt.told(),
             line: h.line,
@@ -59,7 +64,8 @@ struct Deeper<'a, C: Calls> {
 
 impl<C: Calls> Calls for Deeper<'_, C> {
     ghost gives = { λ d f vs line.
-        enter d.limits.now (C.gives d.below) (found (routines_of d.program.now) f) vs line };
+        enter given_by None d.limits.now (C.gives d.below)
+        (found (routines_of d.program.now) f) vs line };
 
     fn call(&self, alloc: Global, f: &Name, args: Vec<Value>, line: u32) -> Result<Value, Stop> {
         let machine = Machine {
@@ -67,34 +73,126 @@ impl<C: Calls> Calls for Deeper<'_, C> {
             limits: self.limits,
             calls: &self.below,
         };
-        for func in &self.program.funcs.items {
-            if f.is(&func.name) {
-                return machine.enter(func, args, line);
-            }
+        match func_named(self.program, f) {
+            None => Err(stuck(line)),
+            Some(func) => machine.enter(func, args, line),
         }
-        Err(stuck(line))
     }
 }
 
+impl<C: Calls> Deeper<'_, C> {
+    // Runs the program from its entry on.
+    fn begin(&self, alloc: Global, entry: &Name, args: Vec<Value>) -> Result<End, Stop>
+        ensures { MeetsBy done_of result (enter done_by (kept_first self.now.limits.now)
+            self.now.limits.now (C.gives self.now.below)
+            (found (routines_of self.now.program.now) entry.now) args.items 1) }
+    {
+        let machine = Machine {
+            alloc,
+            limits: self.limits,
+            calls: &self.below,
+        };
+        match func_named(self.program, entry) {
+            None => Err(stuck(1)),
+            Some(func) => machine.begin(func, args),
+        }
+    }
+}
+
+// The function of a name, if there is one.
+fn func_named<'p>(p: &'p Prog, f: &Name) -> Option<&'p Func>
+    ensures { MatchOption result (found (routines_of p.now) f.now ≡ None)
+        (λ r. found (routines_of p.now) f.now ≡ Some (routine_of r.now)) }
+{
+    for func in &p.funcs.items {
+        if f.is(&func.name) {
+            return Some(func);
+        }
+    }
+    None
+}
+
+// How a run ends, where no fault ends it.
+#[derive(Drop)]
+struct End {
+    value: Option<Value>,
+    printed: Values,
+}
+
 impl<C: Calls> Machine<'_, C> {
-    // Runs a function's body on its arguments, for a call on a line.
+    // Runs a function's body on its arguments, for a call on a line. What it prints is dropped.
     fn enter(&self, func: &Func, args: Vec<Value>, line: u32) -> Result<Value, Stop>
-        ensures { Meets result (enter self.now.limits.now (C.gives self.now.calls.now)
-            (Some (routine_of func.now)) args.items line) }
+        ensures { Meets result (enter given_by None self.now.limits.now
+            (C.gives self.now.calls.now) (Some (routine_of func.now)) args.items line) }
     {
         let params = func.params.items();
         if args.len() != params.len() {
             return Err(stuck(line));
         }
-        let mut frame = Frame::bind(self.alloc, params, args)?;
+        let mut frame = Frame::bind(self.alloc, params, args, None)?;
         match self.exec_block(&mut frame, &func.body)? {
-            Completion::Returned(v) => Ok(v),
+            Completion::Returned(Some(v)) => Ok(v),
             _ => Err(faulted(FaultKind::NoValue, func.line)),
         }
     }
+
+    // Runs the entry's body on its arguments.
+    fn begin(&self, func: &Func, args: Vec<Value>) -> Result<End, Stop>
+        ensures { MeetsBy done_of result (enter done_by (kept_first self.now.limits.now)
+            self.now.limits.now (C.gives self.now.calls.now) (Some (routine_of func.now))
+            args.items 1) }
+    {
+        let params = func.params.items();
+        if args.len() != params.len() {
+            return Err(stuck(1));
+        }
+        let mut frame = Frame::bind(
+            self.alloc,
+            params,
+            args,
+            kept_at_first(self.alloc, self.limits),
+        )?;
+        let value = match self.exec_block(&mut frame, &func.body)? {
+            Completion::Returned(value) => value,
+            _ => None,
+        };
+        end_with(self.alloc, func.line, value, frame.printed)
+    }
 }
 
-// The value that the program gives, or its fault. A level of calls is a type of its own, so that
+// What is kept of printed values when a run begins.
+fn kept_at_first(alloc: Global, l: &Limits) -> Option<Values>
+    ensures { result ≡ kept_first l.now }
+{
+    if l.prints == 0 {
+        return None;
+    }
+    Some(Values::from_vec(Vec::new(alloc)))
+}
+
+// How a run ends with a value or without one, where this was kept. Without a value it ends where
+// printed values are kept alone; the line is that of the entry.
+fn end_with(
+    alloc: Global,
+    line: u32,
+    value: Option<Value>,
+    kept: Option<Values>,
+) -> Result<End, Stop>
+    ensures { MeetsBy done_of result (done_with line kept value) }
+{
+    match kept {
+        Some(printed) => Ok(End { value, printed }),
+        None => match value {
+            None => Err(faulted(FaultKind::NoValue, line)),
+            Some(v) => Ok(End {
+                value: Some(v),
+                printed: Values::from_vec(Vec::new(alloc)),
+            }),
+        },
+    }
+}
+
+// How the program ends. A level of calls is a type of its own, so that
 // the interpreter of each is proved to end by the program's tree alone.
 fn evaluate(
     alloc: Global,
@@ -102,8 +200,8 @@ fn evaluate(
     l: &Limits,
     entry: &Name,
     args: Vec<Value>,
-) -> Result<Value, Stop>
-    ensures { Meets result (evaluated l.now (routines_of p.now) entry.now args.items) }
+) -> Result<End, Stop>
+    ensures { MeetsBy done_of result (evaluated l.now (routines_of p.now) entry.now args.items) }
 {
     let one = Deeper {
         limits: l,
@@ -111,7 +209,7 @@ fn evaluate(
         below: NoCalls,
     };
     if l.depth == 1 {
-        return one.call(alloc, entry, args, 1);
+        return one.begin(alloc, entry, args);
     }
     let two = Deeper {
         limits: l,
@@ -119,7 +217,7 @@ fn evaluate(
         below: one,
     };
     if l.depth == 2 {
-        return two.call(alloc, entry, args, 1);
+        return two.begin(alloc, entry, args);
     }
     let three = Deeper {
         limits: l,
@@ -127,7 +225,7 @@ fn evaluate(
         below: two,
     };
     if l.depth == 3 {
-        return three.call(alloc, entry, args, 1);
+        return three.begin(alloc, entry, args);
     }
     let four = Deeper {
         limits: l,
@@ -135,7 +233,7 @@ fn evaluate(
         below: three,
     };
     if l.depth == 4 {
-        return four.call(alloc, entry, args, 1);
+        return four.begin(alloc, entry, args);
     }
     let five = Deeper {
         limits: l,
@@ -143,7 +241,7 @@ fn evaluate(
         below: four,
     };
     if l.depth == 5 {
-        return five.call(alloc, entry, args, 1);
+        return five.begin(alloc, entry, args);
     }
     let six = Deeper {
         limits: l,
@@ -151,7 +249,7 @@ fn evaluate(
         below: five,
     };
     if l.depth == 6 {
-        return six.call(alloc, entry, args, 1);
+        return six.begin(alloc, entry, args);
     }
     let seven = Deeper {
         limits: l,
@@ -159,12 +257,12 @@ fn evaluate(
         below: six,
     };
     if l.depth == 7 {
-        return seven.call(alloc, entry, args, 1);
+        return seven.begin(alloc, entry, args);
     }
     let eight = Deeper {
         limits: l,
         program: p,
         below: seven,
     };
-    eight.call(alloc, entry, args, 1)
+    eight.begin(alloc, entry, args)
 }

@@ -6,7 +6,7 @@ ghost use Rattle.mpy_tree.specs.View.{term_of, terms_of};
 ghost use Rattle.mpy_interp.specs.Answers.{GivesCharacter, GivesTruth};
 ghost use Rattle.value_operations.specs.Answers.{GivesNumber};
 ghost use Rattle.mpy_interp.specs.Answers.{GivesNumberAlone, length_given};
-ghost use Rattle.mpy_interp.specs.Frames.{state_of};
+ghost use Rattle.mpy_interp.specs.Frames.{locals_of};
 ghost use Rattle.mpy_tree.specs.Expressions.{value_of, values_of};
 
 use crate::calls::Calls;
@@ -20,7 +20,7 @@ impl<C: Calls> Machine<'_, C> {
     #[cycle(number)]
     pub fn number(&self, frame: &Frame<'_>, line: u32, e: &Expr) -> Option<i32>
         ensures { GivesNumber result (value_of self.now.limits.now (C.gives self.now.calls.now)
-            (state_of frame.now) line (term_of e.now)) }
+            (locals_of frame.now) line (term_of e.now)) }
     {
         match e {
             Expr::Int(n) => within(self.limits, *n as i64),
@@ -44,7 +44,7 @@ impl<C: Calls> Machine<'_, C> {
         b: &Expr,
     ) -> Option<i32>
         ensures { GivesNumber result (value_of self.now.limits.now (C.gives self.now.calls.now)
-            (state_of frame.now) line (ast.Arith op (term_of a.now) (term_of b.now))) }
+            (locals_of frame.now) line (ast.Arith op (term_of a.now) (term_of b.now))) }
     {
         let v = self.number(frame, line, a)?;
         let w = self.number(frame, line, b)?;
@@ -55,7 +55,7 @@ impl<C: Calls> Machine<'_, C> {
     #[cycle(number)]
     fn number_at(&self, frame: &Frame<'_>, line: u32, a: &Expr, i: &Expr) -> Option<i32>
         ensures { GivesNumber result (value_of self.now.limits.now (C.gives self.now.calls.now)
-            (state_of frame.now) line (ast.Index (term_of a.now) (term_of i.now))) }
+            (locals_of frame.now) line (ast.Index (term_of a.now) (term_of i.now))) }
     {
         let xs = frame.list(name_in(a)?)?;
         let k = self.number(frame, line, i)?;
@@ -65,7 +65,7 @@ impl<C: Calls> Machine<'_, C> {
     // The number that a call gives, if it is that of `len` on a name and it is found.
     fn number_of_call(&self, frame: &Frame<'_>, line: u32, f: &Name, es: &Exprs) -> Option<i32>
         ensures { GivesNumber result (value_of self.now.limits.now (C.gives self.now.calls.now)
-            (state_of frame.now) line (ast.Call f.now (terms_of es.now))) }
+            (locals_of frame.now) line (ast.Call f.now (terms_of es.now))) }
     {
         match (es.items(), Builtin::of(f.bytes())) {
             ([e], Some(Builtin::Len)) => self.length(frame, line, e),
@@ -77,7 +77,7 @@ impl<C: Calls> Machine<'_, C> {
     fn length(&self, frame: &Frame<'_>, line: u32, e: &Expr) -> Option<i32>
         ensures { GivesNumber result (length_given self.now.limits.now line
             (value_of self.now.limits.now (C.gives self.now.calls.now)
-            (state_of frame.now) line (term_of e.now))) }
+            (locals_of frame.now) line (term_of e.now))) }
     {
         length_of_value(self.limits, frame.local(name_in(e)?)?)
     }
@@ -85,7 +85,7 @@ impl<C: Calls> Machine<'_, C> {
     /// The number that the one argument of a call gives, if there is just one and it is found.
     pub fn number_alone(&self, frame: &Frame<'_>, line: u32, es: &Exprs) -> Option<i32>
         ensures { GivesNumberAlone result (values_of self.now.limits.now
-            (C.gives self.now.calls.now) (state_of frame.now) line (terms_of es.now)) }
+            (C.gives self.now.calls.now) (locals_of frame.now) line (terms_of es.now)) }
     {
         match es.items() {
             [e] => self.number(frame, line, e),
@@ -96,7 +96,7 @@ impl<C: Calls> Machine<'_, C> {
     /// The truth that an expression gives, if it is found.
     pub fn truth(&self, frame: &Frame<'_>, line: u32, e: &Expr) -> Option<bool>
         ensures { GivesTruth result (value_of self.now.limits.now (C.gives self.now.calls.now)
-            (state_of frame.now) line (term_of e.now)) }
+            (locals_of frame.now) line (term_of e.now)) }
     {
         match e {
             Expr::Bool(b) => Some(*b),
@@ -123,7 +123,7 @@ impl<C: Calls> Machine<'_, C> {
     // Whether a comparison of numbers or of characters holds, if that is found.
     fn relation(&self, frame: &Frame<'_>, line: u32, op: CmpOp, a: &Expr, b: &Expr) -> Option<bool>
         ensures { GivesTruth result (value_of self.now.limits.now (C.gives self.now.calls.now)
-            (state_of frame.now) line (ast.Cmp op (term_of a.now) (term_of b.now))) }
+            (locals_of frame.now) line (ast.Cmp op (term_of a.now) (term_of b.now))) }
     {
         match self.number(frame, line, a) {
             Some(v) => relate_numbers(op, v, self.number(frame, line, b)?),
@@ -141,7 +141,7 @@ impl<C: Calls> Machine<'_, C> {
         b: &Expr,
     ) -> Option<bool>
         ensures { GivesTruth result (value_of self.now.limits.now (C.gives self.now.calls.now)
-            (state_of frame.now) line (ast.Cmp op (term_of a.now) (term_of b.now))) }
+            (locals_of frame.now) line (ast.Cmp op (term_of a.now) (term_of b.now))) }
     {
         let c = self.character(frame, line, a)?;
         let d = self.character(frame, line, b)?;
@@ -155,7 +155,7 @@ impl<C: Calls> Machine<'_, C> {
     // The character that an expression gives, if it is `a[i]` of a name's text and it is found.
     fn character(&self, frame: &Frame<'_>, line: u32, e: &Expr) -> Option<u8>
         ensures { GivesCharacter result (value_of self.now.limits.now
-            (C.gives self.now.calls.now) (state_of frame.now) line (term_of e.now)) }
+            (C.gives self.now.calls.now) (locals_of frame.now) line (term_of e.now)) }
     {
         match e {
             Expr::Index(a, i) => {

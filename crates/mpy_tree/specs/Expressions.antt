@@ -1,4 +1,4 @@
--- What an expression gives in a state.
+-- What an expression gives, by the locals.
 use Rattle.std.specs.Prelude.{ℕ, true, false, not, List, [], ◌∷◌, Option, Some, None, if◌then◌else◌}
 use Rattle.std.specs.Prelude.{ℤ, pos}
 use Rattle.std.specs.declared.result.Result.{Result}
@@ -14,7 +14,7 @@ use Rattle.mpy_tree.specs.declared.outcome.Halt.{Halt}
 use Rattle.mpy_tree.specs.declared.outcome.Halt.TheVariants.{Stuck}
 use Rattle.mpy_tree.specs.declared.outcome.Halted.{Halted}
 use Rattle.mpy_tree.specs.Builtins.{builtin_of}
-use Rattle.mpy_tree.specs.Values.{◌>>=◌, stuck, on_line, State, set_or_fault}
+use Rattle.mpy_tree.specs.Values.{◌>>=◌, stuck, on_line, Locals, set_or_fault}
 use Rattle.mpy_tree.specs.Operations.{number, list_within, text_within, arith, negative, absolute}
 use Rattle.mpy_tree.specs.Operations.{holds, compare, truth, index, slice, whole, length_of, range}
 use Rattle.mpy_tree.specs.Operations.{least, greatest}
@@ -79,7 +79,7 @@ either (BoolV true) r line = Ok (BoolV true)
 either (BoolV false) r line = r
 either _ r line = Err (stuck line)
 
-module _ (l : Limits) (calls : Calls) (s : State) (line : ℕ) where
+module _ (l : Limits) (calls : Calls) (s : Locals) (line : ℕ) where
   abbrev mutual
     pub value_of : Term → Result Value Halted
     value_of (ast.Int n) = on_line line (number l (pos n))

@@ -14,24 +14,24 @@ use Rattle.mpy_tree.specs.declared.outcome.Halted.{Halted}
 use Rattle.mpy_tree.specs.declared.outcome.Outcome.{Outcome}
 use Rattle.mpy_tree.specs.declared.outcome.Outcome.TheVariants as outcome
 use Rattle.mpy_tree.specs.Syntax.{Routine}
-use Rattle.mpy_tree.specs.Running.{evaluated}
+use Rattle.mpy_tree.specs.Running.{Done, evaluated}
 
 -- the kind of fault that is told: a run that is stuck is told as one that reads what isn't set
 abbrev pub told : Halt → FaultKind
 told (Fault kind) = kind
 told Stuck = Unset
 
-abbrev pub outcome_of : Result Value Halted → Outcome
-outcome_of (Ok v) = outcome.Value v
+abbrev pub outcome_of : Result Done Halted → Outcome
+outcome_of (Ok d) = outcome.Done d.value d.printed
 outcome_of (Err h) = outcome.Fault (told h.halt) h.line
 
 -- how a run of the program ends on these arguments
 abbrev pub run_outcome : Limits → List Routine → List ℕ → List Value → Outcome
 run_outcome l p entry vs = outcome_of (evaluated l p entry vs)
 
--- the run ends with a value
+-- the run ends without a fault
 abbrev pub is_done : Outcome → Bool
-is_done (outcome.Value v) = true
+is_done (outcome.Done v vs) = true
 is_done (outcome.Fault kind line) = false
 
 abbrev pub fault_text : FaultKind → List ℕ

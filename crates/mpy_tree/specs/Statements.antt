@@ -1,5 +1,6 @@
 -- What a statement does to a state.
-use Rattle.std.specs.Prelude.{ℕ, zero, suc, List, [], ◌∷◌, if◌then◌else◌}
+use Rattle.std.specs.Prelude.{ℕ, zero, suc, List, [], ◌∷◌, ◌++◌, length, Option, Some, None}
+use Rattle.std.specs.Prelude.{nat_lt, if◌then◌else◌}
 use Rattle.std.specs.declared.result.Result.{Result}
 use Rattle.std.specs.declared.result.Result.TheVariants.{Ok, Err}
 use Rattle.mpy_tree.specs.declared.limits.Limits.{Limits}
@@ -7,10 +8,11 @@ use Rattle.mpy_tree.specs.declared.value.Value.{Value}
 use Rattle.mpy_tree.specs.Syntax.{Term, MaybeTerm, no_term, a_term, at, Action, Block, end, step}
 use Rattle.mpy_tree.specs.Syntax.{MaybeBlock, no_block, a_block, arm, Branches, no_arms, arm_and}
 use Rattle.mpy_tree.specs.Syntax as ast
-use Rattle.mpy_tree.specs.declared.outcome.FaultKind.TheVariants.{Turns, NoValue}
+use Rattle.mpy_tree.specs.declared.outcome.FaultKind.TheVariants.{Turns, Length, NoValue}
 use Rattle.mpy_tree.specs.declared.outcome.Halt.{Halt}
 use Rattle.mpy_tree.specs.declared.outcome.Halted.{Halted}
-use Rattle.mpy_tree.specs.Values.{◌>>=◌, fault, on_line, State, assign, set_or_fault}
+use Rattle.mpy_tree.specs.Values.{◌>>=◌, fault, on_line, Locals, State, assign}
+use Rattle.mpy_tree.specs.Values.{set_or_fault}
 use Rattle.mpy_tree.specs.Operations.{arith, holds, index, put, append, members}
 use Rattle.mpy_tree.specs.Expressions.{Calls, value_of}
 
@@ -19,7 +21,7 @@ pub data Ran : Type 0 where
   Next : (s : State) → Ran
   Broke : (s : State) → Ran
   Continued : (s : State) → Ran
-  Returned : (v : Value) → Ran
+  Returned : (v : Option Value) (s : State) → Ran
   Failed : (h : Halted) → Ran
 
 -- goes on with a value, or ends without one
@@ -32,7 +34,7 @@ abbrev pub then_on : Ran → (State → Ran) → Ran
 then_on (Next s) k = k s
 then_on (Broke s) k = Broke s
 then_on (Continued s) k = Continued s
-then_on (Returned v) k = Returned v
+then_on (Returned v s) k = Returned v s
 then_on (Failed h) k = Failed h
 
 -- the next turn of a loop
@@ -40,7 +42,7 @@ abbrev pub then_turn : Ran → (State → Ran) → Ran
 then_turn (Next s) k = k s
 then_turn (Broke s) k = Next s
 then_turn (Continued s) k = k s
-then_turn (Returned v) k = Returned v
+then_turn (Returned v s) k = Returned v s
 then_turn (Failed h) k = Failed h
 
 -- a local is set to what was computed
@@ -65,17 +67,33 @@ for_turns (v ∷ vs) zero x body line s = Failed (fault Turns line)
 for_turns (v ∷ vs) (suc n) x body line s =
     then_turn (body (assign s x v)) (for_turns vs n x body line)
 
--- what a statement on a line does with a value that it prints: the value is dropped
-abbrev pub printed : ℕ → State → Value → Ran
-printed line s v = Next s
+-- a value behind those that are kept, of which there may be so many
+abbrev pub kept_behind : ℕ → ℕ → Locals → List Value → Value → Ran
+kept_behind most line s vs v =
+    if nat_lt (length vs) most then Next (record { locals = s; printed = Some (vs ++ v ∷ []) })
+    else Failed (fault Length line)
+
+-- where nothing is kept, the value is dropped
+abbrev pub kept_in : ℕ → ℕ → State → Option (List Value) → Value → Ran
+kept_in most line s None v = Next s
+kept_in most line s (Some vs) v = kept_behind most line s.locals vs v
+
+-- what a statement on a line does with a value that it prints, where so many may be kept
+abbrev pub printed : ℕ → ℕ → State → Value → Ran
+printed most line s v = kept_in most line s s.printed v
+
+-- `return` alone: it ends a run whose printed values are kept, and is else a fault
+abbrev pub ended_by : ℕ → State → Option (List Value) → Ran
+ended_by line s None = Failed (fault NoValue line)
+ended_by line s (Some vs) = Returned None s
 
 module _ (l : Limits) (calls : Calls) where
   -- an expression, and a local, in a statement on a line
   abbrev pub value_at : State → ℕ → Term → Result Value Halted
-  value_at s line e = value_of l calls s line e
+  value_at s line e = value_of l calls s.locals line e
 
   abbrev pub local_at : State → ℕ → List ℕ → Result Value Halted
-  local_at s line x = on_line line (set_or_fault (s x))
+  local_at s line x = on_line line (set_or_fault (s.locals x))
 
   -- x op= e
   abbrev pub set_by : State → ℕ → List ℕ → (Value → Value → Result Value Halt) → Term
@@ -105,8 +123,8 @@ module _ (l : Limits) (calls : Calls) where
     on_line line (put v k new)
 
   abbrev pub give : State → ℕ → MaybeTerm → Ran
-  give s line no_term = Failed (fault NoValue line)
-  give s line (a_term e) = given (value_at s line e) Returned
+  give s line no_term = ended_by line s s.printed
+  give s line (a_term e) = given (value_at s line e) (λ v. Returned (Some v) s)
 
   abbrev mutual
     pub run_block : Block → State → Ran
@@ -119,7 +137,7 @@ module _ (l : Limits) (calls : Calls) where
     run_action (ast.Put x i e) line s = store s x (set_at s line x i e)
     run_action (ast.AugmentAt x i op e) line s = store s x (set_at_by s line x i (arith l op) e)
     run_action (ast.Append x e) line s = store s x (set_by s line x (append l) e)
-    run_action (ast.Print e) line s = given (value_at s line e) (printed line s)
+    run_action (ast.Print e) line s = given (value_at s line e) (printed l.prints line s)
     run_action (ast.Return e) line s = give s line e
     run_action ast.Pass line s = Next s
     run_action ast.Break line s = Broke s

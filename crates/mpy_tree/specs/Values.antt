@@ -37,14 +37,23 @@ abbrev pub same_bytes : List ℕ → List ℕ → Bool
 same_bytes = pointwise nat_eq
 
 -- the value of each local that is set
-abbrev pub State : Type 0
-State = List ℕ → Option Value
+abbrev pub Locals : Type 0
+Locals = List ℕ → Option Value
 
-abbrev pub nothing_set : State
+abbrev pub nothing_set : Locals
 nothing_set = λ x. None
 
+abbrev pub with_local : Locals → List ℕ → Value → Locals
+with_local s x v = λ y. if same_bytes y x then Some v else s y
+
+-- What statements change: the locals, and the values that were printed so far, where they are kept.
+-- They are kept in the entry's own statements, where printed values are compared, and nowhere else.
+pub record State : Type 0 where
+  pub locals : Locals
+  pub printed : Option (List Value)
+
 abbrev pub assign : State → List ℕ → Value → State
-assign s x v = λ y. if same_bytes y x then Some v else s y
+assign s x v = record { locals = with_local s.locals x v; printed = s.printed }
 
 -- the value of a local
 abbrev pub set_or_fault : Option Value → Result Value Halt

@@ -3,7 +3,7 @@ ghost use Rattle.std.specs.Prelude.{◌≡◌, ◌↔◌, IsTrue, IfOk};
 ghost use Rattle.mpy_tree.specs.Outcomes.{fault_text, is_done, told};
 
 use crate::NoMemory;
-use crate::value::Value;
+use crate::value::{Value, Values};
 
 /// What goes wrong in a run.
 #[derive(Clone, Copy, PartialEq, Eq, Debug, Drop)]
@@ -80,30 +80,44 @@ pub struct Halted {
     pub line: u32,
 }
 
-/// How a run ends: with a value, or with a fault and its line.
+/// How a run ends: with a value, or where printed values are kept perhaps without one, and with the
+/// printed values that were kept; or with a fault and its line.
 #[derive(Drop)]
 pub enum Outcome {
-    Value(Value),
-    Fault { kind: FaultKind, line: u32 },
+    Done {
+        value: Option<Value>,
+        printed: Values,
+    },
+    Fault {
+        kind: FaultKind,
+        line: u32,
+    },
 }
 
 impl Outcome {
-    /// Whether the run ends with a value.
+    /// Whether the run ends without a fault.
     pub fn is_done(&self) -> bool
         ensures { result ≡ is_done self.now }
     {
         match self {
-            Outcome::Value(_) => true,
+            Outcome::Done { .. } => true,
             Outcome::Fault { .. } => false,
         }
     }
 
-    /// Whether two runs end alike: with the same value, or with the same fault on the same line.
+    /// Whether two runs end alike: with the same value or both without one, and the same printed
+    /// values; or with the same fault on the same line.
     pub fn is(&self, other: &Outcome) -> bool
         ensures { IsTrue result ↔ (self.now ≡ other.now) }
     {
         match (self, other) {
-            (Outcome::Value(v), Outcome::Value(w)) => v.is(w),
+            (
+                Outcome::Done { value, printed },
+                Outcome::Done {
+                    value: v,
+                    printed: p,
+                },
+            ) => { is_same(value, v) && printed.is(p) }
             (Outcome::Fault { kind, line }, Outcome::Fault { kind: k, line: l }) => {
                 *kind == *k && *line == *l
             }
@@ -116,11 +130,35 @@ impl Outcome {
         ensures { IfOk result (λ o. o ≡ self.now) }
     {
         match self {
-            Outcome::Value(v) => Ok(Outcome::Value(v.copy()?)),
+            Outcome::Done { value, printed } => Ok(Outcome::Done {
+                value: copy_value(value)?,
+                printed: printed.copy()?,
+            }),
             Outcome::Fault { kind, line } => Ok(Outcome::Fault {
                 kind: *kind,
                 line: *line,
             }),
         }
+    }
+}
+
+// Whether two values, each of which may be missing, are one.
+fn is_same(a: &Option<Value>, b: &Option<Value>) -> bool
+    ensures { IsTrue result ↔ (a.now ≡ b.now) }
+{
+    match (a, b) {
+        (None, None) => true,
+        (Some(v), Some(w)) => v.is(w),
+        _ => false,
+    }
+}
+
+// An equal value, if there is one.
+fn copy_value(v: &Option<Value>) -> Result<Option<Value>, NoMemory>
+    ensures { IfOk result (λ c. c ≡ v.now) }
+{
+    match v {
+        None => Ok(None),
+        Some(v) => Ok(Some(v.copy()?)),
     }
 }

@@ -1,5 +1,6 @@
 //! Values, and lists of them.
-ghost use Rattle.std.specs.Prelude.{◌≡◌, ◌↔◌, IfOk, IsTrue, List};
+ghost use Rattle.std.specs.Prelude.{◌≡◌, ◌↔◌, ◌++◌, ◌∷◌, [], IfOk, OnOk, OnErr, IsTrue};
+ghost use Rattle.std.specs.Prelude.{List};
 ghost use Rattle.mpy_tree.specs.Fitting.{type_of};
 ghost use Rattle.mpy_tree.specs.declared.value.Value.{Value as AnyValue};
 
@@ -89,6 +90,30 @@ impl Values {
         ensures { result.items ≡ self }
     {
         self.items
+    }
+
+    /// Adds a value at the end. Where memory is wanting the list stays as it was.
+    pub fn push(&mut self, v: Value) -> Result<(), NoMemory>
+        ensures ok { OnOk result (self.new ≡ self.old ++ v ∷ []) }
+        ensures err { OnErr result (self.new ≡ self.old) }
+    {
+        self.items.push(v)?;
+        Ok(())
+    }
+
+    /// Whether two lists have the same values in the same order.
+    pub fn is(&self, other: &Values) -> bool
+        ensures { IsTrue result ↔ (self.now ≡ other.now) }
+    {
+        if self.items.len() != other.items.len() {
+            return false;
+        }
+        for i in 0..self.items.len() {
+            if !self.items[i].is(&other.items[i]) {
+                return false;
+            }
+        }
+        true
     }
 
     /// An equal list.

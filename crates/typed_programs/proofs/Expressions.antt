@@ -17,7 +17,7 @@ use Rattle.mpy_tree.specs.declared.typing.Slot.TheVariants as slot
 use Rattle.mpy_tree.specs.Syntax.{Term, Terms, MaybeTerm, no_terms, term_and, no_term, a_term, Routine}
 use Rattle.mpy_tree.specs.Syntax as ast
 use Rattle.mpy_tree.specs.Builtins.{builtin_of, takes}
-use Rattle.mpy_tree.specs.Values.{◌>>=◌, on_line, State, set_or_fault}
+use Rattle.mpy_tree.specs.Values.{◌>>=◌, on_line, Locals, set_or_fault}
 use Rattle.mpy_tree.specs.Operations.{holds, number, text_within, negative, arith, compare, truth, index}
 use Rattle.mpy_tree.specs.Expressions.{Calls, value_of, values_of, maybe_value_of, both, either, list_of, slice_of, apply, builtin, called as called_by}
 use Rattle.mpy_tree.specs.SetTypes.{Callee, called, builtin_gives}
@@ -205,7 +205,7 @@ module _ (l : Limits) (S : Slots) where
         let P : Option Ty → Type 0 = λ o. Gives (IsFor l o) (calls f vs line) in
         subst P k.1 (c f vs line k.0)
 
-    module _ (i : ℕ) (s : State) (a : Agrees l S i s) where
+    module _ (i : ℕ) (s : Locals) (a : Agrees l S i s) where
       local_at : (x : List ℕ) (t : Ty) → S i (slot.Local x) ≡ Some t → (o : Option Value) → s x ≡ o → GivesOf l line t (on_line line (set_or_fault o))
       local_at x t k None e = tt
       local_at x t k (Some v) e = for_type l (S i (slot.Local x)) v t k (a x v e)

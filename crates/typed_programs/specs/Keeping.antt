@@ -1,6 +1,6 @@
 -- Values for slots, states and calls that keep the types of slots, and how typed statements end.
 use Rattle.std.specs.Prelude.{◌≡◌, ⊤, ℕ, Bool, true, false, ◌&&◌, List, [], ◌∷◌, map, Option, Some}
-use Rattle.std.specs.Prelude.{None, IsTrue, is_some, MatchResult}
+use Rattle.std.specs.Prelude.{None, IsTrue, is_some, IfSome, MatchResult}
 use Rattle.std.specs.List.{All}
 use Rattle.std.specs.declared.result.Result.{Result}
 use Rattle.mpy_tree.specs.declared.limits.Limits.{Limits}
@@ -11,9 +11,10 @@ use Rattle.mpy_tree.specs.declared.outcome.Halt.{Halt}
 use Rattle.mpy_tree.specs.declared.outcome.Halt.TheVariants.{Fault, Stuck}
 use Rattle.mpy_tree.specs.declared.outcome.Halted.{Halted}
 use Rattle.mpy_tree.specs.Syntax.{Routine}
-use Rattle.mpy_tree.specs.Values.{State}
+use Rattle.mpy_tree.specs.Values.{Locals}
 use Rattle.mpy_tree.specs.Expressions.{Calls}
 use Rattle.mpy_tree.specs.Statements.{Ran, Next, Broke, Continued, Returned, Failed}
+use Rattle.mpy_tree.specs.Running.{Done}
 use Rattle.mpy_tree.specs.SetTypes.{FactSet, Callee, called}
 use Rattle.mpy_tree.specs.Sites.{Site}
 use Rattle.mpy_tree.specs.Flows.{Flow, Keeps, site_flows}
@@ -42,6 +43,10 @@ are_for l _ _ = false
 
 abbrev pub IsFor : Limits → Option Ty → Value → Type 0
 IsFor l o v = IsTrue (is_for l o v)
+
+-- a run that ends without a fault has a value for the slot, or none
+abbrev pub EndsFor : Limits → Option Ty → Done → Type 0
+EndsFor l o d = IfSome d.value (IsFor l o)
 
 abbrev pub AreFor : Limits → List (Option Ty) → List Value → Type 0
 AreFor l os vs = IsTrue (are_for l os vs)
@@ -72,16 +77,16 @@ module _ (S : Slots) where
       → Gives (IsFor l (result_slot (called p f))) (calls f vs line)
 
 -- each local of the function i that is set has a value for its slot
-abbrev pub Agrees : Limits → Slots → ℕ → State → Type 0
+abbrev pub Agrees : Limits → Slots → ℕ → Locals → Type 0
 Agrees l S i s = (x : List ℕ) (v : Value) → s x ≡ Some v → IsFor l (S i (Local x)) v
 
--- statements of the function i end in a state that agrees, with a value for the result, or by a
--- fault
+-- Statements of the function i end in a state whose locals agree, with a value for the result or
+-- without a value, or by a fault.
 abbrev pub EndsWell : Limits → Slots → ℕ → Ran → Type 0
-EndsWell l S i (Next s) = Agrees l S i s
-EndsWell l S i (Broke s) = Agrees l S i s
-EndsWell l S i (Continued s) = Agrees l S i s
-EndsWell l S i (Returned v) = IsFor l (S i Given) v
+EndsWell l S i (Next s) = Agrees l S i s.locals
+EndsWell l S i (Broke s) = Agrees l S i s.locals
+EndsWell l S i (Continued s) = Agrees l S i s.locals
+EndsWell l S i (Returned v s) = IfSome v (IsFor l (S i Given))
 EndsWell l S i (Failed h) = IsFault h.halt
 
 -- a slot that has exactly one type, to which all types of the source belong

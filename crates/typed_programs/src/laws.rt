@@ -8,7 +8,8 @@ pub fn typed_expressions()
     ensures { TypedExpressions }
 {}
 
-/// Typed statements keep the types of locals, and return values of the result's type that fit.
+/// Typed statements keep the types of locals, and return values of the result's type that fit, or
+/// none.
 pub fn typed_statements()
     ensures { TypedStatements }
 {}
@@ -29,13 +30,14 @@ pub fn typed_calls()
 {}
 
 /// A function of such a program, entered with arguments for its parameters, keeps the types of its
-/// locals, and returns a value of its result's type that fits, or ends by one of the ten faults.
+/// locals, and returns a value of its result's type that fits or none, or ends by one of the ten
+/// faults.
 pub fn typed_functions()
     ensures { TypedFunctions }
 {}
 
-/// A program that facts type gives a value of the type of the entry's result that fits, or one of
-/// the ten faults.
+/// A program that facts type ends with a value of the type of the entry's result that fits, without
+/// a value, or by one of the ten faults.
 pub fn typed_programs()
     ensures { TypedPrograms }
 {}

@@ -8,7 +8,7 @@ use Rattle.typed_programs.proofs.Statements.{body_well}
 use Rattle.typed_programs.proofs.laws.typed_functions.Goals as goal
 
 pub returns : goal.returns
-returns c = λ l T p entry i r vs depth h e a.
+returns c = λ l T p entry i r vs kept depth h e a.
     let fine = all_fine T p entry h in
     body_well l (set_of T) p i (calls_below l p depth) (calls_keep l (set_of T) p fine depth) r.body (body_typed (set_of T) p 0 p fine i i r (omega arith) e)
-    (bound r.params vs) (bound_agrees l (single (set_of T)) i r.params vs a)
+    (record { locals = bound r.params vs; printed = kept }) (bound_agrees l (single (set_of T)) i r.params vs a)

@@ -4,15 +4,15 @@ use Rattle.mpy_tree.specs.declared.tree.Expr.TheShapes.{weighed-Expr-Slice-1}
 use Rattle.mpy_tree.proofs.tree.Expr.TheLaws.{the_size}
 use Rattle.mpy_tree.specs.View.{term_of, terms, terms_of}
 use Rattle.mpy_interp.specs.Answers.{after}
-use Rattle.mpy_interp.specs.Frames.{state_of}
+use Rattle.mpy_interp.specs.Frames.{locals_of}
 use Rattle.mpy_tree.specs.Expressions.{values_of}
 use Rattle.mpy_interp.proofs.machine.Machine.+eval.Given as goal
 
 -- the values so far, and then those of the expressions that are left, are the values of all
 abbrev pub invariant-eval_all-loop-e : goal.invariant-eval_all-loop-e
 invariant-eval_all-loop-e g l =
-    values_of l.self.limits.now (g.C.Calls.gives l.self.calls.now) (state_of l.frame) l.line (terms_of l.es)
-    ≡ after l.values.items (values_of l.self.limits.now (g.C.Calls.gives l.self.calls.now) (state_of l.frame) l.line (terms (map term_of (drop l.e-index l.es.items.items))))
+    values_of l.self.limits.now (g.C.Calls.gives l.self.calls.now) (locals_of l.frame) l.line (terms_of l.es)
+    ≡ after l.values.items (values_of l.self.limits.now (g.C.Calls.gives l.self.calls.now) (locals_of l.frame) l.line (terms (map term_of (drop l.e-index l.es.items.items))))
 
 -- how deep an end of a slice is
 abbrev end_size : Option (Box Expr Global) → ℕ

@@ -32,7 +32,7 @@ exec_act-returns-in-Append g t c =
 
 pub exec_act-returns-in-Print : goal.exec_act-returns-in-Print
 exec_act-returns-in-Print g t c =
-    ends_as c.args.self.now.limits.now (g.C.Calls.gives c.args.self.now.calls.now) c.args.act.now (Print c.in-Print.e) (ast.Print (term_of c.in-Print.e)) c.args.line (state_of c.args.frame.now) (state_of c.args.frame.now) c.exec_print.result c.in-Print.is (print_is c.in-Print.e) c.exec_print.ensures
+    ends_as c.args.self.now.limits.now (g.C.Calls.gives c.args.self.now.calls.now) c.args.act.now (Print c.in-Print.e) (ast.Print (term_of c.in-Print.e)) c.args.line (state_of c.args.frame.now) (state_of c.exec_print.new.frame) c.exec_print.result c.in-Print.is (print_is c.in-Print.e) c.exec_print.ensures
 
 pub exec_act-returns-in-Return : goal.exec_act-returns-in-Return
 exec_act-returns-in-Return g t c =

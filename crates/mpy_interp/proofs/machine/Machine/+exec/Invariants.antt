@@ -29,8 +29,8 @@ invariant-exec_if-loop-arm g l = record {
 -- the turns that are left give what all give
 abbrev pub invariant-exec_while-turns : goal.invariant-exec_while-turns
 invariant-exec_while-turns g l =
-    while_turns l.self.limits.now.turns (λ s. value_of l.self.limits.now (g.C.Calls.gives l.self.calls.now) s l.line (term_of l.test)) (run_block l.self.limits.now (g.C.Calls.gives l.self.calls.now) (block_of l.body)) l.line (state_of l.fn.frame)
-    ≡ while_turns l.left (λ s. value_of l.self.limits.now (g.C.Calls.gives l.self.calls.now) s l.line (term_of l.test)) (run_block l.self.limits.now (g.C.Calls.gives l.self.calls.now) (block_of l.body)) l.line (state_of l.frame)
+    while_turns l.self.limits.now.turns (λ s. value_of l.self.limits.now (g.C.Calls.gives l.self.calls.now) s.locals l.line (term_of l.test)) (run_block l.self.limits.now (g.C.Calls.gives l.self.calls.now) (block_of l.body)) l.line (state_of l.fn.frame)
+    ≡ while_turns l.left (λ s. value_of l.self.limits.now (g.C.Calls.gives l.self.calls.now) s.locals l.line (term_of l.test)) (run_block l.self.limits.now (g.C.Calls.gives l.self.calls.now) (block_of l.body)) l.line (state_of l.frame)
 
 abbrev pub decreases-exec_while-turns : goal.decreases-exec_while-turns
 decreases-exec_while-turns g l = l.left

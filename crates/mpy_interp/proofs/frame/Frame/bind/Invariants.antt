@@ -1,5 +1,0 @@
-use Rattle.mpy_interp.proofs.Lookups.{IsBoundSoFar}
-use Rattle.mpy_interp.proofs.frame.Frame.bind.Given as goal
-
-abbrev pub invariant-loop-value : goal.invariant-loop-value
-invariant-loop-value l = IsBoundSoFar l.params l.locals.items l.yielded
