@@ -1,5 +1,5 @@
 -- A line spells the item that is read from it, and the item that it spells is read.
-use Rattle.std.proofs.Common.{◌≡◌, ℕ, true, false, cond, List, [], ◌∷◌, Option, Some, option_map, refl, sym, subst, ◌∙◌, ℤ, inl, inr}
+use Rattle.std.proofs.Common.{◌≡◌, ℕ, true, false, cond, List, [], ◌∷◌, Option, None, Some, option_map, refl, sym, subst, ◌∙◌, ℤ, inl, inr}
 use Rattle.std.specs.Prelude.{◌&&◌, codes}
 use Rattle.std.proofs.lemmas.Bool.{and_parts, and_from, cases_Bool}
 use Rattle.std.proofs.lemmas.Slice.Eq.{bytes_eq-Decides}
@@ -8,8 +8,8 @@ use Rattle.bounds_reader.specs.declared.place.Place.{Place}
 use Rattle.bounds_reader.specs.declared.place.Place.TheVariants as place
 use Rattle.bounds_reader.specs.Forms.{Form, int, bool, list, text}
 use Rattle.bounds_reader.specs.Words.{Word, plain, carries_nothing, Carries}
-use Rattle.bounds_reader.specs.Items.{Item, width, turns, depth, cap, entry, param, is_short, is_plain_name, form_words, item_words, is_proper_form, is_proper, place_of, SpellsItem, number_word}
-use Rattle.bounds_reader.specs.Reading.{plain_at, behind_word, number_at, span_at, name_at, literal_word_at, at_end, number_line, entry_line, int_form, list_form, text_form, form_behind, form_at, param_name, param_line, item_at}
+use Rattle.bounds_reader.specs.Items.{Item, width, turns, depth, cap, entry, param, compare, is_short, is_plain_name, form_words, item_words, is_proper_form, is_proper, place_of, SpellsItem, number_word}
+use Rattle.bounds_reader.specs.Reading.{plain_at, behind_word, number_at, span_at, name_at, literal_word_at, at_end, number_line, entry_line, int_form, list_form, text_form, form_behind, form_at, param_name, param_line, compare_line, compare_or_param, item_at}
 use Rattle.bounds_reader.proofs.Steps.{bind_some, map_some, when_some}
 use Rattle.bounds_reader.proofs.WordLaws.{plain_takes, plain_again, word_takes, word_again, number_at_takes, number_at_again, span_at_takes, span_at_again, name_takes, name_again, literal_word_takes, literal_word_again, not_nothing}
 
@@ -142,6 +142,33 @@ param_again line x f c h =
     let both = and_parts (is_plain_name x) (is_proper_form f) h in
     rw (word_again (codes "param") line c.0 c.1, name_again c.0 x c.2.0 c.2.1 both.0, form_again c.2.0 f c.2.2 both.1) refl
 
+compare_takes : (line : List ℕ) (z : ℤ) → compare_line line ≡ Some z → Carries line (item_words (compare z)) × (is_short z ≡ true)
+unfolding compare_line
+compare_takes line z e =
+    let rest = bind_some (behind_word (codes "compare") line) (number_line (codes "printed")) z e in
+    let number = number_line_takes (codes "printed") rest.0 z rest.2 in
+    ((rest.0, word_takes (codes "compare") line rest.0 rest.1, number.0), number.1)
+
+compare_again : (line : List ℕ) (z : ℤ) → Carries line (item_words (compare z)) → is_short z ≡ true → compare_line line ≡ Some z
+unfolding compare_line
+compare_again line z c h =
+    rw (word_again (codes "compare") line c.0 c.1, number_line_again (codes "printed") c.0 z c.2 h) refl
+
+-- the line of a parameter says nothing of what is compared
+param_not_compare : (line x : List ℕ) (f : Form) → Carries line (item_words (param x f)) → compare_line line ≡ None
+unfolding compare_line behind_word
+param_not_compare line x f c = rw (plain_again line (codes "param") c.0 c.1) refl
+
+compare_or_param_takes : (line : List ℕ) (o : Option ℤ) (i : Item) → compare_line line ≡ o → compare_or_param o line ≡ Some i → SpellsItem place.Param line i
+compare_or_param_takes line (Some z) i is e =
+    let taken = compare_takes line z is in
+    let same : compare z ≡ i = cc in
+    subst (SpellsItem place.Param line) same (record { words = taken.0; proper = taken.1; place = refl })
+compare_or_param_takes line None i is e =
+    let x = map_some (λ x. param x.0 x.1) (param_line line) i e in
+    let taken = param_takes line x.0 x.1 in
+    subst (SpellsItem place.Param line) x.2 (record { words = taken.0; proper = taken.1; place = refl })
+
 -- items
 
 number_item : (p : Place) (word line : List ℕ) (make : ℤ → Item) → ((z : ℤ) → item_words (make z) ≡ plain word ∷ number_word z ∷ []) → ((z : ℤ) → is_proper (make z) ≡ is_short z) → ((z : ℤ) → place_of (make z) ≡ p)
@@ -162,10 +189,8 @@ item_takes place.Entry line i e =
     let x = map_some entry (entry_line line) i e in
     let taken = entry_takes line x.0 x.1 in
     subst (SpellsItem place.Entry line) x.2 (record { words = taken.0; proper = taken.1; place = refl })
-item_takes place.Param line i e =
-    let x = map_some (λ x. param x.0 x.1) (param_line line) i e in
-    let taken = param_takes line x.0 x.1 in
-    subst (SpellsItem place.Param line) x.2 (record { words = taken.0; proper = taken.1; place = refl })
+item_takes place.Param line i e = compare_or_param_takes line (compare_line line) i refl e
+item_takes place.End line i e = absurd cc
 
 at_own_place : (line : List ℕ) (i : Item) → Carries line (item_words i) → is_proper i ≡ true → item_at (place_of i) line ≡ Some i
 unfolding item_at
@@ -174,7 +199,8 @@ at_own_place line (turns z) c h = rw (number_line_again (codes "turns") line z c
 at_own_place line (depth z) c h = rw (number_line_again (codes "depth") line z c h) refl
 at_own_place line (cap z) c h = rw (number_line_again (codes "cap") line z c h) refl
 at_own_place line (entry x) c h = rw (entry_again line x c h) refl
-at_own_place line (param x f) c h = rw (param_again line x f c h) refl
+at_own_place line (param x f) c h = rw (param_not_compare line x f c, param_again line x f c h) refl
+at_own_place line (compare z) c h = rw (compare_again line z c h) refl
 
 pub item_again : (p : Place) (line : List ℕ) (i : Item) → SpellsItem p line i → item_at p line ≡ Some i
 item_again p line i s = subst (λ q. item_at q line ≡ Some i) s.place (at_own_place line i s.words s.proper)
@@ -186,6 +212,7 @@ first_word (depth z) = (_, _, refl)
 first_word (cap z) = (_, _, refl)
 first_word (entry x) = (_, _, refl)
 first_word (param x f) = (_, _, refl)
+first_word (compare z) = (_, _, refl)
 
 -- a line that spells an item carries something
 pub item_words_some : (p : Place) (line : List ℕ) (i : Item) → SpellsItem p line i → carries_nothing line ≡ false

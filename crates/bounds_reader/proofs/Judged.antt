@@ -1,6 +1,6 @@
 -- Each text spells bounds or is refused, for one cause at one line.
-use Rattle.std.proofs.Common.{IfErr, OnOk, ◌≡◌, ◌≤◌, ◌+◌, ℕ, true, false, List, [], ◌∷◌, ◌++◌, length, map, Option, None, Some, Result, Ok, Err, refl, sym, ap, subst, ◌∙◌, ℤ, pos, inl, inr, arith, lit≤}
-use Rattle.std.specs.Prelude.{nat_abs}
+use Rattle.std.proofs.Common.{IfErr, OnOk, ◌≡◌, ◌≤◌, ◌+◌, ℕ, true, false, List, [], ◌∷◌, ◌++◌, length, map, Option, None, Some, Result, Ok, Err, refl, sym, ap, subst, ◌∙◌, ℤ, pos, inl, inr, arith}
+use Rattle.std.specs.Prelude.{◌⊎◌, nat_abs}
 use Rattle.std.proofs.lemmas.Bool.{cases_Bool, cases_lt}
 use Rattle.mpy_tree.specs.declared.limits.Limits.{Limits}
 use Rattle.mpy_tree.specs.declared.refusal.Cause.{Cause}
@@ -13,12 +13,12 @@ use Rattle.bounds_reader.specs.declared.bounds_error.BoundsError.{BoundsError}
 use Rattle.bounds_reader.specs.declared.bounds_error.BoundsError.TheVariants as bounds_error
 use Rattle.bounds_reader.specs.Forms.{Form, int, bool, list, text, form_of}
 use Rattle.bounds_reader.specs.Words.{carries_nothing}
-use Rattle.bounds_reader.specs.Items.{Item, width, turns, depth, cap, entry, param, next, place_of, SpellsItem}
+use Rattle.bounds_reader.specs.Items.{Item, width, turns, depth, cap, entry, param, compare, behind, place_of, SpellsItem}
 use Rattle.bounds_reader.specs.Reading.{item_at}
-use Rattle.bounds_reader.specs.Files.{On, on, ParamLine, BoundsFile, text_lines, has_faulty_byte, first_line, byte_fault, SpellItems, no_lines, no_words, an_item, param_items, items_of, limit_fault, range_fault, place_behind, IsUnexpected, HasSyntaxFault, unexpected, missing, SayLimits, Says, IsRead, IsBounds, IsRefused, by_byte, by_syntax, by_limit, by_range, IsAnswered, IsGiven, IsRefusal}
+use Rattle.bounds_reader.specs.Files.{On, on, ParamLine, BoundsFile, text_lines, has_faulty_byte, first_line, byte_fault, SpellItems, no_lines, no_words, an_item, param_items, compare_items, items_of, limit_fault, range_fault, place_behind, IsUnexpected, HasSyntaxFault, unexpected, missing, SayPrints, SayLimits, Says, IsRead, IsBounds, IsRefused, by_byte, by_syntax, by_limit, by_range, IsAnswered, IsGiven, IsRefusal}
 use Rattle.bounds_reader.specs.declared.foreign.Mode.TheVariants.{Plain}
 use Rattle.bounds_reader.specs.Modes.{has_fault_from}
-use Rattle.bounds_reader.specs.Views.{HaveLengths, HasLengths, IsMisspelled}
+use Rattle.bounds_reader.specs.Views.{HaveLengths, HasLengths, MayCompare, IsMisspelled}
 use Rattle.bounds_reader.proofs.Modes.{same_first}
 use Rattle.bounds_reader.specs.BoundsLaws.{OneBounds, IsJudged, ReadOrRefused, NotReadAndRefused, OneRefusal}
 use Rattle.bounds_reader.proofs.ItemLaws.{item_takes}
@@ -95,14 +95,14 @@ behind_nothing p n l ls h (all_spelled is s) = all_spelled is (no_words p n l ls
 behind_nothing p n l ls h (one_wrong before m rest is e s u) =
     one_wrong (l ∷ before) m rest is (ap (λ (xs : List (List ℕ)). l ∷ xs) e) (no_words p n l before is h s) u
 
-behind_item : (p : Place) (n : ℕ) (l : List ℕ) (ls : List (List ℕ)) (i : Item) → SpellsItem p l i → LinesRead (next p) (n + 1) ls → LinesRead p n (l ∷ ls)
+behind_item : (p : Place) (n : ℕ) (l : List ℕ) (ls : List (List ℕ)) (i : Item) → SpellsItem p l i → LinesRead (behind i) (n + 1) ls → LinesRead p n (l ∷ ls)
 behind_item p n l ls i h (all_spelled is s) = all_spelled (on n i ∷ is) (an_item p n l ls i is h s)
 behind_item p n l ls i h (one_wrong before m rest is e s u) =
     one_wrong (l ∷ before) m rest (on n i ∷ is) (ap (λ (xs : List (List ℕ)). l ∷ xs) e) (an_item p n l before i is h s) u
 
 some_line : (p : Place) (n : ℕ) (l : List ℕ) (ls : List (List ℕ)) (o : Option Item) → carries_nothing l ≡ false → item_at p l ≡ o → ((q : Place) → LinesRead q (n + 1) ls) → LinesRead p n (l ∷ ls)
 some_line p n l ls None some e more = one_wrong [] l ls [] refl (no_lines p n) (none_expected p l some e)
-some_line p n l ls (Some i) some e more = behind_item p n l ls i (item_takes p l i e) (more (next p))
+some_line p n l ls (Some i) some e more = behind_item p n l ls i (item_takes p l i e) (more (behind i))
 
 lines_read : (p : Place) (n : ℕ) (ls : List (List ℕ)) → LinesRead p n ls
 lines_read p n [] = all_spelled [] (no_lines p n)
@@ -120,6 +120,7 @@ a_width (depth z) e = absurd cc
 a_width (cap z) e = absurd cc
 a_width (entry x) e = absurd cc
 a_width (param x f) e = absurd cc
+a_width (compare z) e = absurd cc
 
 a_turns : (i : Item) → place_of i ≡ place.Turns → (z : ℤ) × (i ≡ turns z)
 a_turns (turns z) e = (z, refl)
@@ -128,6 +129,7 @@ a_turns (depth z) e = absurd cc
 a_turns (cap z) e = absurd cc
 a_turns (entry x) e = absurd cc
 a_turns (param x f) e = absurd cc
+a_turns (compare z) e = absurd cc
 
 a_depth : (i : Item) → place_of i ≡ place.Depth → (z : ℤ) × (i ≡ depth z)
 a_depth (depth z) e = (z, refl)
@@ -136,6 +138,7 @@ a_depth (turns z) e = absurd cc
 a_depth (cap z) e = absurd cc
 a_depth (entry x) e = absurd cc
 a_depth (param x f) e = absurd cc
+a_depth (compare z) e = absurd cc
 
 a_cap : (i : Item) → place_of i ≡ place.Cap → (z : ℤ) × (i ≡ cap z)
 a_cap (cap z) e = (z, refl)
@@ -144,6 +147,7 @@ a_cap (turns z) e = absurd cc
 a_cap (depth z) e = absurd cc
 a_cap (entry x) e = absurd cc
 a_cap (param x f) e = absurd cc
+a_cap (compare z) e = absurd cc
 
 an_entry : (i : Item) → place_of i ≡ place.Entry → (x : List ℕ) × (i ≡ entry x)
 an_entry (entry x) e = (x, refl)
@@ -152,33 +156,67 @@ an_entry (turns z) e = absurd cc
 an_entry (depth z) e = absurd cc
 an_entry (cap z) e = absurd cc
 an_entry (param x f) e = absurd cc
+an_entry (compare z) e = absurd cc
 
-a_param : (i : Item) → place_of i ≡ place.Param → (x : List ℕ) × (f : Form) × (i ≡ param x f)
-a_param (param x f) e = (x, f, refl)
-a_param (width z) e = absurd cc
-a_param (turns z) e = absurd cc
-a_param (depth z) e = absurd cc
-a_param (cap z) e = absurd cc
-a_param (entry x) e = absurd cc
+a_last : (i : Item) → place_of i ≡ place.Param → ((x : List ℕ) × (f : Form) × (i ≡ param x f)) ⊎ ((z : ℤ) × (i ≡ compare z))
+a_last (param x f) e = inl (x, f, refl)
+a_last (compare z) e = inr (z, refl)
+a_last (width z) e = absurd cc
+a_last (turns z) e = absurd cc
+a_last (depth z) e = absurd cc
+a_last (cap z) e = absurd cc
+a_last (entry x) e = absurd cc
+
+none_at_end : (i : Item) → place_of i ≡ place.End → ⊥
+none_at_end (width z) e = cc
+none_at_end (turns z) e = cc
+none_at_end (depth z) e = cc
+none_at_end (cap z) e = cc
+none_at_end (entry x) e = cc
+none_at_end (param x f) e = cc
+none_at_end (compare z) e = cc
 
 -- the items have the places in order
 abbrev InOrder : Place → List (On Item) → Type 0
 InOrder p [] = Unit {0}
-InOrder p (i ∷ is) = (place_of i.value ≡ p) × InOrder (next p) is
+InOrder p (i ∷ is) = (place_of i.value ≡ p) × InOrder (behind i.value) is
 
 in_order : (p : Place) (n : ℕ) (ls : List (List ℕ)) (is : List (On Item)) → SpellItems p n ls is → InOrder p is
 in_order p n [] is (no_lines _ _) = tt
 in_order p n (l ∷ ls) is (no_words _ _ _ _ _ h rest) = in_order p (n + 1) ls is rest
-in_order p n (l ∷ ls) (_ ∷ is) (an_item _ _ _ _ i _ s rest) = (s.place, in_order (next p) (n + 1) ls is rest)
+in_order p n (l ∷ ls) (_ ∷ is) (an_item _ _ _ _ i _ s rest) = (s.place, in_order (behind i) (n + 1) ls is rest)
 
-params_only : (is : List (On Item)) → InOrder place.Param is → (ps : List (On ParamLine)) × (is ≡ param_items ps)
-params_only [] h = ([], refl)
-params_only (i ∷ is) h =
-    let first = a_param i.value h.0 in
-    let more = params_only is h.1 in (
-      on i.line (record { name = first.0; form = first.1 }) ∷ more.0,
-      ap (λ v. on i.line v ∷ is) first.2 ∙ ap (λ (js : List (On Item)). on i.line (param first.0 first.1) ∷ js) more.1,
-    )
+nothing_at_end : (p : Place) (is : List (On Item)) → p ≡ place.End → InOrder p is → is ≡ []
+nothing_at_end p [] e h = refl
+nothing_at_end p (i ∷ is) e h = absurd (none_at_end i.value (h.0 ∙ e))
+
+-- parameters, and what is compared
+pub record LastItems (is : List (On Item)) : Type 0 where
+  pub params : List (On ParamLine)
+  pub compared : Option (On ℤ)
+  pub same : is ≡ param_items params ++ compare_items compared
+
+one_more : (i : On Item) (is : List (On Item)) → ((x : List ℕ) × (f : Form) × (i.value ≡ param x f)) ⊎ ((z : ℤ) × (i.value ≡ compare z)) → InOrder (behind i.value) is
+    → ((q : Place) → q ≡ place.Param → InOrder q is → LastItems is)
+    → LastItems (i ∷ is)
+one_more i is (inl a) h others =
+    let more = others (behind i.value) (ap behind a.2) h in
+    record {
+      params = on i.line (record { name = a.0; form = a.1 }) ∷ more.params;
+      compared = more.compared;
+      same = ap (λ v. on i.line v ∷ is) a.2 ∙ ap (λ (js : List (On Item)). on i.line (param a.0 a.1) ∷ js) more.same;
+    }
+one_more i is (inr a) h others =
+    let none = nothing_at_end (behind i.value) is (ap behind a.1) h in
+    record {
+      params = [];
+      compared = Some (on i.line a.0);
+      same = ap (λ v. on i.line v ∷ is) a.1 ∙ ap (λ (js : List (On Item)). on i.line (compare a.0) ∷ js) none;
+    }
+
+last_items : (p : Place) (is : List (On Item)) → p ≡ place.Param → InOrder p is → LastItems is
+last_items p [] e h = record { params = []; compared = None; same = refl }
+last_items p (i ∷ is) e h = one_more i is (a_last i.value (h.0 ∙ e)) h.1 (λ q. last_items q is)
 
 whole : (is : List (On Item)) → InOrder place.Width is → 5 ≤ length is → (f : BoundsFile) × (is ≡ items_of f)
 whole [] h few = absurd (omega arith)
@@ -188,13 +226,13 @@ whole (a ∷ b ∷ c ∷ []) h few = absurd (omega arith)
 whole (a ∷ b ∷ c ∷ d ∷ []) h few = absurd (omega arith)
 whole (a ∷ b ∷ c ∷ d ∷ e ∷ ps) h few =
     let w = a_width a.value h.0 in
-    let t = a_turns b.value h.1.0 in
-    let k = a_depth c.value h.1.1.0 in
-    let m = a_cap d.value h.1.1.1.0 in
-    let x = an_entry e.value h.1.1.1.1.0 in
-    let more = params_only ps h.1.1.1.1.1 in (
-      record { width = on a.line w.0; turns = on b.line t.0; depth = on c.line k.0; cap = on d.line m.0; entry = on e.line x.0; params = more.0 },
-      five a b c d e ps (width w.0) (turns t.0) (depth k.0) (cap m.0) (entry x.0) (param_items more.0) w.1 t.1 k.1 m.1 x.1 more.1,
+    let t = a_turns b.value (h.1.0 ∙ ap behind w.1) in
+    let k = a_depth c.value (h.1.1.0 ∙ ap behind t.1) in
+    let m = a_cap d.value (h.1.1.1.0 ∙ ap behind k.1) in
+    let x = an_entry e.value (h.1.1.1.1.0 ∙ ap behind m.1) in
+    let more = last_items (behind e.value) ps (ap behind x.1) h.1.1.1.1.1 in (
+      record { width = on a.line w.0; turns = on b.line t.0; depth = on c.line k.0; cap = on d.line m.0; entry = on e.line x.0; params = more.params; compared = more.compared },
+      five a b c d e ps (width w.0) (turns t.0) (depth k.0) (cap m.0) (entry x.0) (param_items more.params ++ compare_items more.compared) w.1 t.1 k.1 m.1 x.1 more.same,
     )
   where
     five : (a b c d e : On Item) (ps : List (On Item)) (v w x y z : Item) (qs : List (On Item)) → a.value ≡ v → b.value ≡ w → c.value ≡ x → d.value ≡ y → e.value ≡ z → ps ≡ qs
@@ -219,12 +257,21 @@ forms_again (p ∷ ps) h =
     ap (λ f. f ∷ map form_of (map (λ q. form_back q.value.form) ps)) (form_again p.value.form h.0)
     ∙ ap (λ (fs : List Form). p.value.form ∷ fs) (forms_again ps h.1)
 
+abbrev prints_of : Option (On ℤ) → ℕ
+prints_of None = 0
+prints_of (Some z) = nat_abs z.value
+
+prints_said : (o : Option (On ℤ)) → MayCompare o → SayPrints o (prints_of o) × (prints_of o ≤ 8)
+prints_said None h = (refl, omega arith)
+prints_said (Some z) h = (sym h.value, h.most)
+
 some_bounds : (f : BoundsFile) → limit_fault f ≡ None → range_fault f ≡ None → (b : Bounds) × Says f b
 some_bounds f l r =
     let w = are_within f r in
-    let limits : Limits = limits_of (nat_abs f.width.value, nat_abs f.turns.value, nat_abs f.depth.value, nat_abs f.cap.value, 0)
-    ((w.width.least, w.width.most), (w.turns.least, w.turns.most), (w.depth.least, w.depth.most), (w.cap.least, w.cap.most), lit≤ tt) in
-    let said : SayLimits f limits = record { width = sym w.width.value; turns = sym w.turns.value; depth = sym w.depth.value; cap = sym w.cap.value; prints = refl } in
+    let kept = prints_said f.compared w.compared in
+    let limits : Limits = limits_of (nat_abs f.width.value, nat_abs f.turns.value, nat_abs f.depth.value, nat_abs f.cap.value, prints_of f.compared)
+    ((w.width.least, w.width.most), (w.turns.least, w.turns.most), (w.depth.least, w.depth.most), (w.cap.least, w.cap.most), kept.1) in
+    let said : SayLimits f limits = record { width = sym w.width.value; turns = sym w.turns.value; depth = sym w.depth.value; cap = sym w.cap.value; prints = kept.0 } in
     let params : List Param = map (λ p. form_back p.value.form) f.params in
     let same = forms_again f.params (file_lengths f r) in (
       record {

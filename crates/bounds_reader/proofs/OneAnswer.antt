@@ -1,5 +1,5 @@
 -- A text spells one file at most, and has one fault of syntax at most, and not both.
-use Rattle.std.proofs.Common.{◌≡◌, ◌<◌, ◌≤◌, ◌+◌, ℕ, Bool, true, false, List, [], ◌∷◌, ◌++◌, length, map, refl, sym, ap, subst, ◌∙◌, ℤ, pos, inl, inr, add-zero, arith}
+use Rattle.std.proofs.Common.{◌≡◌, ◌<◌, ◌≤◌, ◌+◌, ℕ, Bool, true, false, List, [], ◌∷◌, ◌++◌, length, map, Option, None, Some, refl, sym, ap, subst, ◌∙◌, ℤ, pos, inl, inr, add-zero, arith}
 use Rattle.std.specs.Prelude.{nat_abs}
 use Rattle.std.proofs.Math.Bridge.{le_prop}
 use Rattle.std.proofs.Math.Bool.{Bool-set}
@@ -13,8 +13,8 @@ use Rattle.bounds_reader.specs.declared.place.Place.{Place}
 use Rattle.bounds_reader.specs.declared.place.Place.TheVariants as place
 use Rattle.bounds_reader.specs.declared.bounds.Bounds.{Bounds}
 use Rattle.bounds_reader.specs.Forms.{Form, int, bool, list, text, form_of}
-use Rattle.bounds_reader.specs.Items.{Item, width, turns, depth, cap, entry, param as parameter, next, SpellsItem}
-use Rattle.bounds_reader.specs.Files.{On, on, ParamLine, BoundsFile, SpellItems, no_lines, no_words, an_item, param_items, items_of, place_behind, IsUnexpected, HasSyntaxFault, unexpected, missing, Says}
+use Rattle.bounds_reader.specs.Items.{Item, width, turns, depth, cap, entry, param as parameter, compare, behind, SpellsItem}
+use Rattle.bounds_reader.specs.Files.{On, on, ParamLine, BoundsFile, SpellItems, no_lines, no_words, an_item, param_items, compare_items, items_of, place_behind, IsUnexpected, HasSyntaxFault, unexpected, missing, SayPrints, Says}
 use Rattle.bounds_reader.proofs.ItemLaws.{item_again, item_words_some}
 
 -- a line spells one item at most
@@ -28,24 +28,24 @@ one_spelling p n (l ∷ ls) is (_ ∷ js) (no_words _ _ _ _ _ h rest) (an_item _
 one_spelling p n (l ∷ ls) (_ ∷ is) js (an_item _ _ _ _ i _ s rest) (no_words _ _ _ _ _ h more) = absurd (false≢true (sym (item_words_some p l i s) ∙ h))
 one_spelling p n (l ∷ ls) (_ ∷ is) (_ ∷ js) (an_item _ _ _ _ i _ s rest) (an_item _ _ _ _ j _ t more) =
     let same = same_item p l i j s t in
-    let others = one_spelling (next p) (n + 1) ls is js rest more in
+    let others = one_spelling (behind i) (n + 1) ls is js rest (subst (λ k. SpellItems (behind k) (n + 1) ls js) (sym same) more) in
     ap (λ k. on n k ∷ is) same ∙ ap (λ (ks : List (On Item)). on n j ∷ ks) others
 
--- what is spelled by the lines before, and by those behind
-pub record Parts (p : Place) (n : ℕ) (before behind : List (List ℕ)) (is : List (On Item)) : Type 0 where
+-- what is spelled by the lines before, and by those after them
+pub record Parts (p : Place) (n : ℕ) (before later : List (List ℕ)) (is : List (On Item)) : Type 0 where
   pub front : List (On Item)
   pub back : List (On Item)
   pub first : SpellItems p n before front
-  pub second : SpellItems (place_behind p front) (n + length before) behind back
+  pub second : SpellItems (place_behind p front) (n + length before) later back
 
-pub parts_of : (p : Place) (n : ℕ) (before behind : List (List ℕ)) (is : List (On Item)) → SpellItems p n (before ++ behind) is → Parts p n before behind is
-parts_of p n [] behind is s = record { front = []; back = is; first = no_lines p n; second = subst (λ k. SpellItems p k behind is) (sym (add-zero n)) s }
-parts_of p n (l ∷ before) behind is (no_words _ _ _ _ _ h rest) =
-    let more = parts_of p (n + 1) before behind is rest in
-    record { front = more.front; back = more.back; first = no_words p n l before more.front h more.first; second = subst (λ k. SpellItems (place_behind p more.front) k behind more.back) (omega arith) more.second }
-parts_of p n (l ∷ before) behind (_ ∷ is) (an_item _ _ _ _ i _ s rest) =
-    let more = parts_of (next p) (n + 1) before behind is rest in
-    record { front = on n i ∷ more.front; back = more.back; first = an_item p n l before i more.front s more.first; second = subst (λ k. SpellItems (place_behind (next p) more.front) k behind more.back) (omega arith) more.second }
+pub parts_of : (p : Place) (n : ℕ) (before later : List (List ℕ)) (is : List (On Item)) → SpellItems p n (before ++ later) is → Parts p n before later is
+parts_of p n [] later is s = record { front = []; back = is; first = no_lines p n; second = subst (λ k. SpellItems p k later is) (sym (add-zero n)) s }
+parts_of p n (l ∷ before) later is (no_words _ _ _ _ _ h rest) =
+    let more = parts_of p (n + 1) before later is rest in
+    record { front = more.front; back = more.back; first = no_words p n l before more.front h more.first; second = subst (λ k. SpellItems (place_behind p more.front) k later more.back) (omega arith) more.second }
+parts_of p n (l ∷ before) later (_ ∷ is) (an_item _ _ _ _ i _ s rest) =
+    let more = parts_of (behind i) (n + 1) before later is rest in
+    record { front = on n i ∷ more.front; back = more.back; first = an_item p n l before i more.front s more.first; second = subst (λ k. SpellItems (place_behind (behind i) more.front) k later more.back) (omega arith) more.second }
 
 refused_line : (p : Place) (n : ℕ) (l : List ℕ) (rest : List (List ℕ)) (is : List (On Item)) → IsUnexpected p l → SpellItems p n (l ∷ rest) is → ⊥
 refused_line p n l rest is u (no_words _ _ _ _ _ h more) = false≢true (sym u.words ∙ h)
@@ -98,37 +98,55 @@ number_in (width z) = z
 number_in (turns z) = z
 number_in (depth z) = z
 number_in (cap z) = z
+number_in (compare z) = z
 number_in _ = pos 0
 
 abbrev name_in : Item → List ℕ
 name_in (entry x) = x
-name_in (parameter x f) = x
 name_in _ = []
 
-abbrev form_in : Item → Form
-form_in (parameter x f) = f
-form_in _ = bool
+abbrev with_param : ℕ → Item → List (On ParamLine) → List (On ParamLine)
+with_param line (parameter x f) ps = on line (record { name = x; form = f }) ∷ ps
+with_param line _ ps = ps
 
-abbrev param_in : On Item → On ParamLine
-param_in i = on i.line (record { name = name_in i.value; form = form_in i.value })
+abbrev with_compared : ℕ → Item → Option (On ℤ) → Option (On ℤ)
+with_compared line (compare z) o = Some (on line z)
+with_compared line _ o = o
+
+abbrev params_in : List (On Item) → List (On ParamLine)
+params_in [] = []
+params_in (i ∷ is) = with_param i.line i.value (params_in is)
+
+abbrev compared_in : List (On Item) → Option (On ℤ)
+compared_in [] = None
+compared_in (i ∷ is) = with_compared i.line i.value (compared_in is)
 
 abbrev file_in : List (On Item) → BoundsFile → BoundsFile
-file_in (a ∷ b ∷ c ∷ d ∷ e ∷ ps) other = record {
+file_in (a ∷ b ∷ c ∷ d ∷ e ∷ rest) other = record {
   width = on a.line (number_in a.value);
   turns = on b.line (number_in b.value);
   depth = on c.line (number_in c.value);
   cap = on d.line (number_in d.value);
   entry = on e.line (name_in e.value);
-  params = map param_in ps;
+  params = params_in rest;
+  compared = compared_in rest;
 }
 file_in _ other = other
 
-params_back : (ps : List (On ParamLine)) → map param_in (param_items ps) ≡ ps
-params_back [] = refl
-params_back (p ∷ ps) = ap (λ (qs : List (On ParamLine)). p ∷ qs) (params_back ps)
+params_back : (ps : List (On ParamLine)) (o : Option (On ℤ)) → params_in (param_items ps ++ compare_items o) ≡ ps
+params_back [] None = refl
+params_back [] (Some z) = refl
+params_back (p ∷ ps) o = ap (λ (qs : List (On ParamLine)). p ∷ qs) (params_back ps o)
+
+compared_back : (ps : List (On ParamLine)) (o : Option (On ℤ)) → compared_in (param_items ps ++ compare_items o) ≡ o
+compared_back [] None = refl
+compared_back [] (Some z) = refl
+compared_back (p ∷ ps) o = compared_back ps o
 
 file_back : (f other : BoundsFile) → file_in (items_of f) other ≡ f
-file_back f other = ap (λ ps. record f { params = ps }) (params_back f.params)
+file_back f other =
+    ap (λ ps. record f { params = ps; compared = compared_in (param_items f.params ++ compare_items f.compared) }) (params_back f.params f.compared)
+    ∙ ap (λ o. record f { compared = o }) (compared_back f.params f.compared)
 
 pub one_file : (ls : List (List ℕ)) (f g : BoundsFile) → SpellItems place.Width 1 ls (items_of f) → SpellItems place.Width 1 ls (items_of g) → f ≡ g
 one_file ls f g s t =
@@ -218,11 +236,15 @@ one_keeping s = hlevel (le_prop, Bool-set)
 same_said : (a b : Limits) (x y : List ℕ) (m n : ℕ) (ps qs : List Param) → a ≡ b → x ≡ y → m ≡ n → ps ≡ qs → ◌≡◌ {A = Said} (a, x, m, ps) (b, y, n, qs)
 same_said a b x y m n ps qs e f g h = cc
 
+same_prints : (o : Option (On ℤ)) (m n : ℕ) → SayPrints o m → SayPrints o n → m ≡ n
+same_prints None m n s t = s ∙ sym t
+same_prints (Some z) m n s t = same_pos m n (sym s ∙ t)
+
 pub one_meaning : (f : BoundsFile) (a b : Bounds) → Says f a → Says f b → a ≡ b
 one_meaning f a b s t =
     let limits = same_limits a.limits b.limits
     (same_pos _ _ (sym s.limits.width ∙ t.limits.width)) (same_pos _ _ (sym s.limits.turns ∙ t.limits.turns))
-    (same_pos _ _ (sym s.limits.depth ∙ t.limits.depth)) (same_pos _ _ (sym s.limits.cap ∙ t.limits.cap)) (s.limits.prints ∙ sym t.limits.prints) in
+    (same_pos _ _ (sym s.limits.depth ∙ t.limits.depth)) (same_pos _ _ (sym s.limits.cap ∙ t.limits.cap)) (same_prints f.compared _ _ s.limits.prints t.limits.prints) in
     over AreKept bounds_of one_keeping (a.limits, a.entry, a.entry_line, a.params) (b.limits, b.entry, b.entry_line, b.params)
     (same_said _ _ _ _ _ _ _ _ limits (sym s.entry ∙ t.entry) (sym s.entry_line ∙ t.entry_line) (same_params _ _ (sym s.params ∙ t.params)))
     (a.short_entry, a.few_params, a.ranges) (b.short_entry, b.few_params, b.ranges)

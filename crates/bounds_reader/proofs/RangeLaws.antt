@@ -9,8 +9,8 @@ use Rattle.mpy_tree.specs.NameLengths.{is_long}
 use Rattle.bounds_reader.specs.declared.params.Param.{Param}
 use Rattle.bounds_reader.specs.Forms.{Form, int, bool, list, text, form_of}
 use Rattle.bounds_reader.specs.Ranges.{are_numbers, are_lengths, is_alphabet, is_in_range, are_in_range}
-use Rattle.bounds_reader.specs.Files.{On, ParamLine, BoundsFile, is_outside, param_range_fault, range_fault, param_limit_fault, limit_fault, SayLimits}
-use Rattle.bounds_reader.specs.Views.{IsNatural, HasLengths, HaveLengths, IsWithin, AreWithin}
+use Rattle.bounds_reader.specs.Files.{On, ParamLine, BoundsFile, is_outside, param_range_fault, compare_range_fault, or_line, range_fault, param_limit_fault, limit_fault, SayLimits}
+use Rattle.bounds_reader.specs.Views.{IsNatural, HasLengths, HaveLengths, IsWithin, MayCompare, AreWithin}
 
 inside : (least most : ℕ) (z : ℤ) → is_outside least most z ≡ false → IsWithin least most z
 inside least most (pos n) h =
@@ -22,25 +22,45 @@ passed : (test : Bool) (line : ℕ) (others : Option ℕ) → cond test (Some li
 passed true line others e = absurd cc
 passed false line others e = (refl, e)
 
-pub are_within : (f : BoundsFile) → range_fault f ≡ None → AreWithin f
-are_within f e =
+none_of_both : (a b : Option ℕ) → or_line a b ≡ None → (a ≡ None) × (b ≡ None)
+none_of_both None b e = (refl, e)
+none_of_both (Some n) b e = absurd cc
+
+compared_within : (o : Option (On ℤ)) → compare_range_fault o ≡ None → MayCompare o
+compared_within None e = tt
+compared_within (Some z) e = inside 1 8 z.value (passed (is_outside 1 8 z.value) z.line None e).0
+
+-- no fault of the limits, of parameters and of what is compared
+pub record NoRangeFault (f : BoundsFile) : Type 0 where
+  pub width : is_outside 3 16 f.width.value ≡ false
+  pub turns : is_outside 1 32 f.turns.value ≡ false
+  pub depth : is_outside 1 8 f.depth.value ≡ false
+  pub cap : is_outside 1 16 f.cap.value ≡ false
+  pub params : param_range_fault (nat_abs f.width.value) (nat_abs f.cap.value) f.params ≡ None
+  pub compared : compare_range_fault f.compared ≡ None
+
+no_range_fault : (f : BoundsFile) → range_fault f ≡ None → NoRangeFault f
+no_range_fault f e =
     let width = passed (is_outside 3 16 f.width.value) f.width.line _ e in
     let turns = passed (is_outside 1 32 f.turns.value) f.turns.line _ width.1 in
     let depth = passed (is_outside 1 8 f.depth.value) f.depth.line _ turns.1 in
     let cap = passed (is_outside 1 16 f.cap.value) f.cap.line _ depth.1 in
+    let rest = none_of_both (param_range_fault (nat_abs f.width.value) (nat_abs f.cap.value) f.params) (compare_range_fault f.compared) cap.1 in
+    record { width = width.0; turns = turns.0; depth = depth.0; cap = cap.0; params = rest.0; compared = rest.1 }
+
+pub are_within : (f : BoundsFile) → range_fault f ≡ None → AreWithin f
+are_within f e =
+    let none = no_range_fault f e in
     record {
-      width = inside 3 16 f.width.value width.0;
-      turns = inside 1 32 f.turns.value turns.0;
-      depth = inside 1 8 f.depth.value depth.0;
-      cap = inside 1 16 f.cap.value cap.0;
+      width = inside 3 16 f.width.value none.width;
+      turns = inside 1 32 f.turns.value none.turns;
+      depth = inside 1 8 f.depth.value none.depth;
+      cap = inside 1 16 f.cap.value none.cap;
+      compared = compared_within f.compared none.compared;
     }
 
 param_ranges : (f : BoundsFile) → range_fault f ≡ None → param_range_fault (nat_abs f.width.value) (nat_abs f.cap.value) f.params ≡ None
-param_ranges f e =
-    let width = passed (is_outside 3 16 f.width.value) f.width.line _ e in
-    let turns = passed (is_outside 1 32 f.turns.value) f.turns.line _ width.1 in
-    let depth = passed (is_outside 1 8 f.depth.value) f.depth.line _ turns.1 in
-    (passed (is_outside 1 16 f.cap.value) f.cap.line _ depth.1).1
+param_ranges f e = (no_range_fault f e).params
 
 -- forms
 

@@ -20,8 +20,8 @@ use Rattle.bounds_reader.specs.declared.bounds_error.BoundsError.TheVariants as 
 use Rattle.bounds_reader.specs.Forms.{Form, form_of}
 use Rattle.bounds_reader.specs.Ranges.{is_in_range}
 use Rattle.bounds_reader.specs.Words.{carries_nothing}
-use Rattle.bounds_reader.specs.Items.{Item, width, turns, depth, cap, entry, param, next}
-use Rattle.bounds_reader.specs.Items.{SpellsItem}
+use Rattle.bounds_reader.specs.Items.{Item, width, turns, depth, cap, entry, param, compare}
+use Rattle.bounds_reader.specs.Items.{behind, SpellsItem}
 
 -- the physical lines, behind a byte order mark
 abbrev pub text_lines : List ℕ → List (List ℕ)
@@ -57,7 +57,7 @@ pub data SpellItems : Place → ℕ → List (List ℕ) → List (On Item) → T
       → SpellItems p n (l ∷ ls) is
   an_item : (p : Place) (n : ℕ) (l : List ℕ) (ls : List (List ℕ)) (i : Item) (is : List (On Item))
       → SpellsItem p l i
-      → SpellItems (next p) (n + 1) ls is
+      → SpellItems (behind i) (n + 1) ls is
       → SpellItems p n (l ∷ ls) (on n i ∷ is)
 
 pub record ParamLine : Type 0 where
@@ -72,15 +72,24 @@ pub record BoundsFile : Type 0 where
   pub cap : On ℤ
   pub entry : On (List ℕ)
   pub params : List (On ParamLine)
+  pub compared : Option (On ℤ)
 
 abbrev pub param_items : List (On ParamLine) → List (On Item)
 param_items ps = map (λ p. on p.line (param p.value.name p.value.form)) ps
 
-abbrev pub items_of : BoundsFile → List (On Item)
-items_of f =
+abbrev pub compare_items : Option (On ℤ) → List (On Item)
+compare_items None = []
+compare_items (Some z) = on z.line (compare z.value) ∷ []
+
+-- the first five items of a file, and then others
+abbrev pub first_items : BoundsFile → List (On Item) → List (On Item)
+first_items f others =
     on f.width.line (width f.width.value) ∷ on f.turns.line (turns f.turns.value)
     ∷ on f.depth.line (depth f.depth.value) ∷ on f.cap.line (cap f.cap.value)
-    ∷ on f.entry.line (entry f.entry.value) ∷ param_items f.params
+    ∷ on f.entry.line (entry f.entry.value) ∷ others
+
+abbrev pub items_of : BoundsFile → List (On Item)
+items_of f = first_items f (param_items f.params ++ compare_items f.compared)
 
 -- the text spells the file
 abbrev pub SpellsFile : List ℕ → BoundsFile → Type 0
@@ -106,6 +115,15 @@ param_range_fault w c [] = None
 param_range_fault w c (p ∷ ps) =
     if is_in_range w c p.value.form then param_range_fault w c ps else Some p.line
 
+abbrev pub compare_range_fault : Option (On ℤ) → Option ℕ
+compare_range_fault None = None
+compare_range_fault (Some z) = if is_outside 1 8 z.value then Some z.line else None
+
+-- the first line, where there is one, or else the second
+abbrev pub or_line : Option ℕ → Option ℕ → Option ℕ
+or_line None m = m
+or_line (Some n) m = Some n
+
 -- the first line with a number out of its range
 abbrev pub range_fault : BoundsFile → Option ℕ
 range_fault f =
@@ -113,15 +131,22 @@ range_fault f =
     else if is_outside 1 32 f.turns.value then Some f.turns.line
     else if is_outside 1 8 f.depth.value then Some f.depth.line
     else if is_outside 1 16 f.cap.value then Some f.cap.line
-    else param_range_fault (nat_abs f.width.value) (nat_abs f.cap.value) f.params
+    else
+    or_line (param_range_fault (nat_abs f.width.value) (nat_abs f.cap.value) f.params)
+    (compare_range_fault f.compared)
 
--- the limits that the lines say; of what is printed nothing is kept
+-- how many printed values are kept: none, where no line says that they are compared
+abbrev pub SayPrints : Option (On ℤ) → ℕ → Type 0
+SayPrints None n = n ≡ 0
+SayPrints (Some z) n = z.value ≡ pos n
+
+-- the limits that the lines say
 pub record SayLimits (f : BoundsFile) (l : Limits) : Type 0 where
   pub width : f.width.value ≡ pos l.width
   pub turns : f.turns.value ≡ pos l.turns
   pub depth : f.depth.value ≡ pos l.depth
   pub cap : f.cap.value ≡ pos l.cap
-  pub prints : l.prints ≡ 0
+  pub prints : SayPrints f.compared l.prints
 
 -- the file says these bounds; the names of parameters are for its reader alone
 pub record Says (f : BoundsFile) (b : Bounds) : Type 0 where
@@ -146,7 +171,7 @@ pub record IsBounds (bytes : List ℕ) (b : Bounds) : Type 0 where
 -- the place of the next item
 abbrev pub place_behind : Place → List (On Item) → Place
 place_behind p [] = p
-place_behind p (i ∷ is) = place_behind (next p) is
+place_behind p (i ∷ is) = place_behind (behind i.value) is
 
 -- a line with words that spell no item of the place
 pub record IsUnexpected (p : Place) (line : List ℕ) : Type 0 where

@@ -17,6 +17,8 @@ pub data Item : Type 0 where
   cap : (number : ℤ) → Item
   entry : (name : List ℕ) → Item
   param : (name : List ℕ) (form : Form) → Item
+  -- so many printed values are compared
+  compare : (number : ℤ) → Item
 
 abbrev pub number_word : ℤ → Word
 number_word z = plain (signed_decimal z)
@@ -41,6 +43,7 @@ item_words (depth z) = plain (codes "depth") ∷ number_word z ∷ []
 item_words (cap z) = plain (codes "cap") ∷ number_word z ∷ []
 item_words (entry x) = plain (codes "entry") ∷ plain x ∷ []
 item_words (param x f) = plain (codes "param") ∷ plain x ∷ form_words f
+item_words (compare z) = plain (codes "compare") ∷ plain (codes "printed") ∷ number_word z ∷ []
 
 -- a number of at most nine digits
 abbrev pub is_short : ℤ → Bool
@@ -64,7 +67,9 @@ is_proper (depth z) = is_short z
 is_proper (cap z) = is_short z
 is_proper (entry x) = is_plain_name x
 is_proper (param x f) = is_plain_name x && is_proper_form f
+is_proper (compare z) = is_short z
 
+-- where an item stands: what is compared stands where one more parameter might
 abbrev pub place_of : Item → Place
 place_of (width z) = place.Width
 place_of (turns z) = place.Turns
@@ -72,15 +77,18 @@ place_of (depth z) = place.Depth
 place_of (cap z) = place.Cap
 place_of (entry x) = place.Entry
 place_of (param x f) = place.Param
+place_of (compare z) = place.Param
 
--- the place behind: parameters stand behind the entry, as many as there are
-abbrev pub next : Place → Place
-next place.Width = place.Turns
-next place.Turns = place.Depth
-next place.Depth = place.Cap
-next place.Cap = place.Entry
-next place.Entry = place.Param
-next place.Param = place.Param
+-- The place behind an item: parameters stand behind the entry, as many as there are, and nothing
+-- behind what is compared.
+abbrev pub behind : Item → Place
+behind (width z) = place.Turns
+behind (turns z) = place.Depth
+behind (depth z) = place.Cap
+behind (cap z) = place.Entry
+behind (entry x) = place.Param
+behind (param x f) = place.Param
+behind (compare z) = place.End
 
 -- the line spells the item, which has this place
 pub record SpellsItem (p : Place) (line : List ℕ) (i : Item) : Type 0 where

@@ -8,8 +8,8 @@ use Rattle.bounds_reader.specs.declared.place.Place.{Place}
 use Rattle.bounds_reader.specs.declared.place.Place.TheVariants as place
 use Rattle.bounds_reader.specs.Forms.{Form, int, bool, list, text}
 use Rattle.bounds_reader.specs.Words.{is_plain, ends_word, carries_nothing}
-use Rattle.bounds_reader.specs.Items.{Item, width, turns, depth, cap, entry, param, is_short}
-use Rattle.bounds_reader.specs.Items.{is_plain_name}
+use Rattle.bounds_reader.specs.Items.{Item, width, turns, depth, cap, entry, param, compare}
+use Rattle.bounds_reader.specs.Items.{is_short, is_plain_name}
 use Rattle.bounds_reader.specs.Scanning.{◌>>=◌, signed_at, literal_at}
 
 abbrev pub behind_space : List ℕ → List ℕ
@@ -136,6 +136,17 @@ param_line line = do
   f ← form_at x.1
   Some (x.0, f)
 
+-- how many printed values are compared
+unfoldable pub compare_line : List ℕ → Option ℤ
+compare_line line = do
+  rest ← behind_word (codes "compare") line
+  number_line (codes "printed") rest
+
+-- what is compared, or else a parameter
+abbrev pub compare_or_param : Option ℤ → List ℕ → Option Item
+compare_or_param (Some z) line = Some (compare z)
+compare_or_param None line = option_map (λ x. param x.0 x.1) (param_line line)
+
 -- the item that the line spells at the place
 unfoldable pub item_at : Place → List ℕ → Option Item
 item_at place.Width line = option_map width (number_line (codes "width") line)
@@ -143,4 +154,5 @@ item_at place.Turns line = option_map turns (number_line (codes "turns") line)
 item_at place.Depth line = option_map depth (number_line (codes "depth") line)
 item_at place.Cap line = option_map cap (number_line (codes "cap") line)
 item_at place.Entry line = option_map entry (entry_line line)
-item_at place.Param line = option_map (λ x. param x.0 x.1) (param_line line)
+item_at place.Param line = compare_or_param (compare_line line) line
+item_at place.End line = None

@@ -1,13 +1,13 @@
 //! Bounds made of what a file says.
-ghost use Rattle.std.specs.Prelude.{◌≡◌, map, None, IfOk};
+ghost use Rattle.std.specs.Prelude.{◌≡◌, ◌≤◌, map, None, option_map, IfOk};
 ghost use Rattle.bounds_reader.specs.Forms.{form_of};
-ghost use Rattle.bounds_reader.specs.Files.{Says, SayLimits, limit_fault, range_fault};
+ghost use Rattle.bounds_reader.specs.Files.{Says, SayLimits, SayPrints, limit_fault, range_fault};
 ghost use Rattle.bounds_reader.specs.Views.{form_view, param_lines, file_view, HasLengths};
-ghost use Rattle.bounds_reader.specs.Views.{HaveLengths, AreWithin};
+ghost use Rattle.bounds_reader.specs.Views.{HaveLengths, AreWithin, MayCompare, number_line};
 
 use crate::NoMemory;
 use crate::bounds::Bounds;
-use crate::file::{File, ParamLine};
+use crate::file::{File, NumberLine, ParamLine};
 use crate::items::{Form, Named};
 use crate::params::{Param, Params};
 use mpy_tree::Limits;
@@ -58,6 +58,18 @@ fn params_from(alloc: Global, lines: Vec<ParamLine>) -> Result<Vec<Param>, NoMem
     Ok(params)
 }
 
+// How many printed values are kept.
+fn prints_from(compared: &Option<NumberLine>) -> u32
+    requires { MayCompare (option_map number_line compared.now) }
+    ensures says { SayPrints (option_map number_line compared.now) result }
+    ensures most { result ≤ 8 }
+{
+    match compared {
+        None => 0,
+        Some(n) => n.number.unsigned_abs(),
+    }
+}
+
 fn limits_from(file: &File) -> Limits
     requires { AreWithin (file_view file.now) }
     ensures { SayLimits (file_view file.now) result }
@@ -67,7 +79,7 @@ fn limits_from(file: &File) -> Limits
         turns: file.turns.number.unsigned_abs(),
         depth: file.depth.number.unsigned_abs(),
         cap: file.cap.number.unsigned_abs(),
-        prints: 0,
+        prints: prints_from(&file.compared),
     }
 }
 

@@ -1,7 +1,7 @@
 //! What the lines of a bounds file say.
-ghost use Rattle.std.specs.Prelude.{◌≡◌, ◌++◌, [], ◌∷◌, OnOk, IfOk};
+ghost use Rattle.std.specs.Prelude.{◌≡◌, ◌++◌, [], ◌∷◌, None, OnOk, IfOk};
 ghost use Rattle.bounds_reader.specs.Files.{on};
-ghost use Rattle.bounds_reader.specs.Items.{next, place_of};
+ghost use Rattle.bounds_reader.specs.Items.{behind, place_of};
 ghost use Rattle.bounds_reader.specs.Views.{item_view, seen, HasOrder, IsPassed};
 
 use crate::NoMemory;
@@ -42,6 +42,8 @@ pub(crate) struct File {
     pub(crate) cap: NumberLine,
     pub(crate) entry: NameLine,
     pub(crate) params: Vec<ParamLine>,
+    /// How many printed values are compared, if any are.
+    pub(crate) compared: Option<NumberLine>,
 }
 
 impl File {
@@ -49,6 +51,7 @@ impl File {
     pub(crate) fn new(alloc: Global) -> File
         ensures due { result.due ≡ Place.Width }
         ensures empty { result.params.items ≡ [] }
+        ensures uncompared { result.compared ≡ None }
     {
         let unread = NumberLine { line: 0, number: 0 };
         File {
@@ -62,6 +65,7 @@ impl File {
                 name: Name::from_vec(Vec::new(alloc)),
             },
             params: Vec::new(alloc),
+            compared: None,
         }
     }
 
@@ -69,11 +73,12 @@ impl File {
     fn add(&mut self, line: u32, item: Item) -> Result<(), NoMemory>
         requires due { place_of (item_view item) ≡ self.old.due }
         requires order { HasOrder self.old }
-        ensures due { OnOk result (self.new.due ≡ next self.old.due) }
+        ensures due { OnOk result (self.new.due ≡ behind (item_view item)) }
         ensures seen { OnOk result
             (seen self.new ≡ seen self.old ++ on line (item_view item) ∷ []) }
         ensures order { OnOk result (HasOrder self.new) }
     {
+        let due = item.behind();
         match item {
             Item::Width(number) => self.width = NumberLine { line, number },
             Item::Turns(number) => self.turns = NumberLine { line, number },
@@ -81,8 +86,9 @@ impl File {
             Item::Cap(number) => self.cap = NumberLine { line, number },
             Item::Entry(name) => self.entry = NameLine { line, name },
             Item::Param(param) => self.params.push(ParamLine { line, param })?,
+            Item::Compare(number) => self.compared = Some(NumberLine { line, number }),
         }
-        self.due = self.due.next();
+        self.due = due;
         Ok(())
     }
 

@@ -3,9 +3,9 @@ ghost use Rattle.std.specs.Prelude.{◌≡◌, option_map, IfOk, codes};
 ghost use Rattle.bounds_reader.specs.Reading.{number_line, entry_line, int_form, list_form};
 ghost use Rattle.bounds_reader.specs.Reading.{text_form};
 ghost use Rattle.bounds_reader.specs.Reading.{at_end, form_behind, form_at, param_name, param_line};
-ghost use Rattle.bounds_reader.specs.Reading.{item_at};
+ghost use Rattle.bounds_reader.specs.Reading.{compare_line, compare_or_param, item_at};
 ghost use Rattle.bounds_reader.specs.Forms.{bool};
-ghost use Rattle.bounds_reader.specs.Items.{entry};
+ghost use Rattle.bounds_reader.specs.Items.{entry, behind};
 ghost use Rattle.bounds_reader.specs.Views.{form_view, named_view, item_view};
 
 use crate::NoMemory;
@@ -53,6 +53,24 @@ pub(crate) enum Item {
     Cap(i32),
     Entry(Name),
     Param(Named),
+    Compare(i32),
+}
+
+impl Item {
+    /// The place behind it.
+    pub(crate) fn behind(&self) -> Place
+        ensures { result ≡ behind (item_view self.now) }
+    {
+        match self {
+            Item::Width(_) => Place::Turns,
+            Item::Turns(_) => Place::Depth,
+            Item::Depth(_) => Place::Cap,
+            Item::Cap(_) => Place::Entry,
+            Item::Entry(_) => Place::Param,
+            Item::Param(_) => Place::Param,
+            Item::Compare(_) => Place::End,
+        }
+    }
 }
 
 // The number behind the word, if the line has nothing else.
@@ -192,6 +210,25 @@ fn entry_item(alloc: Global, line: &[u8]) -> Result<Option<Item>, NoMemory>
     }
 }
 
+// How many printed values are compared.
+#[tactic(auto, unfolding(crate::specs::Reading::compare_line))]
+fn compare_line(line: &[u8]) -> Option<i32>
+    ensures { result ≡ compare_line line.now }
+{
+    number_line(b"printed", behind_word(b"compare", line)?)
+}
+
+// How many printed values are compared, or else a parameter.
+fn compare_or_param(alloc: Global, line: &[u8]) -> Result<Option<Item>, NoMemory>
+    ensures { IfOk result (λ o. option_map item_view o
+        ≡ compare_or_param (compare_line line.now) line.now) }
+{
+    match compare_line(line) {
+        Some(number) => Ok(Some(Item::Compare(number))),
+        None => Ok(param_line(alloc, line)?.map(Item::Param)),
+    }
+}
+
 /// The item that the line spells at the place, if it spells one.
 #[tactic(auto, unfolding(crate::specs::Reading::item_at))]
 pub(crate) fn item_at(alloc: Global, place: Place, line: &[u8]) -> Result<Option<Item>, NoMemory>
@@ -203,6 +240,7 @@ pub(crate) fn item_at(alloc: Global, place: Place, line: &[u8]) -> Result<Option
         Place::Depth => Ok(number_line(b"depth", line).map(Item::Depth)),
         Place::Cap => Ok(number_line(b"cap", line).map(Item::Cap)),
         Place::Entry => entry_item(alloc, line),
-        Place::Param => Ok(param_line(alloc, line)?.map(Item::Param)),
+        Place::Param => compare_or_param(alloc, line),
+        Place::End => Ok(None),
     }
 }

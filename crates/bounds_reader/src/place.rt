@@ -1,6 +1,4 @@
 //! The order of a bounds file.
-ghost use Rattle.std.specs.Prelude.{◌≡◌};
-ghost use Rattle.bounds_reader.specs.Items.{next};
 
 /// What the next line with words has to say.
 #[derive(Clone, Copy)]
@@ -10,20 +8,8 @@ pub(crate) enum Place {
     Depth,
     Cap,
     Entry,
+    /// One more parameter, or how many printed values are compared.
     Param,
-}
-
-impl Place {
-    /// The place behind this one.
-    pub(crate) fn next(self) -> Place
-        ensures { result ≡ next self }
-    {
-        match self {
-            Place::Width => Place::Turns,
-            Place::Turns => Place::Depth,
-            Place::Depth => Place::Cap,
-            Place::Cap => Place::Entry,
-            Place::Entry | Place::Param => Place::Param,
-        }
-    }
+    /// No line is to follow.
+    End,
 }

@@ -1,13 +1,14 @@
 //! The first line that passes a limit, or has a number out of its range.
 ghost use Rattle.std.specs.Prelude.{◌≡◌, ◌≤◌, ◌==◌, pos, false, map, nat_abs};
+ghost use Rattle.std.specs.Prelude.{option_map};
 ghost use Rattle.std.specs.List.{list_any};
 ghost use Rattle.mpy_tree.specs.Operations.{fits_width};
 ghost use Rattle.bounds_reader.specs.Ranges.{are_numbers, are_lengths, has_twice, is_alphabet};
 ghost use Rattle.bounds_reader.specs.Ranges.{is_in_range};
 ghost use Rattle.bounds_reader.specs.Files.{is_outside, limit_fault, range_fault};
-ghost use Rattle.bounds_reader.specs.Files.{param_limit_fault};
-ghost use Rattle.bounds_reader.specs.Files.{param_range_fault};
-ghost use Rattle.bounds_reader.specs.Views.{form_view, param_lines, file_view};
+ghost use Rattle.bounds_reader.specs.Files.{param_limit_fault, param_range_fault};
+ghost use Rattle.bounds_reader.specs.Files.{compare_range_fault};
+ghost use Rattle.bounds_reader.specs.Views.{form_view, param_lines, number_line, file_view};
 
 use crate::file::{File, NumberLine, ParamLine};
 use crate::items::Form;
@@ -123,6 +124,21 @@ fn is_outside(least: u32, most: u32, number: i32) -> bool
     !(least as i32 <= number && number <= most as i32)
 }
 
+fn compare_range_fault(compared: &Option<NumberLine>) -> Option<u32>
+    ensures { result ≡ compare_range_fault (option_map number_line compared.now) }
+{
+    match compared {
+        None => None,
+        Some(n) => {
+            if is_outside(1, 8, n.number) {
+                Some(n.line)
+            } else {
+                None
+            }
+        }
+    }
+}
+
 /// The first line with a number out of its range.
 pub(crate) fn range_fault(file: &File) -> Option<u32>
     ensures { result ≡ range_fault (file_view file.now) }
@@ -141,5 +157,8 @@ pub(crate) fn range_fault(file: &File) -> Option<u32>
     }
     let width = file.width.number.unsigned_abs();
     let cap = file.cap.number.unsigned_abs();
-    param_range_fault(width, cap, &file.params)
+    match param_range_fault(width, cap, &file.params) {
+        Some(line) => Some(line),
+        None => compare_range_fault(&file.compared),
+    }
 }

@@ -23,7 +23,7 @@ use std::alloc::Global;
 fn is_whole(due: Place) -> bool
     ensures { result ≡ is_whole due }
 {
-    matches!(due, Place::Param)
+    matches!(due, Place::Param | Place::End)
 }
 
 // What the lines say, if each is the one that is expected and none is missing.

@@ -1,5 +1,5 @@
 -- Whether runs end alike is decided.
-use Rattle.std.proofs.Common.{◌≡◌, ◌⊎◌, inl, inr, ◌==◌, Bool, true, false, List, refl, sym, ap}
+use Rattle.std.proofs.Common.{◌≡◌, ◌⊎◌, inl, inr, ◌==◌, Bool, true, false, List, [], ◌∷◌, Option, Some, None, refl, sym, ap, ◌∙◌}
 use Rattle.std.specs.Bool.{Decides}
 use Rattle.std.specs.Cmp.Lexicographic.{pointwise}
 use Rattle.std.specs.Ordering.{int_eq}
@@ -43,19 +43,42 @@ one_value (value.Text xs) (value.Text ys) =
     by_test test (Decides-like test (λ h. ap value.Text h) (λ h. cc) same)
 one_value _ _ = inr (λ h. cc)
 
--- where one is to end with a value
+no_value_or_one : (o q : Option Value) → (o ≡ q) ⊎ (o ≡ q → ⊥)
+no_value_or_one None None = inl refl
+no_value_or_one None (Some w) = inr (λ h. cc)
+no_value_or_one (Some v) None = inr (λ h. cc)
+no_value_or_one (Some v) (Some w) = by (one_value v w)
+  where
+    by : (v ≡ w) ⊎ (v ≡ w → ⊥) → (Some v ≡ Some w) ⊎ (Some v ≡ Some w → ⊥)
+    by (inl e) = inl (ap Some e)
+    by (inr n) = inr (λ h. n cc)
+
+same_values : (vs ws : List Value) → (vs ≡ ws) ⊎ (vs ≡ ws → ⊥)
+same_values [] [] = inl refl
+same_values [] (w ∷ ws) = inr (λ h. cc)
+same_values (v ∷ vs) [] = inr (λ h. cc)
+same_values (v ∷ vs) (w ∷ ws) = by (one_value v w) (same_values vs ws)
+  where
+    by : (v ≡ w) ⊎ (v ≡ w → ⊥) → (vs ≡ ws) ⊎ (vs ≡ ws → ⊥)
+        → (v ∷ vs ≡ w ∷ ws) ⊎ (v ∷ vs ≡ w ∷ ws → ⊥)
+    by (inl e) (inl f) = inl (ap (λ z. z ∷ vs) e ∙ ap (λ zs. w ∷ zs) f)
+    by (inr n) f = inr (λ h. n cc)
+    by (inl e) (inr n) = inr (λ h. n cc)
+
+-- where one is to end without a fault
 alike_or_not : (got want : Outcome)
     → (is_done want ≡ true → got ≡ want) ⊎ ((is_done want ≡ true → got ≡ want) → ⊥)
 alike_or_not got (outcome.Fault kind line) = inl (λ h. absurd (true≢false (sym h)))
-alike_or_not (outcome.Fault kind line) (outcome.Value v) =
+alike_or_not (outcome.Fault kind line) (outcome.Done v vs) =
     inr (λ f. true≢false (sym (ap is_done (f refl))))
-alike_or_not (outcome.Value w) (outcome.Value v) = by (one_value w v)
+alike_or_not (outcome.Done w ws) (outcome.Done v vs) = by (no_value_or_one w v) (same_values ws vs)
   where
-    by : (w ≡ v) ⊎ (w ≡ v → ⊥)
-        → (true ≡ true → outcome.Value w ≡ outcome.Value v)
-        ⊎ ((true ≡ true → outcome.Value w ≡ outcome.Value v) → ⊥)
-    by (inl e) = inl (λ h. ap outcome.Value e)
-    by (inr n) = inr (λ f. let e = f refl in n cc)
+    by : (w ≡ v) ⊎ (w ≡ v → ⊥) → (ws ≡ vs) ⊎ (ws ≡ vs → ⊥)
+        → (true ≡ true → outcome.Done w ws ≡ outcome.Done v vs)
+        ⊎ ((true ≡ true → outcome.Done w ws ≡ outcome.Done v vs) → ⊥)
+    by (inl e) (inl f) = inl (λ h. ap (λ z. outcome.Done z ws) e ∙ ap (outcome.Done v) f)
+    by (inr n) f = inr (λ g. let e = g refl in n cc)
+    by (inl e) (inr n) = inr (λ g. let e = g refl in n cc)
 
 pub meets_or_not : (k : Task) (s : List Choice) (x : Case) (p : List Routine)
     → program_shape p ≡ plain (member_of s) (tree_of k)

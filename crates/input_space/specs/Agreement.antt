@@ -1,6 +1,7 @@
 -- Agreement with the reference on all inputs, and the best rewriting.
-use Rattle.std.specs.Prelude.{◌≡◌, ◌≢◌, true, ℕ, ◌≤◌, List}
+use Rattle.std.specs.Prelude.{◌≡◌, ◌≢◌, ◌==◌, Bool, true, not, ℕ, ◌≤◌, List}
 use Rattle.std.specs.List.{Contains}
+use Rattle.mpy_tree.specs.declared.limits.Limits.{Limits}
 use Rattle.mpy_tree.specs.declared.value.Value.{Value}
 use Rattle.mpy_tree.specs.declared.outcome.Outcome.{Outcome}
 use Rattle.mpy_tree.specs.Outcomes.{is_done, run_outcome}
@@ -12,20 +13,25 @@ use Rattle.input_space.specs.Inputs.{inputs}
 abbrev pub IsInput : Bounds → List Value → Type 0
 IsInput b vs = Contains (inputs b.params) vs
 
+-- whether what the entry prints is compared, too; then it needs no value
+abbrev pub compares : Limits → Bool
+compares l = not (l.prints == 0)
+
 -- how a program ends on an input
 abbrev pub ends_on : Bounds → List Routine → List Value → Outcome
 ends_on b p vs = run_outcome b.limits p b.entry vs
 
--- a program ends as the reference does, where that ends with a value
+-- a program ends as the reference does, where that ends without a fault
 abbrev pub EndsAlike : Bounds → List Routine → List Routine → List Value → Type 0
 EndsAlike b reference p vs =
     is_done (ends_on b reference vs) ≡ true → ends_on b p vs ≡ ends_on b reference vs
 
--- the candidate does on every input: it gives the value of the reference wherever that gives one
+-- The candidate does on every input: wherever the reference ends without a fault, it gives the same
+-- value, or none where that gives none, and the same printed values where they are compared.
 abbrev pub Agrees : Bounds → List Routine → List Routine → Type 0
 Agrees b reference candidate = (vs : List Value) → IsInput b vs → EndsAlike b reference candidate vs
 
--- r gives a value on some input
+-- r ends without a fault on some input
 pub record EndsSomewhere (b : Bounds) (r : List Routine) : Type 0 where
   pub input : List Value
   pub is_input : IsInput b input
@@ -37,7 +43,7 @@ pub record Failure : Type 0 where
   pub gives : Outcome
   pub wanted : Outcome
 
--- the reference r ends there with a value, and the submission s doesn't end so
+-- the reference r ends there without a fault, and the submission s doesn't end so
 pub record IsFailure (b : Bounds) (r s : List Routine) (f : Failure) : Type 0 where
   pub is_input : IsInput b f.input
   pub reference : ends_on b r f.input ≡ f.wanted

@@ -2,7 +2,7 @@
 use Rattle.std.specs.Prelude.{◌≡◌, ◌⊎◌, ℕ, ◌+◌, ◌<◌, List, [], map, Option, None, Some}
 use Rattle.mpy_tree.specs.declared.typing.Fact.{Fact}
 use Rattle.mpy_tree.specs.declared.typing.Ty.{Ty}
-use Rattle.mpy_tree.specs.Entries.{Entry, valued}
+use Rattle.mpy_tree.specs.Entries.{Entry}
 use Rattle.mpy_tree.specs.Rules.{single}
 use Rattle.mpy_tree.specs.Running.{found}
 use Rattle.mpy_tree.specs.SetTypes.{called, results}
@@ -23,6 +23,7 @@ use Rattle.tree_weights.specs.Weights.{program_weight}
 use Rattle.eml_faults.specs.LimitFaults.{limit_fault}
 use Rattle.eml_faults.specs.MeaningFaults.{meaning_fault}
 use Rattle.input_space.specs.Agreement.{Agrees, EndsSomewhere, Failure, IsBest, IsFailure}
+use Rattle.input_space.specs.Agreement.{compares}
 use Rattle.input_space.specs.Inputs.{param_type}
 use Rattle.input_space.specs.ProperRules.{AreProperRules}
 
@@ -57,11 +58,11 @@ NoneAgrees k =
     (q : List Routine) (cost : ℕ) (edits : List Edit)
     → Rewrites k q cost edits → Agrees k.bounds k.reference q → ⊥
 
--- on an input the submission doesn't give the value of the reference
+-- on an input the submission doesn't end as the reference does
 abbrev pub IsFailureOf : Task → Failure → Type 0
 IsFailureOf k f = IsFailure k.bounds k.reference k.submission f
 
--- the reference gives a value on some input
+-- the reference ends without a fault on some input
 abbrev pub HasWanted : Task → Type 0
 HasWanted k = EndsSomewhere k.bounds k.reference
 
@@ -88,7 +89,7 @@ pub record CostsTooMuch (k : Task) : Type 0 where
 abbrev pub IsTooLarge : Task → Type 0
 IsTooLarge k = HasManyNodes k ⊎ WeighsTooMuch k ⊎ CostsTooMuch k
 
--- the type of what the entry of a program gives
+-- the type of what the entry of a program gives, if it gives something
 abbrev pub result_type : Bounds → List Routine → List Fact → Option Ty
 result_type b p types = only (results (set_of types) (called p b.entry))
 
@@ -100,9 +101,14 @@ line_in (Some r) = r.line
 abbrev pub entry_line : Bounds → List Routine → ℕ
 entry_line b p = line_in (found p b.entry)
 
--- how a run within the bounds enters a program
+-- How a run within the bounds enters a program: where printed values are compared, it may give no
+-- value.
 abbrev pub entry_at : Bounds → Entry
-entry_at b = valued b.entry (map param_type b.params)
+entry_at b = record {
+  name = b.entry;
+  types = map param_type b.params;
+  free_result = compares b.limits;
+}
 
 -- a program that a text can spell, that is typed for the entry, and in which no statement shares a
 -- list

@@ -18,12 +18,12 @@ pub use case::{Case, CaseError, Cases};
 pub use counting::{MOST_COUNTED, inputs_count};
 pub use laws::{inputs_fit, one_case, printed_is_read, some_input, within_is_membership};
 pub use places::case_at;
-pub use printing::{print_case, print_value};
+pub use printing::{print_case, print_value, print_values};
 pub use reading::read_case;
 pub use session::{Query, Session, Sessions};
 use std::alloc::AllocError;
 pub use task::{Task, TaskParts};
-pub use within::{in_bounds, is_within, param_type, signature};
+pub use within::{compares, in_bounds, is_within, param_type, signature};
 
 /// Want of memory, where a call has no other refusal.
 pub type NoMemory = AllocError;

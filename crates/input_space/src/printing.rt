@@ -86,18 +86,28 @@ pub fn print_value(out: &mut Vec<u8>, v: &Value) -> Result<(), NoMemory>
     }
 }
 
-/// The values of the case, with a comma and a space between each two; the text spells the case.
+/// Adds the texts of values, with a comma and a space between each two. Each value is one that is
+/// read back from its text.
 #[tactic(auto, using(crate::proofs::Joining::joined_steps))]
+pub fn print_values(out: &mut Vec<u8>, vs: &[Value]) -> Result<(), NoMemory>
+    ensures text { OnOk result (out.new.items ≡ out.old.items ++ values_text vs.now) }
+    ensures printable { OnOk result (All IsPrintable vs.now) }
+{
+    let mut separator: &[u8] = b"";
+    for v in vs {
+        out.extend_from_slice(separator)?;
+        print_value(out, v)?;
+        separator = b", ";
+    }
+    Ok(())
+}
+
+/// The values of the case, with a comma and a space between each two; the text spells the case.
 pub fn print_case(alloc: Global, c: &Case) -> Result<Vec<u8>, NoMemory>
     ensures text { IfOk result (λ t. t.items ≡ values_text c.now.values) }
     ensures spelled { IfOk result (λ t. SpellsCase t.items c.now.values) }
 {
     let mut out = Vec::new(alloc);
-    let mut separator: &[u8] = b"";
-    for v in c.values.items() {
-        out.extend_from_slice(separator)?;
-        print_value(&mut out, v)?;
-        separator = b", ";
-    }
+    print_values(&mut out, c.values.items())?;
     Ok(out)
 }

@@ -1,12 +1,13 @@
 //! Which values a parameter may have, and which lists of values are inputs.
 ghost use Rattle.std.specs.Prelude.{◌≡◌, ◌↔◌, ◌&&◌, ◌==◌, false, IsTrue, IfOk, length, map, nat_le};
 ghost use Rattle.std.specs.List.{list_all, list_any, Contains};
+ghost use Rattle.input_space.specs.Agreement.{compares};
 ghost use Rattle.input_space.specs.Inputs.{are_within, inputs, is_between, is_within, param_type};
 
 use crate::NoMemory;
 use crate::case::Case;
 use bounds_reader::{Bounds, Param};
-use mpy_tree::{Signature, Ty, Tys, Value};
+use mpy_tree::{Limits, Signature, Ty, Tys, Value};
 use std::alloc::Global;
 
 /// The type of the parameter's values.
@@ -101,11 +102,19 @@ pub fn in_bounds(b: &Bounds, c: &Case) -> bool
     are_within(b.params.items(), c.values.items())
 }
 
-/// The graded function with the types of its parameters. It is to give a value.
+/// Whether what the graded function prints is compared, too.
+pub fn compares(l: &Limits) -> bool
+    ensures { result ≡ compares l.now }
+{
+    l.prints != 0
+}
+
+/// The graded function with the types of its parameters. It is to give a value, unless what it
+/// prints is compared.
 pub fn signature(alloc: Global, b: &Bounds) -> Result<Signature, NoMemory>
     ensures entry { IfOk result (λ s. s.entry ≡ b.now.entry) }
     ensures params { IfOk result (λ s. s.params ≡ map param_type b.now.params) }
-    ensures free_result { IfOk result (λ s. s.free_result ≡ false) }
+    ensures free_result { IfOk result (λ s. s.free_result ≡ compares b.now.limits) }
 {
     let mut types = Vec::new(alloc);
     for p in b.params.items() {
@@ -115,6 +124,6 @@ pub fn signature(alloc: Global, b: &Bounds) -> Result<Signature, NoMemory>
     Ok(Signature {
         entry,
         params: Tys::from_vec(types),
-        free_result: false,
+        free_result: compares(&b.limits),
     })
 }

@@ -5,7 +5,7 @@ use Rattle.bounds_reader.proofs.FileLaws.{IsFileOf, start_file, file_more, line_
 use Rattle.bounds_reader.proofs.reading.file_of.Goals as goal
 
 pub loop-i-init : goal.loop-i-init
-loop-i-init c = start_file c.new-file.result c.new-file.ensures.due c.new-file.ensures.empty
+loop-i-init c = start_file c.new-file.result c.new-file.ensures.due c.new-file.ensures.empty c.new-file.ensures.uncompared
 
 pub loop-i-preserved : goal.loop-i-preserved
 loop-i-preserved c =

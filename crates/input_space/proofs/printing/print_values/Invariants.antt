@@ -3,9 +3,9 @@ use Rattle.std.proofs.Common.{◌≡◌, ◌++◌, All, drop, map, take}
 use Rattle.mpy_tree.specs.Printing.{value_text, values_text}
 use Rattle.input_space.specs.CaseLaws.{IsPrintable}
 use Rattle.input_space.proofs.Joining.{joined}
-use Rattle.input_space.proofs.printing.print_case.Given as goal
+use Rattle.input_space.proofs.printing.print_values.Given as goal
 
 abbrev pub invariant-loop-v : goal.invariant-loop-v
 invariant-loop-v l =
-    (l.out.items ++ joined l.separator (map value_text (drop l.v-index l.c.values)) ≡ values_text l.c.values)
-    × All IsPrintable (take l.v-index l.c.values)
+    (l.out.items ++ joined l.separator (map value_text (drop l.v-index l.vs)) ≡ l.fn.out.items ++ values_text l.vs)
+    × All IsPrintable (take l.v-index l.vs)
