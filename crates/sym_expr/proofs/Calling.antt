@@ -18,7 +18,7 @@ use Rattle.mpy_tree.specs.Rules.{Slots, call_type, called_type, callee_type}
 use Rattle.mpy_tree.specs.SetTypes.{Callee, called}
 use Rattle.mpy_tree.specs.Trees as kind
 use Rattle.mpy_tree.specs.Trees.{Kind}
-use Rattle.mpy_tree.specs.Values.{◌>>=◌, State}
+use Rattle.mpy_tree.specs.Values.{◌>>=◌, Locals}
 use Rattle.bit_words.specs.Logic.{Keeps}
 use Rattle.choice_tree.specs.Typing.{node_type}
 use Rattle.choice_tree.specs.WeightedTrees.{Weighted, plainly, pick, children}
@@ -108,7 +108,7 @@ module _ {S B : Type 0} {owns : S → B → Type 0} {reads : S → List Bool →
   )
 
 -- the outcome of a call reads as what the function gives on the values of the arguments
-module _ {B : Type 0} (rd rd' : B → Bool) (l : Limits) (calls : Calls) (s : State) (line : ℕ) (m : ℕ → ℕ) where
+module _ {B : Type 0} (rd rd' : B → Bool) (l : Limits) (calls : Calls) (s : Locals) (line : ℕ) (m : ℕ → ℕ) where
   pub call_plain : (f : List ℕ) (w : Weighted) (os : List (SymOutcome B)) (o : SymOutcome B) → IsCall w f
       → ((rs : List (Result Value Halted)) → PartsRead rd os rs → OutcomeReads rd' o (call_result calls f line rs))
       → AllReadAsPlain rd (value_of l calls s line) m os (children w) → ReadsAsPlain rd' (value_of l calls s line) m o w

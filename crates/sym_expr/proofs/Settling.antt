@@ -13,7 +13,7 @@ use Rattle.mpy_tree.specs.Syntax.{Term}
 use Rattle.mpy_tree.specs.Shapes.{shape}
 use Rattle.mpy_tree.specs.Trees.{Kind, node}
 use Rattle.mpy_tree.specs.Trees as kind
-use Rattle.mpy_tree.specs.Values.{State}
+use Rattle.mpy_tree.specs.Values.{Locals}
 use Rattle.choice_tree.specs.Heads.{root, trees}
 use Rattle.choice_tree.specs.Selections.{plain, plains}
 use Rattle.choice_tree.specs.WeightedTrees.{Weighted, Weighteds, plainly, pick, no_weighted, weighted_and, children, listed, other_trees}
@@ -42,7 +42,7 @@ plain_terms m (t ∷ ts) (weighted_and w ws) e =
     let rest : trees (map shape ts) ≡ plains m ws = cc in
     (first, plain_terms m ts ws rest)
 
-module _ (l : Limits) (calls : Calls) (s : State) (line : ℕ) (m : ℕ → ℕ) where
+module _ (l : Limits) (calls : Calls) (s : Locals) (line : ℕ) (m : ℕ → ℕ) where
   -- the parts of a term whose tree is the plain tree of a node
   node_terms : (k : Kind) (w : Weighted) (t : Term) → Some k ≡ kind_of w → shape t ≡ plain m w
       → (ts : List Term) × ArePlain m ts (children w) × (value_of l calls s line t ≡ node_result l calls s line k (map (value_of l calls s line) ts))
@@ -104,12 +104,12 @@ stops_here true line fault reading (Ok v) y h (inr k) =
     let same : val.Bool true ≡ v = ap (λ (i : Reading). i.value) (sym k ∙ h.1) in
     subst (λ (i : Value). IsOutcome fault reading (either i y line)) same (h.0, k)
 
-side_node : (l : Limits) (calls : Calls) (s : State) (line : ℕ) (stop : Bool) (x y : Result Value Halted)
+side_node : (l : Limits) (calls : Calls) (s : Locals) (line : ℕ) (stop : Bool) (x y : Result Value Halted)
     → node_result l calls s line (side_kind stop) (x ∷ y ∷ []) ≡ side_result stop line x y
 side_node l calls s line true x y = refl
 side_node l calls s line false x y = refl
 
-module _ {B : Type 0} (rd : B → Bool) (l : Limits) (calls : Calls) (s : State) (line : ℕ) (m : ℕ → ℕ) (stop : Bool) (w a b : Weighted) (o : SymOutcome B) where
+module _ {B : Type 0} (rd : B → Bool) (l : Limits) (calls : Calls) (s : Locals) (line : ℕ) (m : ℕ → ℕ) (stop : Bool) (w a b : Weighted) (o : SymOutcome B) where
   -- an `and` or an `or` whose left side settles it
   pub side_settled : Some (side_kind stop) ≡ kind_of w → children w ≡ a ∷ b ∷ [] → (rd o.fault ≡ true) ⊎ (read rd o.value ≡ sure (val.Bool stop))
       → ReadsAsPlain rd (value_of l calls s line) m o a → ReadsAsPlain rd (value_of l calls s line) m o w
@@ -126,7 +126,7 @@ module _ {B : Type 0} (rd : B → Bool) (l : Limits) (calls : Calls) (s : State)
       subst (λ (r : Result Value Halted). OutcomeReads rd o r) (sym (side_node l calls s line stop (value_of l calls s line t) (value_of l calls s line u))) (h t u p q))
 
 -- a conditional, of which both arms are looked at, and one of which one is
-module _ {B : Type 0} (rd : B → Bool) (l : Limits) (calls : Calls) (s : State) (line : ℕ) (m : ℕ → ℕ) (w a b d : Weighted) (o : SymOutcome B) where
+module _ {B : Type 0} (rd : B → Bool) (l : Limits) (calls : Calls) (s : Locals) (line : ℕ) (m : ℕ → ℕ) (w a b d : Weighted) (o : SymOutcome B) where
   pub cond_plain : Some kind.Cond ≡ kind_of w → children w ≡ a ∷ b ∷ d ∷ []
       → ((t u v : Term) → shape t ≡ plain m a → shape u ≡ plain m b → shape v ≡ plain m d
       → OutcomeReads rd o (cond_result (value_of l calls s line u) (value_of l calls s line t) (value_of l calls s line v)))
@@ -145,7 +145,7 @@ arm_read rd value m true a d o t v p r arm = arm t p
 arm_read rd value m false a d o t v p r arm = arm v r
 
 -- what was read before, and what is read
-module _ {B : Type 0} (before rd : B → Bool) (l : Limits) (calls : Calls) (s : State) (line : ℕ) (m : ℕ → ℕ) (w a b d : Weighted) (known : Bool) (tested armed o : SymOutcome B) where
+module _ {B : Type 0} (before rd : B → Bool) (l : Limits) (calls : Calls) (s : Locals) (line : ℕ) (m : ℕ → ℕ) (w a b d : Weighted) (known : Bool) (tested armed o : SymOutcome B) where
   pub cond_known : Some kind.Cond ≡ kind_of w → children w ≡ a ∷ b ∷ d ∷ []
       → ReadsAsPlain before (value_of l calls s line) m tested b → ((v : Value) → read before tested.value ≡ sure v → holds v ≡ known)
       → ReadsAsPlain rd (value_of l calls s line) m armed (if known then a else d)

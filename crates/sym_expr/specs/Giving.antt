@@ -7,7 +7,7 @@ use Rattle.mpy_tree.specs.declared.value.Value.{Value}
 use Rattle.mpy_tree.specs.Expressions.{Calls, value_of}
 use Rattle.mpy_tree.specs.Names.{is_builtin}
 use Rattle.mpy_tree.specs.Trees as kind
-use Rattle.mpy_tree.specs.Values.{◌>>=◌, State}
+use Rattle.mpy_tree.specs.Values.{◌>>=◌, Locals}
 use Rattle.choice_tree.specs.WeightedTrees.{Weighted, plainly}
 use Rattle.sym_values.specs.declared.value.SymOutcome.{SymOutcome}
 use Rattle.sym_values.specs.Forms.{form_for}
@@ -38,6 +38,6 @@ HasTypeIn owns s c env w o =
 abbrev pub GivesPlain : {S B : Type 0} → (S → List Bool → B → Bool) → (old new : S)
     → ((ℕ → ℕ) → Calls → Type 0) → Env B → Weighted → SymOutcome B → Type 0
 GivesPlain reads old new AreCalls env w o =
-    (vs : List Bool) (s : State) (m : ℕ → ℕ) (calls : Calls) (line : ℕ) → AreCalls m calls
+    (vs : List Bool) (s : Locals) (m : ℕ → ℕ) (calls : Calls) (line : ℕ) → AreCalls m calls
     → StateReads (reads old vs) env s → PicksRead (reads old vs) env.picks m
     → ReadsAsPlain (reads new vs) (value_of env.limits calls s line) m o w

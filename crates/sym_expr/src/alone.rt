@@ -2,7 +2,7 @@
 
 ghost use Rattle.std.specs.Prelude.{◌≡◌, ℕ, Bool, List, length, Some, IfOk, IsSome};
 ghost use Rattle.mpy_tree.specs.Expressions.{Calls, value_of};
-ghost use Rattle.mpy_tree.specs.Values.{State};
+ghost use Rattle.mpy_tree.specs.Values.{Locals};
 ghost use Rattle.mpy_tree.specs.declared.typing.Ty.{Ty as AnyType};
 ghost use Rattle.bit_words.specs.Logic.{Extends};
 ghost use Rattle.choice_tree.specs.WeightedTrees.{children};
@@ -41,7 +41,7 @@ pub fn sym_expr<L: Logic>(
         → type_of (scope_of env.now) (weighted_of e.now) ≡ Some t
         → IsOutcomeIn L.owns g.new (form_for env.now.limits t) r) }
     ensures value { IfOk result (λ r.
-        (vs : List Bool) (s : State) (m : ℕ → ℕ) (calls : Calls) (line : ℕ)
+        (vs : List Bool) (s : Locals) (m : ℕ → ℕ) (calls : Calls) (line : ℕ)
         → StateReads (L.reads g.old vs) env.now s → PicksRead (L.reads g.old vs) env.now.picks m
         → ReadsAsPlain (L.reads g.new vs) (value_of env.now.limits calls s line) m r
         (weighted_of e.now)) }
@@ -76,7 +76,7 @@ pub fn sym_node<L: Logic>(
         → root_type (scope_of env.now) (weighted_of e.now) (types_of parts.now.items) ≡ Some t
         → IsOutcomeIn L.owns g.new (form_for env.now.limits t) r) }
     ensures value { IfOk result (λ r.
-        (vs : List Bool) (s : State) (m : ℕ → ℕ) (calls : Calls) (line : ℕ)
+        (vs : List Bool) (s : Locals) (m : ℕ → ℕ) (calls : Calls) (line : ℕ)
         → StateReads (L.reads g.old vs) env.now s → PicksRead (L.reads g.old vs) env.now.picks m
         → AllReadAsPlain (L.reads g.old vs) (value_of env.now.limits calls s line) m
         parts.now.items (children (weighted_of e.now))

@@ -3,7 +3,7 @@
 ghost use Rattle.std.specs.Prelude.{◌≡◌, ℕ, Bool, List, length, Some, IfOk, IsSome, option_map};
 ghost use Rattle.std.specs.declared.result.Result.{Result};
 ghost use Rattle.mpy_tree.specs.Expressions.{Calls, value_of};
-ghost use Rattle.mpy_tree.specs.Values.{State};
+ghost use Rattle.mpy_tree.specs.Values.{Locals};
 ghost use Rattle.mpy_tree.specs.declared.outcome.Halted.{Halted};
 ghost use Rattle.mpy_tree.specs.declared.typing.Ty.{Ty};
 ghost use Rattle.mpy_tree.specs.declared.value.Value.{Value};
@@ -123,7 +123,7 @@ pub fn node_outcome<L: Logic, C: Functions<L>>(
         (weighted_of e.now) (types_of parts.items) ≡ Some t
         → IsOutcomeIn L.owns g.new (form_for (env_of view.now).limits t) r) }
     ensures value { IfOk result (λ r.
-        (vs : List Bool) (s : State) (m : ℕ → ℕ) (calls : Calls) (line : ℕ)
+        (vs : List Bool) (s : Locals) (m : ℕ → ℕ) (calls : Calls) (line : ℕ)
         → C.are_calls functions.now (env_of view.now).limits m calls
         → StateReads (L.reads g.old vs) (env_of view.now) s
         → PicksRead (L.reads g.old vs) (env_of view.now).picks m

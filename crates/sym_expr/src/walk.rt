@@ -4,7 +4,7 @@ ghost use Rattle.std.specs.Prelude.{◌≡◌, ◌<◌, ℕ, Bool, List, length,
 ghost use Rattle.std.specs.Prelude.{◌∷◌, if◌then◌else◌, slice_get};
 ghost use Rattle.mpy_tree.specs.Expressions.{Calls, value_of};
 ghost use Rattle.mpy_tree.specs.Trees.{Cond as CondKind};
-ghost use Rattle.mpy_tree.specs.Values.{State};
+ghost use Rattle.mpy_tree.specs.Values.{Locals};
 ghost use Rattle.bit_words.specs.Logic.{Extends};
 ghost use Rattle.choice_tree.specs.WeightedTrees.{Weighted, children, other_trees};
 ghost use Rattle.choice_tree.specs.WeightedViews.{member_seen, members as with_trees, weighted_of};
@@ -293,7 +293,7 @@ fn eval_children<L: Logic, C: Functions<L>>(
         ≡ map (type_of (scope_at (C.signatures functions.now) (env_of view.now)))
         (children (weighted_of e.now))) }
     ensures value { IfOk result (λ r.
-        (vs : List Bool) (s : State) (m : ℕ → ℕ) (calls : Calls) (line : ℕ)
+        (vs : List Bool) (s : Locals) (m : ℕ → ℕ) (calls : Calls) (line : ℕ)
         → C.are_calls functions.now (env_of view.now).limits m calls
         → StateReads (L.reads g.old vs) (env_of view.now) s
         → PicksRead (L.reads g.old vs) (env_of view.now).picks m

@@ -13,7 +13,7 @@ use Rattle.mpy_tree.specs.Expressions.{Calls, called}
 use Rattle.mpy_tree.specs.Rules.{Slots, both_are, call_type, choice_type}
 use Rattle.mpy_tree.specs.Trees.{Kind}
 use Rattle.mpy_tree.specs.Trees as kind
-use Rattle.mpy_tree.specs.Values.{◌>>=◌, State, on_line}
+use Rattle.mpy_tree.specs.Values.{◌>>=◌, Locals, on_line}
 use Rattle.choice_tree.specs.declared.head.Head.{Head}
 use Rattle.choice_tree.specs.declared.head.Head.TheVariants as head
 use Rattle.choice_tree.specs.Heads.{head_kind}
@@ -60,7 +60,7 @@ call_result l calls line None f os t r e = absurd cc
 call_result l calls line (Some b) f os t r e = refl
 
 -- and gives that on the values of its parts
-pub strict_node : (l : Limits) (calls : Calls) (s : State) (line : ℕ) (k : Kind) (os : List (Option Ty)) (t : Ty) (rs : List (Result Value Halted)) → operation_type k os ≡ Some t
+pub strict_node : (l : Limits) (calls : Calls) (s : Locals) (line : ℕ) (k : Kind) (os : List (Option Ty)) (t : Ty) (rs : List (Result Value Halted)) → operation_type k os ≡ Some t
     → strict_result line (operation l k) rs ≡ node_result l calls s line k rs
 strict_node l calls s line (kind.Name x) os t rs e = absurd cc
 strict_node l calls s line kind.And os t rs e = absurd cc

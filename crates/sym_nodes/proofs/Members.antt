@@ -11,7 +11,7 @@ use Rattle.mpy_tree.specs.Expressions.{Calls, value_of}
 use Rattle.mpy_tree.specs.Syntax.{Term}
 use Rattle.mpy_tree.specs.Shapes.{shape}
 use Rattle.mpy_tree.specs.Trees.{Kind, Tree, node}
-use Rattle.mpy_tree.specs.Values.{State}
+use Rattle.mpy_tree.specs.Values.{Locals}
 use Rattle.choice_tree.specs.Heads.{root, trees}
 use Rattle.choice_tree.specs.Selections.{chosen, other_plains, plain, plains}
 use Rattle.choice_tree.specs.WeightedTrees.{Weighted, Others, plainly, pick, no_others, other_and, children, other_trees}
@@ -23,7 +23,7 @@ use Rattle.sym_nodes.specs.Plain.{AllReadAsPlain, ReadsAsPlain, kind_of, number_
 use Rattle.sym_nodes.specs.Members.{place_chosen}
 use Rattle.sym_nodes.proofs.Terms.{parts_read, subterms, term_result, term_shape}
 
-module _ {B : Type 0} (rd rd' : B → Bool) (l : Limits) (calls : Calls) (s : State) (line : ℕ) (m : ℕ → ℕ) where
+module _ {B : Type 0} (rd rd' : B → Bool) (l : Limits) (calls : Calls) (s : Locals) (line : ℕ) (m : ℕ → ℕ) where
   -- a node that is no pick
   pub node_plain : (k : Kind) (w : Weighted) (os : List (SymOutcome B)) (o : SymOutcome B) → Some k ≡ kind_of w
       → ((rs : List (Result Value Halted)) → PartsRead rd os rs → OutcomeReads rd' o (node_result l calls s line k rs))

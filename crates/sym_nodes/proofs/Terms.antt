@@ -12,7 +12,7 @@ use Rattle.mpy_tree.specs.Syntax as ast
 use Rattle.mpy_tree.specs.Shapes.{shape, shapes}
 use Rattle.mpy_tree.specs.Trees as kind
 use Rattle.mpy_tree.specs.Trees.{node, no_trees, tree_and}
-use Rattle.mpy_tree.specs.Values.{◌>>=◌, on_line, State}
+use Rattle.mpy_tree.specs.Values.{◌>>=◌, on_line, Locals}
 use Rattle.mpy_tree.specs.Operations.{negative, holds, arith, compare, truth, index}
 use Rattle.mpy_tree.specs.Expressions.{Calls, value_of, values_of, list_of, slice_of, apply}
 use Rattle.choice_tree.specs.Heads.{root, trees}
@@ -86,7 +86,7 @@ module _ (line : ℕ) where
   slice_both (Ok v) (Err e) b = refl
   slice_both (Err e) a b = refl
 
-module _ (l : Limits) (calls : Calls) (s : State) (line : ℕ) where
+module _ (l : Limits) (calls : Calls) (s : Locals) (line : ℕ) where
   all_is : (es : Terms) → values_of l calls s line es ≡ all_of (map (value_of l calls s line) (listed_terms es))
   all_is no_terms = refl
   all_is (term_and e es) = ap (λ (r : Result (List Value) Halted). value_of l calls s line e >>= λ v. r >>= λ vs. Ok (v ∷ vs)) (all_is es)

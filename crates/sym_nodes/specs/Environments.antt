@@ -1,13 +1,13 @@
 -- The names of an expression, and the picks, as bits: their types, and what they read as.
-use Rattle.std.specs.Prelude.{◌≡◌, ◌<◌, ℕ, Bool, true, false, List, [], length, map, Option, Some}
-use Rattle.std.specs.Prelude.{None}
+use Rattle.std.specs.Prelude.{◌≡◌, ◌<◌, ◌≤◌, ℕ, Bool, true, false, List, [], length, map, Option}
+use Rattle.std.specs.Prelude.{Some, None}
 use Rattle.std.specs.Prelude.{slice_get, option_map}
 use Rattle.mpy_tree.specs.declared.typing.Ty.{Ty}
 use Rattle.mpy_tree.specs.declared.typing.Slot.{Slot}
 use Rattle.mpy_tree.specs.declared.typing.Slot.TheVariants as slot
 use Rattle.mpy_tree.specs.declared.value.Value.{Value}
 use Rattle.mpy_tree.specs.Locals.{place_of}
-use Rattle.mpy_tree.specs.Values.{State}
+use Rattle.mpy_tree.specs.Values.{Locals}
 use Rattle.bit_words.specs.Logic.{OwnsAll}
 use Rattle.bit_words.specs.Words.{nat_of}
 use Rattle.sym_values.specs.declared.value.SymValue.{SymValue}
@@ -33,12 +33,13 @@ abbrev pub scope_of : {B : Type 0} → Env B → Scope
 scope_of env =
     record { slots = λ i x. slot_type env.names env.values x; program = []; number = 0 }
 
--- Each name has a value and a bit, all of which belong to a state, as do the picks. The values have
--- the forms that values of their types have at the limits.
+-- Each name has a value and a bit, all of which belong to a state, as do the picks; behind those of
+-- the names there may be more. The values have the forms that values of their types have at the
+-- limits.
 pub record IsEnvIn {S B : Type 0} (owns : S → B → Type 0) (s : S) (env : Env B) : Type 0 where
-  pub valued : length env.values ≡ length env.names
-  pub marked : length env.set ≡ length env.names
-  pub forms : (i : ℕ) (x : SymValue B) → slice_get env.values i ≡ Some x
+  pub valued : length env.names ≤ length env.values
+  pub marked : length env.names ≤ length env.set
+  pub forms : (i : ℕ) (x : SymValue B) → i < length env.names → slice_get env.values i ≡ Some x
       → form_of x ≡ form_for env.limits (ty_of x)
   pub values : OwnsAll owns s (values_bits env.values)
   pub marks : OwnsAll owns s env.set
@@ -50,7 +51,7 @@ LocalReads set reading None = set ≡ false
 LocalReads set reading (Some v) = (set ≡ true) × (reading ≡ sure v)
 
 -- the names read as the locals of a state
-pub record StateReads {B : Type 0} (rd : B → Bool) (env : Env B) (s : State) : Type 0 where
+pub record StateReads {B : Type 0} (rd : B → Bool) (env : Env B) (s : Locals) : Type 0 where
   pub local : (i : ℕ) (name : List ℕ) (x : SymValue B) (bit : B) → slice_get env.names i ≡ Some name
       → slice_get env.values i ≡ Some x → slice_get env.set i ≡ Some bit
       → LocalReads (rd bit) (read rd x) (s name)

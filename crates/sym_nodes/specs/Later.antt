@@ -8,7 +8,7 @@ use Rattle.mpy_tree.specs.declared.limits.Limits.{Limits}
 use Rattle.mpy_tree.specs.declared.value.Value.{Value}
 use Rattle.mpy_tree.specs.declared.outcome.Halted.{Halted}
 use Rattle.mpy_tree.specs.Syntax.{Term}
-use Rattle.mpy_tree.specs.Values.{State}
+use Rattle.mpy_tree.specs.Values.{Locals}
 use Rattle.bit_words.specs.Logic.{Keeps, OwnsAll}
 use Rattle.bit_words.specs.Later.{owned_later, nat_later}
 use Rattle.choice_tree.specs.WeightedTrees.{Weighted}
@@ -44,7 +44,7 @@ module _ {S B : Type 0} {owns : S → B → Type 0} {reads : S → List Bool →
   }
 
   pub state_later : {s t : S} {env : Env B} → Keeps owns reads s t → IsEnvIn owns s env
-      → (vs : List Bool) (locals : State) → StateReads (reads s vs) env locals
+      → (vs : List Bool) (locals : Locals) → StateReads (reads s vs) env locals
       → StateReads (reads t vs) env locals
   state_later {s} {t} {env} p h vs locals k = record {
     local = λ i name x bit n v b.

@@ -17,7 +17,7 @@ use Rattle.mpy_tree.specs.Rules.{builtin_type}
 use Rattle.choice_tree.specs.Typing.{Scope, node_type}
 use Rattle.mpy_tree.specs.Trees.{Kind}
 use Rattle.mpy_tree.specs.Trees as kind
-use Rattle.mpy_tree.specs.Values.{◌>>=◌, stuck, on_line, State, set_or_fault}
+use Rattle.mpy_tree.specs.Values.{◌>>=◌, stuck, on_line, Locals, set_or_fault}
 use Rattle.mpy_tree.specs.Operations.{number, text_within, arith, negative, holds, compare, truth}
 use Rattle.mpy_tree.specs.Operations.{index}
 use Rattle.mpy_tree.specs.Expressions.{Calls, list_of, slice_of, builtin, apply, both, either}
@@ -110,7 +110,7 @@ abbrev pub strict_result : ℕ → (List Value → Result Value Halt) → List (
 strict_result line op rs = all_of rs >>= λ vs. on_line line (op vs)
 
 -- what a node gives
-module _ (l : Limits) (calls : Calls) (s : State) (line : ℕ) where
+module _ (l : Limits) (calls : Calls) (s : Locals) (line : ℕ) where
   abbrev pub node_result : Kind → List (Result Value Halted) → Result Value Halted
   node_result (kind.Name x) rs = on_line line (set_or_fault (s x))
   node_result kind.And rs = of_two line (and_result line) rs

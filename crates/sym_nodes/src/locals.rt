@@ -3,7 +3,7 @@
 ghost use Rattle.std.specs.Prelude.{◌≡◌, ◌<◌, Bool, List, Some, IfOk, IfSome, IsSome, slice_get};
 ghost use Rattle.std.specs.declared.result.Result.{Result};
 ghost use Rattle.mpy_tree.specs.Locals.{place_of};
-ghost use Rattle.mpy_tree.specs.Values.{State, set_or_fault};
+ghost use Rattle.mpy_tree.specs.Values.{Locals, set_or_fault};
 ghost use Rattle.mpy_tree.specs.declared.typing.Ty.{Ty};
 ghost use Rattle.bit_words.specs.Logic.{Extends};
 ghost use Rattle.sym_values.specs.Forms.{form_for};
@@ -30,7 +30,7 @@ pub fn local<L: Logic>(
     ensures made { IfOk result (λ r. (t : Ty)
         → type_at (env_of view.now).values (place_of (env_of view.now).names x.now) ≡ Some t
         → IsOutcomeIn L.owns g.now (form_for (env_of view.now).limits t) r) }
-    ensures value { IfOk result (λ r. (vs : List Bool) (s : State)
+    ensures value { IfOk result (λ r. (vs : List Bool) (s : Locals)
         → StateReads (L.reads g.now vs) (env_of view.now) s
         → OutcomeReads (L.reads g.now vs) r (set_or_fault (s x.now))) }
 {

@@ -3,7 +3,7 @@
 ghost use Rattle.std.specs.Prelude.{◌≡◌, ℕ, Bool, List, length, Some, IfOk, IsSome};
 ghost use Rattle.std.specs.declared.result.Result.{Result};
 ghost use Rattle.mpy_tree.specs.Expressions.{Calls, value_of};
-ghost use Rattle.mpy_tree.specs.Values.{State};
+ghost use Rattle.mpy_tree.specs.Values.{Locals};
 ghost use Rattle.mpy_tree.specs.declared.outcome.Halted.{Halted};
 ghost use Rattle.mpy_tree.specs.declared.typing.Ty.{Ty};
 ghost use Rattle.mpy_tree.specs.declared.value.Value.{Value};
@@ -84,7 +84,7 @@ fn head_outcome<L: Logic>(
         ≡ Some t
         → IsOutcomeIn L.owns g.new (form_for (env_of view.now).limits t) r) }
     ensures value { IfOk result (λ r.
-        (vs : List Bool) (s : State) (calls : Calls) (line : ℕ) (rs : List (Result Value Halted))
+        (vs : List Bool) (s : Locals) (calls : Calls) (line : ℕ) (rs : List (Result Value Halted))
         → StateReads (L.reads g.old vs) (env_of view.now) s
         → PartsRead (L.reads g.old vs) parts.now rs
         → OutcomeReads (L.reads g.new vs) r
@@ -138,7 +138,7 @@ pub fn node_in_view<L: Logic>(
         ≡ Some t
         → IsOutcomeIn L.owns g.new (form_for (env_of view.now).limits t) r) }
     ensures value { IfOk result (λ r.
-        (vs : List Bool) (s : State) (m : ℕ → ℕ) (calls : Calls) (line : ℕ)
+        (vs : List Bool) (s : Locals) (m : ℕ → ℕ) (calls : Calls) (line : ℕ)
         → StateReads (L.reads g.old vs) (env_of view.now) s
         → PicksRead (L.reads g.old vs) (env_of view.now).picks m
         → AllReadAsPlain (L.reads g.old vs) (value_of (env_of view.now).limits calls s line) m

@@ -1,9 +1,12 @@
+pub mod Agreement
+pub mod Constants
+pub mod DoneForms
+pub mod DoneLater
 pub mod Forms
-pub mod Reading
-pub mod Results
+pub mod Later
 pub mod Operations
 pub mod Owned
-pub mod Later
-pub mod Agreement
+pub mod Printed
+pub mod Reading
+pub mod Results
 pub mod Rooms
-pub mod Constants

@@ -48,7 +48,7 @@ fn digits<L: Logic>(
 
 /// A length as constant bits.
 #[tactic(auto, using(crate::proofs::Held::parts))]
-fn length_bits<L: Logic>(alloc: Global, g: &L, number: usize) -> Result<Bits<L::Bit>, NoMemory>
+pub fn length_bits<L: Logic>(alloc: Global, g: &L, number: usize) -> Result<Bits<L::Bit>, NoMemory>
     requires { number < 2 ^ 5 }
     ensures made { IfOk result (λ r. IsWordIn L.owns g.now 5 r) }
     ensures value { IfOk result (λ r. (vs : List Bool) → nat_read L.reads g.now vs r ≡ number) }

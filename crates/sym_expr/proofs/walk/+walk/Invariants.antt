@@ -1,6 +1,6 @@
 use Rattle.std.proofs.Common.{◌≡◌, ◌+◌, ◌-◌, ◌*◌, ◌≤◌, ℕ, Bool, List, map, take, length}
 use Rattle.mpy_tree.specs.Expressions.{Calls, value_of}
-use Rattle.mpy_tree.specs.Values.{State}
+use Rattle.mpy_tree.specs.Values.{Locals}
 use Rattle.bit_words.specs.Logic.{Extends}
 use Rattle.choice_tree.specs.WeightedTrees.{children, nodes}
 use Rattle.choice_tree.specs.WeightedViews.{weighted_of}
@@ -43,7 +43,7 @@ invariant-eval_children-parts g l =
       within : l.i ≤ length (children (weighted_of l.fn.e));
       made : ArePartsIn g.L.Logic.owns l.g env.limits l.made.items;
       types : types_of l.made.items ≡ map (type_of (scope_at (g.C.Functions.signatures l.fn.functions) env)) done;
-      value : (vs : List Bool) (s : State) (m : ℕ → ℕ) (calls : Calls) (line : ℕ) → g.C.Functions.are_calls l.fn.functions env.limits m calls
+      value : (vs : List Bool) (s : Locals) (m : ℕ → ℕ) (calls : Calls) (line : ℕ) → g.C.Functions.are_calls l.fn.functions env.limits m calls
           → StateReads (reads l.fn.g vs) env s → PicksRead (reads l.fn.g vs) env.picks m
           → AllReadAsPlain (reads l.g vs) (value_of env.limits calls s line) m l.made.items done;
     }

@@ -33,11 +33,12 @@ returns-clause-made g c t e =
     let env = env_of c.args.view.now in
     let held = c.at-held.result.now in
     let same = c.in_ok-value-in-Some.ensures in
+    let below = found_below env.names c.args.x.now c.in-Some.i c.in-Some.ensures in
     let typed = type_there env.values (place_of env.names c.args.x.now) c.in-Some.i held t c.in-Some.ensures c.at-held.ensures e in
     record {
       owned = subst (λ (x : SymValue _). OwnsAll g.L.Logic.owns c.args.g.now (bits_of x)) (sym same) (owns_one bits_of env.values c.in-Some.i held c.requires.env.values c.at-held.ensures);
       owned_fault = c.not-fault.ensures.owned;
-      form = ap form_of same ∙ c.requires.env.forms c.in-Some.i held c.at-held.ensures ∙ ap (form_for env.limits) typed;
+      form = ap form_of same ∙ c.requires.env.forms c.in-Some.i held below c.at-held.ensures ∙ ap (form_for env.limits) typed;
     }
 
 pub returns-clause-value : goal.returns-clause-value
