@@ -4,9 +4,9 @@ use Rattle.std.specs.declared.result.Result.{Result}
 use Rattle.mpy_tree.specs.declared.limits.Limits.{Limits}
 use Rattle.mpy_tree.specs.declared.outcome.Halted.{Halted}
 use Rattle.mpy_tree.specs.declared.value.Value.{Value}
-use Rattle.mpy_tree.specs.Expressions.{Calls, value_of}
+use Rattle.mpy_tree.specs.Expressions.{Calls}
 use Rattle.mpy_tree.specs.Shapes.{arm_shape, block_shape, last_shapes, shape}
-use Rattle.mpy_tree.specs.Statements.{Ran, Next, run_block, run_else, then_on, while_turns}
+use Rattle.mpy_tree.specs.Statements.{Ran, Next, run_block, run_else, then_on, while_turns, value_at}
 use Rattle.mpy_tree.specs.Syntax.{Block, Branch, Branches, MaybeBlock, Term, a_block, arm, arm_and, no_arms, no_block}
 use Rattle.mpy_tree.specs.Trees as kind
 use Rattle.mpy_tree.specs.Values.{State}
@@ -63,10 +63,10 @@ module _ (l : Limits) (calls : Calls) (m : ℕ → ℕ) where
       (k, t, body, first, second, refl)
 
   pub one_arm : (a : Branch) (k : ℕ) (t : Term) (body : Block) (part : Seen) (o : Option State) (rest : State → Ran) → a ≡ arm k t body
-      → part ≡ seen_from (passes o (λ s. value_of l calls s k t)) (run_block l calls body)
-      → and_seen part (seen_from (misses o (λ s. value_of l calls s k t)) rest) ≡ seen_from o (run_arm l calls a rest)
+      → part ≡ seen_from (passes o (λ s. value_at l calls s k t)) (run_block l calls body)
+      → and_seen part (seen_from (misses o (λ s. value_at l calls s k t)) rest) ≡ seen_from o (run_arm l calls a rest)
   one_arm a k t body part o rest is e =
-      arm_step nothing_seen part o (λ s. value_of l calls s k t) (run_block l calls body) rest e
+      arm_step nothing_seen part o (λ s. value_at l calls s k t) (run_block l calls body) rest e
       ∙ ap (λ (x : Branch). seen_from o (run_arm l calls x rest)) (sym is)
 
   pub else_none : (w : Option WStmts) (b : MaybeBlock) → w ≡ None → last_shapes b ≡ plains m (weighted_else w) → run_else l calls b ≡ Next

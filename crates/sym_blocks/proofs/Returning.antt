@@ -3,6 +3,7 @@ use Rattle.std.proofs.Common.{◌≡◌, ◌∙◌, ℕ, Option, Some, None, ref
 use Rattle.mpy_tree.specs.declared.limits.Limits.{Limits}
 use Rattle.mpy_tree.specs.Expressions.{Calls}
 use Rattle.mpy_tree.specs.Shapes.{shape}
+use Rattle.mpy_tree.specs.Statements.{ended_by}
 use Rattle.mpy_tree.specs.Syntax.{MaybeTerm, Term, a_term, no_term}
 use Rattle.mpy_tree.specs.Values.{State}
 use Rattle.choice_tree.specs.declared.tree.WExpr.{WExpr}
@@ -14,14 +15,13 @@ use Rattle.mpy_tree.specs.Trees as kind
 use Rattle.typed_trees.specs.TypedStatements.{IsTyped}
 use Rattle.choice_tree.specs.WeightedViews.{weighted_of}
 use Rattle.sym_nodes.specs.Environments.{AllHavePicks, HasPicks}
-use Rattle.sym_paths.specs.Endings.{nothing_seen, seen_from}
-use Rattle.sym_paths.specs.Sights.{halt_shows}
+use Rattle.sym_paths.specs.Endings.{seen_from}
 use Rattle.sym_blocks.specs.Runs.{IsPlainMaybe, run_give, run_return}
 use Rattle.sym_blocks.specs.Typing.{MayReturn, Returns}
 
 module _ (l : Limits) (calls : Calls) (m : ℕ → ℕ) (line : ℕ) where
-  pub give_nothing : (w : Option WExpr) (o : Option State) (t : MaybeTerm) → w ≡ None → IsPlainMaybe (maybe_weighted w) m t → nothing_seen ≡ seen_from o (run_give line l calls t)
-  give_nothing None o no_term e h = halt_shows o (run_give line l calls no_term) (λ s. refl)
+  pub give_nothing : (w : Option WExpr) (o : Option State) (t : MaybeTerm) → w ≡ None → IsPlainMaybe (maybe_weighted w) m t → seen_from o (λ s. ended_by line s s.printed) ≡ seen_from o (run_give line l calls t)
+  give_nothing None o no_term e h = refl
   give_nothing None o (a_term u) e h = absurd cc
   give_nothing (Some w) o t e h = absurd cc
 

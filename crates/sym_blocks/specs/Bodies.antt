@@ -6,10 +6,10 @@ use Rattle.mpy_tree.specs.declared.limits.Limits.{Limits}
 use Rattle.mpy_tree.specs.declared.typing.Slot.{Slot}
 use Rattle.mpy_tree.specs.declared.typing.Slot.TheVariants as slot
 use Rattle.mpy_tree.specs.declared.typing.Ty.{Ty}
-use Rattle.mpy_tree.specs.Expressions.{Calls, value_of}
+use Rattle.mpy_tree.specs.Expressions.{Calls}
 use Rattle.mpy_tree.specs.Names.{has_twice}
 use Rattle.mpy_tree.specs.Shapes.{arm_shape, shape}
-use Rattle.mpy_tree.specs.Statements.{Ran}
+use Rattle.mpy_tree.specs.Statements.{Ran, value_at}
 use Rattle.mpy_tree.specs.Syntax.{Branch, Term}
 use Rattle.mpy_tree.specs.Values.{State}
 use Rattle.bit_words.specs.Logic.{OwnsAll}
@@ -26,23 +26,25 @@ use Rattle.sym_paths.specs.declared.path.Path.{Path}
 use Rattle.sym_paths.specs.declared.slots.Slots.{Slots}
 use Rattle.sym_paths.specs.Endings.{and_seen, see, seen_from}
 use Rattle.sym_paths.specs.Paths.{gone_way, reached, way, ways}
-use Rattle.sym_paths.specs.Slots.{type_among}
+use Rattle.sym_paths.specs.Slots.{KeepsByLimits, type_among}
 use Rattle.sym_blocks.specs.declared.body.Body.{Body}
 use Rattle.sym_blocks.specs.Runs.{run_arm}
 
--- The names of the locals differ from one another and each has a type; the picks belong to a state,
--- and the functions find theirs among them.
+-- The names of the locals differ from one another and each has a type; printed values are kept as
+-- the limits say, or none are; the picks belong to a state, and the functions find theirs among
+-- them.
 pub record IsBodyIn {S B C : Type 0} (owns : S → B → Type 0) (have_picks : List (List B) → Type 0)
     (s : S) (run : Body B C) : Type 0 where
   pub differ : has_twice run.slots.now.names ≡ false
   pub types : length run.slots.now.types ≡ length run.slots.now.names
+  pub keeps : KeepsByLimits run.slots.now
   pub owned : OwnsAll owns s (joined run.picks.now)
   pub many : have_picks run.picks.now
 
 -- the types of a body's locals, and of what its function gives
 abbrev pub body_slot : Slots → Slot → Option Ty
 body_slot c (slot.Local x) = type_among c.names c.types x
-body_slot c slot.Result = Some c.result
+body_slot c slot.Result = c.result
 
 -- a function with these locals beside those that may be called
 abbrev pub body_scope : Signatures → Slots → Scope
@@ -70,8 +72,8 @@ abbrev pub RunsAsPlain : {S B C A : Type 0} → (S → List Bool → B → Bool)
 RunsAsPlain {S} {B} {C} {A} reads are_calls old new run ps out IsPlain runs =
     (vs : List Bool) (m : ℕ → ℕ) (calls : Calls) (o : Option State) (a : A)
     → AreChosen reads are_calls old vs run m calls
-    → gone_way run.slots.now.names (ways (reads old vs) ps) ≡ reached o → IsPlain m a
-    → see (reads new vs) run.slots.now.names out
+    → gone_way run.slots.now (ways (reads old vs) ps) ≡ reached o → IsPlain m a
+    → see (reads new vs) run.slots.now out
     ≡ seen_from o (runs run.slots.now.limits calls a)
 
 -- an outcome reads as what the plain expression gives in the state to which a path leads
@@ -81,9 +83,9 @@ abbrev pub EvaluatesAsPlain : {S B C : Type 0} → (S → List Bool → B → Bo
 EvaluatesAsPlain reads are_calls old new run path r w =
     (vs : List Bool) (m : ℕ → ℕ) (calls : Calls) (s : State) (line : ℕ) (t : Term)
     → AreChosen reads are_calls old vs run m calls
-    → gone_way run.slots.now.names (way (reads old vs) path ∷ []) ≡ reached (Some s)
+    → gone_way run.slots.now (way (reads old vs) path ∷ []) ≡ reached (Some s)
     → shape t ≡ plain m w
-    → OutcomeReads (reads new vs) r (value_of run.slots.now.limits calls s line t)
+    → OutcomeReads (reads new vs) r (value_at run.slots.now.limits calls s line t)
 
 -- Under all truth values the ways out of an arm's body, and what runs from where its test doesn't
 -- hold, show how each plain arm runs that is chosen.
@@ -93,9 +95,9 @@ abbrev pub ArmRunsAsPlain : {S B C : Type 0} → (S → List Bool → B → Bool
 ArmRunsAsPlain reads are_calls old new run path part other w =
     (vs : List Bool) (m : ℕ → ℕ) (calls : Calls) (o : Option State) (a : Branch)
     → AreChosen reads are_calls old vs run m calls
-    → gone_way run.slots.now.names (way (reads old vs) path ∷ []) ≡ reached o
+    → gone_way run.slots.now (way (reads old vs) path ∷ []) ≡ reached o
     → arm_shape a ≡ plain m w
     → (n : Option State)
-    × (gone_way run.slots.now.names (ways (reads new vs) other) ≡ reached n)
-    × ((rest : State → Ran) → and_seen (see (reads new vs) run.slots.now.names part)
+    × (gone_way run.slots.now (ways (reads new vs) other) ≡ reached n)
+    × ((rest : State → Ran) → and_seen (see (reads new vs) run.slots.now part)
     (seen_from n rest) ≡ seen_from o (run_arm run.slots.now.limits calls a rest))

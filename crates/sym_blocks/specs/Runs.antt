@@ -1,12 +1,12 @@
 -- The plain things of which a weighted statement stands, and how they run.
-use Rattle.std.specs.Prelude.{◌≡◌, ℕ, List}
+use Rattle.std.specs.Prelude.{◌≡◌, ℕ, List, Some}
 use Rattle.mpy_tree.specs.declared.limits.Limits.{Limits}
 use Rattle.mpy_tree.specs.declared.operators.ArithOp.{ArithOp}
-use Rattle.mpy_tree.specs.Expressions.{Calls, value_of}
+use Rattle.mpy_tree.specs.Expressions.{Calls}
 use Rattle.mpy_tree.specs.Operations.{append, arith, members}
 use Rattle.mpy_tree.specs.Shapes.{shape, statement_shape, block_shape, arms_shapes, arm_shape}
 use Rattle.mpy_tree.specs.Shapes.{last_shapes, shape_and}
-use Rattle.mpy_tree.specs.Statements.{Ran, Returned, give, given, printed, store, set_at}
+use Rattle.mpy_tree.specs.Statements.{Ran, Returned, give, given, printed, store, set_at, value_at}
 use Rattle.mpy_tree.specs.Statements.{set_at_by, set_by}
 use Rattle.mpy_tree.specs.Statements.{while_turns, for_turns, run_action, run_arms, run_block}
 use Rattle.mpy_tree.specs.Statements.{run_else, tested}
@@ -54,7 +54,7 @@ module _ (l : Limits) (calls : Calls) where
   -- one arm, before what runs where its test doesn't hold
   abbrev pub run_arm : Branch → (State → Ran) → State → Ran
   run_arm (arm line e body) other s =
-      tested (value_of l calls s line e) (run_block l calls body s) (other s)
+      tested (value_at l calls s line e) (run_block l calls body s) (other s)
 
   abbrev pub run_if : Branches × MaybeBlock → State → Ran
   run_if p s = run_arms l calls p.0 (run_else l calls p.1 s) s
@@ -62,7 +62,7 @@ module _ (l : Limits) (calls : Calls) where
 -- statements on a line
 module _ (line : ℕ) where
   abbrev pub run_assign : List ℕ → Limits → Calls → Term → State → Ran
-  run_assign x l calls t s = store s x (value_of l calls s line t)
+  run_assign x l calls t s = store s x (value_at l calls s line t)
 
   abbrev pub run_augment : List ℕ → ArithOp → Limits → Calls → Term → State → Ran
   run_augment x op l calls t s = store s x (set_by l calls s line x (arith l op) t)
@@ -79,10 +79,10 @@ module _ (line : ℕ) where
       store s x (set_at_by l calls s line x p.0 (arith l op) p.1)
 
   abbrev pub run_print : Limits → Calls → Term → State → Ran
-  run_print l calls t s = given (value_of l calls s line t) (printed line s)
+  run_print l calls t s = given (value_at l calls s line t) (printed l.prints line s)
 
   abbrev pub run_return : Limits → Calls → Term → State → Ran
-  run_return l calls t s = given (value_of l calls s line t) Returned
+  run_return l calls t s = given (value_at l calls s line t) (λ v. Returned (Some v) s)
 
   abbrev pub run_give : Limits → Calls → MaybeTerm → State → Ran
   run_give l calls t s = give l calls s line t
@@ -90,12 +90,12 @@ module _ (line : ℕ) where
   -- a test and a body
   abbrev pub run_while : Limits → Calls → Term × Block → State → Ran
   run_while l calls p =
-      while_turns l.turns (λ s. value_of l calls s line p.0) (run_block l calls p.1) line
+      while_turns l.turns (λ s. value_at l calls s line p.0) (run_block l calls p.1) line
 
   -- what is gone over, and a body
   abbrev pub run_for : List ℕ → Limits → Calls → Term × Block → State → Ran
   run_for x l calls p s =
-      given (value_of l calls s line p.0 >>= λ v. on_line line (members v))
+      given (value_at l calls s line p.0 >>= λ v. on_line line (members v))
       (λ vs. for_turns vs l.turns x (run_block l calls p.1) line s)
 
 -- a thing of a kind, and a line, by which it is a run

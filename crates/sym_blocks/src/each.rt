@@ -55,14 +55,14 @@ pub fn more_items<L: Logic>(
     ensures held_no { IfOk result (λ r.
         HoldsPaths L.owns g.new (slot_forms slots.now) (option_to_list r.no)) }
     ensures yes { IfOk result (λ r. (vs : List Bool) (o : Option State) (ms : List Value)
-        → gone_way slots.now.names (way (L.reads g.old vs) path ∷ []) ≡ reached o
+        → gone_way slots.now (way (L.reads g.old vs) path ∷ []) ≡ reached o
         → ItemsRead (L.reads g.old vs) list.now o ms
-        → gone_way slots.now.names (ways (L.reads g.new vs) (option_to_list r.yes))
+        → gone_way slots.now (ways (L.reads g.new vs) (option_to_list r.yes))
         ≡ reached (staying o (drop place ms))) }
     ensures no { IfOk result (λ r. (vs : List Bool) (o : Option State) (ms : List Value)
-        → gone_way slots.now.names (way (L.reads g.old vs) path ∷ []) ≡ reached o
+        → gone_way slots.now (way (L.reads g.old vs) path ∷ []) ≡ reached o
         → ItemsRead (L.reads g.old vs) list.now o ms
-        → gone_way slots.now.names (ways (L.reads g.new vs) (option_to_list r.no))
+        → gone_way slots.now (ways (L.reads g.new vs) (option_to_list r.no))
         ≡ reached (leaving o (drop place ms))) }
 {
     let more = has_item(g, list, place)?;
@@ -87,10 +87,10 @@ pub fn next_item<L: Logic>(
         × (item_form item.now.list.now ≡ form_for slots.now.limits t) }
     ensures held { IfOk result (λ r. HoldsPath L.owns g.now (slot_forms slots.now) r) }
     ensures value { IfOk result (λ r. (vs : List Bool) (o : Option State) (ms : List Value)
-        → gone_way slots.now.names (way (L.reads g.now vs) path ∷ [])
+        → gone_way slots.now (way (L.reads g.now vs) path ∷ [])
         ≡ reached (staying o (drop item.now.place ms))
         → ItemsRead (L.reads g.now vs) item.now.list.now o ms
-        → gone_way slots.now.names (way (L.reads g.now vs) r ∷ [])
+        → gone_way slots.now (way (L.reads g.now vs) r ∷ [])
         ≡ reached (entering o item.now.name.now (drop item.now.place ms))) }
 {
     let value = item_at(alloc, g, item.list, item.place)?;

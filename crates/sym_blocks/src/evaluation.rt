@@ -3,7 +3,8 @@
 ghost use Rattle.std.specs.Prelude.{◌≡◌, ℕ, Bool, List, [], ◌∷◌, Option, Some, IfOk, IsSome};
 ghost use Rattle.std.specs.Prelude.{option_to_list};
 ghost use Rattle.mpy_tree.specs.declared.typing.Ty.{Ty};
-ghost use Rattle.mpy_tree.specs.Expressions.{Calls, value_of};
+ghost use Rattle.mpy_tree.specs.Expressions.{Calls};
+ghost use Rattle.mpy_tree.specs.Statements.{value_at};
 ghost use Rattle.mpy_tree.specs.Shapes.{shape};
 ghost use Rattle.mpy_tree.specs.Syntax.{Term};
 ghost use Rattle.mpy_tree.specs.Values.{State, on_line, set_or_fault};
@@ -82,9 +83,10 @@ pub fn local_on<L: Logic, C: Functions<L>>(
         → local_type (scope_in (C.signatures run.now.functions.now) run.now) x.now ≡ Some t
         → IsOutcomeIn L.owns g.now (form_for run.now.slots.now.limits t) r) }
     ensures value { IfOk result (λ r. (vs : List Bool) (s : State) (line : ℕ)
-        → gone_way run.now.slots.now.names (way (L.reads g.now vs) path.now ∷ [])
+        → gone_way run.now.slots.now (way (L.reads g.now vs) path.now ∷ [])
         ≡ reached (Some s)
-        → OutcomeReads (L.reads g.now vs) r (on_line line (set_or_fault (s x.now)))) }
+        → OutcomeReads (L.reads g.now vs) r
+        (on_line line (set_or_fault (s.locals x.now)))) }
 {
     let view = View {
         names: &run.slots.names,
@@ -119,17 +121,17 @@ pub fn tested<L: Logic, C: Functions<L>>(
     ensures yes { IfOk result (λ r.
         (vs : List Bool) (m : ℕ → ℕ) (calls : Calls) (o : Option State) (line : ℕ) (t : Term)
         → AreChosen L.reads (C.are_calls run.now.functions.now) g.old vs run.now m calls
-        → gone_way run.now.slots.now.names (way (L.reads g.old vs) path ∷ []) ≡ reached o
+        → gone_way run.now.slots.now (way (L.reads g.old vs) path ∷ []) ≡ reached o
         → shape t ≡ plain m (weighted_of e.now)
-        → gone_way run.now.slots.now.names (ways (L.reads g.new vs) (option_to_list r.yes))
-        ≡ reached (passes o (λ s. value_of run.now.slots.now.limits calls s line t))) }
+        → gone_way run.now.slots.now (ways (L.reads g.new vs) (option_to_list r.yes))
+        ≡ reached (passes o (λ s. value_at run.now.slots.now.limits calls s line t))) }
     ensures no { IfOk result (λ r.
         (vs : List Bool) (m : ℕ → ℕ) (calls : Calls) (o : Option State) (line : ℕ) (t : Term)
         → AreChosen L.reads (C.are_calls run.now.functions.now) g.old vs run.now m calls
-        → gone_way run.now.slots.now.names (way (L.reads g.old vs) path ∷ []) ≡ reached o
+        → gone_way run.now.slots.now (way (L.reads g.old vs) path ∷ []) ≡ reached o
         → shape t ≡ plain m (weighted_of e.now)
-        → gone_way run.now.slots.now.names (ways (L.reads g.new vs) (option_to_list r.no))
-        ≡ reached (misses o (λ s. value_of run.now.slots.now.limits calls s line t))) }
+        → gone_way run.now.slots.now (ways (L.reads g.new vs) (option_to_list r.no))
+        ≡ reached (misses o (λ s. value_at run.now.slots.now.limits calls s line t))) }
 {
     let outcome = eval_on(alloc, g, run, &path, e)?;
     let holds = test_bit(g, &outcome.value)?;

@@ -19,7 +19,7 @@ ghost use Rattle.sym_nodes.specs.Environments.{AllHavePicks, HasPicks};
 ghost use Rattle.sym_paths.specs.Endings.{HoldsOut, see, seen_from};
 ghost use Rattle.sym_paths.specs.Items.{entering, staying};
 ghost use Rattle.sym_paths.specs.Paths.{HoldsPath, HoldsPaths, gone_way, reached, way, ways};
-ghost use Rattle.sym_paths.specs.Slots.{slot_forms, result_form, type_among};
+ghost use Rattle.sym_paths.specs.Slots.{slot_forms, type_among};
 ghost use Rattle.typed_trees.specs.TypedStatements.{AreTyped, IsBody, IsTyped, goes_over};
 ghost use Rattle.typed_trees.specs.TypedStatements.{local_type};
 ghost use Rattle.sym_blocks.specs.Bodies.{AreChosen, ArmRunsAsPlain, IsBodyIn, RunsAsPlain};
@@ -70,8 +70,7 @@ pub fn exec_block<L: Logic, C: Functions<L>>(
         (weighted_body body.now) }
     requires picks { HasPicks run.now.picks.now (weighted_body body.now) }
     ensures extends { Extends L.owns L.reads L.count g.old g.new }
-    ensures held { IfOk result (λ r. HoldsOut L.owns g.new (slot_forms run.now.slots.now)
-        (result_form run.now.slots.now) r) }
+    ensures held { IfOk result (λ r. HoldsOut L.owns g.new run.now.slots.now r) }
     ensures value { IfOk result (λ r.
         RunsAsPlain L.reads (C.are_calls run.now.functions.now) g.old g.new run.now
         (path ∷ []) r (IsPlainBlock (weighted_body body.now)) run_block) }
@@ -97,8 +96,7 @@ fn exec_side<L: Logic, C: Functions<L>>(
         (weighted_body body.now) }
     requires picks { HasPicks run.now.picks.now (weighted_body body.now) }
     ensures extends { Extends L.owns L.reads L.count g.old g.new }
-    ensures held { IfOk result (λ r. HoldsOut L.owns g.new (slot_forms run.now.slots.now)
-        (result_form run.now.slots.now) r) }
+    ensures held { IfOk result (λ r. HoldsOut L.owns g.new run.now.slots.now r) }
     ensures value { IfOk result (λ r.
         RunsAsPlain L.reads (C.are_calls run.now.functions.now) g.old g.new run.now
         (option_to_list path) r (IsPlainBlock (weighted_body body.now)) run_block) }
@@ -127,8 +125,7 @@ fn exec_live<L: Logic, C: Functions<L>>(
         (weighted_body body.now) }
     requires picks { HasPicks run.now.picks.now (weighted_body body.now) }
     ensures extends { Extends L.owns L.reads L.count g.old g.new }
-    ensures held { IfOk result (λ r. HoldsOut L.owns g.new (slot_forms run.now.slots.now)
-        (result_form run.now.slots.now) r) }
+    ensures held { IfOk result (λ r. HoldsOut L.owns g.new run.now.slots.now r) }
     ensures value { IfOk result (λ r.
         RunsAsPlain L.reads (C.are_calls run.now.functions.now) g.old g.new run.now
         (path ∷ []) r (IsPlainBlock (weighted_body body.now)) run_block) }
@@ -161,8 +158,7 @@ fn exec_stmt<L: Logic, C: Functions<L>>(
         (weighted_stmt s.now) }
     requires picks { HasPicks run.now.picks.now (weighted_stmt s.now) }
     ensures extends { Extends L.owns L.reads L.count g.old g.new }
-    ensures held { IfOk result (λ r. HoldsOut L.owns g.new (slot_forms run.now.slots.now)
-        (result_form run.now.slots.now) r) }
+    ensures held { IfOk result (λ r. HoldsOut L.owns g.new run.now.slots.now r) }
     ensures value { IfOk result (λ r.
         RunsAsPlain L.reads (C.are_calls run.now.functions.now) g.old g.new run.now
         (path ∷ []) r (IsPlainStatement (weighted_stmt s.now)) run_statement) }
@@ -245,8 +241,7 @@ fn exec_if<L: Logic, C: Functions<L>>(
     requires picks { AllHavePicks run.now.picks.now
         (arms_before (weighted_arms arms.now) (weighted_else last.now)) }
     ensures extends { Extends L.owns L.reads L.count g.old g.new }
-    ensures held { IfOk result (λ r. HoldsOut L.owns g.new (slot_forms run.now.slots.now)
-        (result_form run.now.slots.now) r) }
+    ensures held { IfOk result (λ r. HoldsOut L.owns g.new run.now.slots.now r) }
     ensures value { IfOk result (λ r.
         RunsAsPlain L.reads (C.are_calls run.now.functions.now) g.old g.new run.now
         (path ∷ []) r (IsPlainIf (weighted_arms arms.now) (weighted_else last.now)) run_if) }
@@ -282,8 +277,7 @@ fn exec_arm<L: Logic, C: Functions<L>>(
         (weighted_arm arm.now) }
     requires picks { HasPicks run.now.picks.now (weighted_arm arm.now) }
     ensures extends { Extends L.owns L.reads L.count g.old g.new }
-    ensures held { IfOk result (λ r. HoldsOut L.owns g.new (slot_forms run.now.slots.now)
-        (result_form run.now.slots.now) r.part) }
+    ensures held { IfOk result (λ r. HoldsOut L.owns g.new run.now.slots.now r.part) }
     ensures other { IfOk result (λ r.
         HoldsPaths L.owns g.new (slot_forms run.now.slots.now) (option_to_list r.other)) }
     ensures value { IfOk result (λ r.
@@ -313,8 +307,7 @@ fn exec_else<L: Logic, C: Functions<L>>(
         (weighted_else last.now) }
     requires picks { AllHavePicks run.now.picks.now (weighted_else last.now) }
     ensures extends { Extends L.owns L.reads L.count g.old g.new }
-    ensures held { IfOk result (λ r. HoldsOut L.owns g.new (slot_forms run.now.slots.now)
-        (result_form run.now.slots.now) r) }
+    ensures held { IfOk result (λ r. HoldsOut L.owns g.new run.now.slots.now r) }
     ensures value { IfOk result (λ r.
         RunsAsPlain L.reads (C.are_calls run.now.functions.now) g.old g.new run.now
         (path ∷ []) r (IsPlainElse (weighted_else last.now)) run_else) }
@@ -348,8 +341,7 @@ fn exec_while<L: Logic, C: Functions<L>>(
     requires picks { AllHavePicks run.now.picks.now
         (two (weighted_of e.now) (weighted_body body.now)) }
     ensures extends { Extends L.owns L.reads L.count g.old g.new }
-    ensures held { IfOk result (λ r. HoldsOut L.owns g.new (slot_forms run.now.slots.now)
-        (result_form run.now.slots.now) r) }
+    ensures held { IfOk result (λ r. HoldsOut L.owns g.new run.now.slots.now r) }
     ensures value { IfOk result (λ r.
         (line : ℕ) → RunsAsPlain L.reads (C.are_calls run.now.functions.now) g.old g.new run.now
         (path ∷ []) r (IsPlainLoop (weighted_of e.now) (weighted_body body.now)) (run_while line)) }
@@ -391,8 +383,7 @@ fn exec_for<L: Logic, C: Functions<L>>(
     requires picks { AllHavePicks run.now.picks.now
         (two (weighted_of each.place.now) (weighted_body body.now)) }
     ensures extends { Extends L.owns L.reads L.count g.old g.new }
-    ensures held { IfOk result (λ r. HoldsOut L.owns g.new (slot_forms run.now.slots.now)
-        (result_form run.now.slots.now) r) }
+    ensures held { IfOk result (λ r. HoldsOut L.owns g.new run.now.slots.now r) }
     ensures value { IfOk result (λ r.
         (line : ℕ) → RunsAsPlain L.reads (C.are_calls run.now.functions.now) g.old g.new run.now
         (path ∷ []) r (IsPlainLoop (weighted_of each.entry.place.now) (weighted_body body.now))
@@ -429,16 +420,15 @@ fn exec_items<L: Logic, C: Functions<L>>(
         (weighted_body body.now) }
     requires picks { HasPicks run.now.picks.now (weighted_body body.now) }
     ensures extends { Extends L.owns L.reads L.count g.old g.new }
-    ensures held { IfOk result (λ r. HoldsOut L.owns g.new (slot_forms run.now.slots.now)
-        (result_form run.now.slots.now) r) }
+    ensures held { IfOk result (λ r. HoldsOut L.owns g.new run.now.slots.now r) }
     ensures value { IfOk result (λ r.
         (vs : List Bool) (m : ℕ → ℕ) (calls : Calls) (o : Option State) (b : Block)
         (ms : List Value) (line : ℕ)
         → AreChosen L.reads (C.are_calls run.now.functions.now) g.old vs run.now m calls
-        → gone_way run.now.slots.now.names (way (L.reads g.old vs) path ∷ []) ≡ reached o
+        → gone_way run.now.slots.now (way (L.reads g.old vs) path ∷ []) ≡ reached o
         → ItemsRead (L.reads g.old vs) over.entry.list.now o ms
         → IsPlainBlock (weighted_body body.now) m b
-        → see (L.reads g.new vs) run.now.slots.now.names r
+        → see (L.reads g.new vs) run.now.slots.now r
         ≡ seen_from o (for_turns ms run.now.slots.now.limits.turns over.entry.name.now
         (run_block run.now.slots.now.limits calls b) line)) }
 {
@@ -493,17 +483,16 @@ fn exec_item<L: Logic, C: Functions<L>>(
         (weighted_body body.now) }
     requires picks { HasPicks run.now.picks.now (weighted_body body.now) }
     ensures extends { Extends L.owns L.reads L.count g.old g.new }
-    ensures held { IfOk result (λ r. HoldsOut L.owns g.new (slot_forms run.now.slots.now)
-        (result_form run.now.slots.now) r) }
+    ensures held { IfOk result (λ r. HoldsOut L.owns g.new run.now.slots.now r) }
     ensures value { IfOk result (λ r.
         (vs : List Bool) (m : ℕ → ℕ) (calls : Calls) (o : Option State) (b : Block)
         (ms : List Value)
         → AreChosen L.reads (C.are_calls run.now.functions.now) g.old vs run.now m calls
-        → gone_way run.now.slots.now.names (ways (L.reads g.old vs) (option_to_list path))
+        → gone_way run.now.slots.now (ways (L.reads g.old vs) (option_to_list path))
         ≡ reached (staying o (drop item.entry.place ms))
         → ItemsRead (L.reads g.old vs) item.entry.list.now o ms
         → IsPlainBlock (weighted_body body.now) m b
-        → see (L.reads g.new vs) run.now.slots.now.names r
+        → see (L.reads g.new vs) run.now.slots.now r
         ≡ seen_from (entering o item.entry.name.now (drop item.entry.place ms))
         (run_block run.now.slots.now.limits calls b)) }
 {

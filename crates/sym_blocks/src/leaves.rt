@@ -1,8 +1,8 @@
 //! Statements without a body.
 
 ghost use Rattle.std.specs.Prelude.{◌≡◌, ℕ, Bool, List, [], ◌∷◌, Some, IfOk, IsSome};
-ghost use Rattle.mpy_tree.specs.Expressions.{Calls, value_of};
-ghost use Rattle.mpy_tree.specs.Statements.{local_at};
+ghost use Rattle.mpy_tree.specs.Expressions.{Calls};
+ghost use Rattle.mpy_tree.specs.Statements.{local_at, value_at};
 ghost use Rattle.mpy_tree.specs.Syntax.{Term};
 ghost use Rattle.mpy_tree.specs.Values.{State};
 ghost use Rattle.bit_words.specs.Logic.{Extends};
@@ -12,7 +12,7 @@ ghost use Rattle.sym_nodes.specs.Environments.{AllHavePicks, HasPicks};
 ghost use Rattle.sym_nodes.specs.Plain.{type_of};
 ghost use Rattle.sym_paths.specs.Endings.{HoldsOut};
 ghost use Rattle.sym_paths.specs.Paths.{HoldsPath, gone_way, reached, way};
-ghost use Rattle.sym_paths.specs.Slots.{slot_forms, result_form};
+ghost use Rattle.sym_paths.specs.Slots.{slot_forms};
 ghost use Rattle.sym_blocks.specs.Bodies.{AreChosen, IsBodyIn, RunsAsPlain, scope_in};
 ghost use Rattle.sym_blocks.specs.Elements.{AreElementIn, ElementReads};
 ghost use Rattle.sym_blocks.specs.Runs.{ArePlainTerms, IsPlainMaybe, IsPlainTerm, run_append};
@@ -29,7 +29,7 @@ use choice_tree::WExpr;
 use mpy_tree::{ArithOp, Name};
 use std::alloc::Global;
 use sym_expr::Functions;
-use sym_paths::outs::{no_way_out, out_returned};
+use sym_paths::outs::{out_ended, out_returned};
 use sym_paths::store::{out_printed, out_stored};
 use sym_paths::{Out, Path};
 
@@ -62,8 +62,7 @@ pub fn exec_assign<L: Logic, C: Functions<L>>(
         (weighted_of e.now) }
     requires picks { HasPicks run.now.picks.now (weighted_of e.now) }
     ensures extends { Extends L.owns L.reads L.count g.old g.new }
-    ensures held { IfOk result (λ r. HoldsOut L.owns g.new (slot_forms run.now.slots.now)
-        (result_form run.now.slots.now) r) }
+    ensures held { IfOk result (λ r. HoldsOut L.owns g.new run.now.slots.now r) }
     ensures value { IfOk result (λ r. (line : ℕ) →
         RunsAsPlain L.reads (C.are_calls run.now.functions.now) g.old g.new run.now (path ∷ []) r
         (IsPlainTerm (weighted_of e.now)) (run_assign line x.now)) }
@@ -88,8 +87,7 @@ pub fn exec_augment<L: Logic, C: Functions<L>>(
         (weighted_of by.value.now) }
     requires picks { HasPicks run.now.picks.now (weighted_of by.value.now) }
     ensures extends { Extends L.owns L.reads L.count g.old g.new }
-    ensures held { IfOk result (λ r. HoldsOut L.owns g.new (slot_forms run.now.slots.now)
-        (result_form run.now.slots.now) r) }
+    ensures held { IfOk result (λ r. HoldsOut L.owns g.new run.now.slots.now r) }
     ensures value { IfOk result (λ r. (line : ℕ) →
         RunsAsPlain L.reads (C.are_calls run.now.functions.now) g.old g.new run.now (path ∷ []) r
         (IsPlainTerm (weighted_of by.entry.value.now)) (run_augment line x.now by.entry.op)) }
@@ -116,8 +114,7 @@ pub fn exec_append<L: Logic, C: Functions<L>>(
         (weighted_of e.now) }
     requires picks { HasPicks run.now.picks.now (weighted_of e.now) }
     ensures extends { Extends L.owns L.reads L.count g.old g.new }
-    ensures held { IfOk result (λ r. HoldsOut L.owns g.new (slot_forms run.now.slots.now)
-        (result_form run.now.slots.now) r) }
+    ensures held { IfOk result (λ r. HoldsOut L.owns g.new run.now.slots.now r) }
     ensures value { IfOk result (λ r. (line : ℕ) →
         RunsAsPlain L.reads (C.are_calls run.now.functions.now) g.old g.new run.now (path ∷ []) r
         (IsPlainTerm (weighted_of e.now)) (run_append line x.now)) }
@@ -149,13 +146,13 @@ pub fn element_parts<L: Logic, C: Functions<L>>(
     ensures value { IfOk result (λ r.
         (vs : List Bool) (m : ℕ → ℕ) (calls : Calls) (s : State) (line : ℕ) (p : Term × Term)
         → AreChosen L.reads (C.are_calls run.now.functions.now) g.old vs run.now m calls
-        → gone_way run.now.slots.now.names (way (L.reads g.old vs) path.now ∷ [])
+        → gone_way run.now.slots.now (way (L.reads g.old vs) path.now ∷ [])
         ≡ reached (Some s)
         → ArePlainTerms (weighted_of at.entry.place.now) (weighted_of e.now) m p
         → ElementReads (L.reads g.new vs) r
         (local_at run.now.slots.now.limits calls s line at.entry.name.now)
-        (value_of run.now.slots.now.limits calls s line p.0)
-        (value_of run.now.slots.now.limits calls s line p.1)) }
+        (value_at run.now.slots.now.limits calls s line p.0)
+        (value_at run.now.slots.now.limits calls s line p.1)) }
 {
     let list = local_on(g, run, path, at.name)?;
     let place = eval_on(alloc, g, run, path, at.place)?;
@@ -183,8 +180,7 @@ pub fn exec_put<L: Logic, C: Functions<L>>(
     requires picks { HasPicks run.now.picks.now (weighted_of at.place.now) }
     requires picks_2 { HasPicks run.now.picks.now (weighted_of e.now) }
     ensures extends { Extends L.owns L.reads L.count g.old g.new }
-    ensures held { IfOk result (λ r. HoldsOut L.owns g.new (slot_forms run.now.slots.now)
-        (result_form run.now.slots.now) r) }
+    ensures held { IfOk result (λ r. HoldsOut L.owns g.new run.now.slots.now r) }
     ensures value { IfOk result (λ r. (line : ℕ) →
         RunsAsPlain L.reads (C.are_calls run.now.functions.now) g.old g.new run.now (path ∷ []) r
         (ArePlainTerms (weighted_of at.entry.place.now) (weighted_of e.now))
@@ -220,8 +216,7 @@ pub fn exec_augment_at<L: Logic, C: Functions<L>>(
     requires picks { HasPicks run.now.picks.now (weighted_of at.place.now) }
     requires picks_2 { HasPicks run.now.picks.now (weighted_of by.value.now) }
     ensures extends { Extends L.owns L.reads L.count g.old g.new }
-    ensures held { IfOk result (λ r. HoldsOut L.owns g.new (slot_forms run.now.slots.now)
-        (result_form run.now.slots.now) r) }
+    ensures held { IfOk result (λ r. HoldsOut L.owns g.new run.now.slots.now r) }
     ensures value { IfOk result (λ r. (line : ℕ) →
         RunsAsPlain L.reads (C.are_calls run.now.functions.now) g.old g.new run.now (path ∷ []) r
         (ArePlainTerms (weighted_of at.entry.place.now) (weighted_of by.entry.value.now))
@@ -248,8 +243,7 @@ pub fn exec_print<L: Logic, C: Functions<L>>(
         (type_of (scope_in (C.signatures run.now.functions.now) run.now) (weighted_of e.now)) }
     requires picks { HasPicks run.now.picks.now (weighted_of e.now) }
     ensures extends { Extends L.owns L.reads L.count g.old g.new }
-    ensures held { IfOk result (λ r. HoldsOut L.owns g.new (slot_forms run.now.slots.now)
-        (result_form run.now.slots.now) r) }
+    ensures held { IfOk result (λ r. HoldsOut L.owns g.new run.now.slots.now r) }
     ensures value { IfOk result (λ r. (line : ℕ) →
         RunsAsPlain L.reads (C.are_calls run.now.functions.now) g.old g.new run.now (path ∷ []) r
         (IsPlainTerm (weighted_of e.now)) (run_print line)) }
@@ -273,8 +267,7 @@ pub fn return_value<L: Logic, C: Functions<L>>(
         (weighted_of e.now) }
     requires picks { HasPicks run.now.picks.now (weighted_of e.now) }
     ensures extends { Extends L.owns L.reads L.count g.old g.new }
-    ensures held { IfOk result (λ r. HoldsOut L.owns g.new (slot_forms run.now.slots.now)
-        (result_form run.now.slots.now) r) }
+    ensures held { IfOk result (λ r. HoldsOut L.owns g.new run.now.slots.now r) }
     ensures value { IfOk result (λ r. (line : ℕ) →
         RunsAsPlain L.reads (C.are_calls run.now.functions.now) g.old g.new run.now (path ∷ []) r
         (IsPlainTerm (weighted_of e.now)) (run_return line)) }
@@ -284,7 +277,7 @@ pub fn return_value<L: Logic, C: Functions<L>>(
     Ok(out)
 }
 
-/// A `return`. Without a value it is a fault.
+/// A `return`. Without a value it is a fault, but where printed values are kept.
 pub fn exec_return<L: Logic, C: Functions<L>>(
     alloc: Global,
     g: &mut L,
@@ -297,14 +290,16 @@ pub fn exec_return<L: Logic, C: Functions<L>>(
     requires typed { MayReturn (scope_in (C.signatures run.now.functions.now) run.now) e.now }
     requires picks { AllHavePicks run.now.picks.now (maybe_weighted e.now) }
     ensures extends { Extends L.owns L.reads L.count g.old g.new }
-    ensures held { IfOk result (λ r. HoldsOut L.owns g.new (slot_forms run.now.slots.now)
-        (result_form run.now.slots.now) r) }
+    ensures held { IfOk result (λ r. HoldsOut L.owns g.new run.now.slots.now r) }
     ensures value { IfOk result (λ r. (line : ℕ) →
         RunsAsPlain L.reads (C.are_calls run.now.functions.now) g.old g.new run.now (path ∷ []) r
         (IsPlainMaybe (maybe_weighted e.now)) (run_give line)) }
 {
     match e {
-        None => Ok(no_way_out(alloc, g, run.slots)),
+        None => {
+            let out = out_ended(alloc, g, run.slots, &path)?;
+            Ok(out)
+        }
         Some(value) => {
             let out = return_value(alloc, g, run, path, value)?;
             Ok(out)

@@ -5,7 +5,7 @@ ghost use Rattle.mpy_tree.specs.Statements.{Next};
 ghost use Rattle.mpy_tree.specs.Values.{State};
 ghost use Rattle.sym_paths.specs.Endings.{and_seen, see, seen_from, HoldsOut};
 ghost use Rattle.sym_paths.specs.Paths.{gone_way, reached, ways, HoldsPaths};
-ghost use Rattle.sym_paths.specs.Slots.{slot_forms, result_form};
+ghost use Rattle.sym_paths.specs.Slots.{slot_forms};
 
 use bit_words::NoMemory;
 use bit_words::logic::Logic;
@@ -19,14 +19,13 @@ pub fn add_side<L: Logic>(
     out: &mut Out<L::Bit>,
     side: Option<Path<L::Bit>>,
 ) -> Result<(), NoMemory>
-    requires so_far { HoldsOut L.owns g.now (slot_forms slots.now) (result_form slots.now) out.old }
+    requires so_far { HoldsOut L.owns g.now slots.now out.old }
     requires side { HoldsPaths L.owns g.now (slot_forms slots.now) (option_to_list side) }
-    ensures held { OnOk result
-        (HoldsOut L.owns g.now (slot_forms slots.now) (result_form slots.now) out.new) }
+    ensures held { OnOk result (HoldsOut L.owns g.now slots.now out.new) }
     ensures value { OnOk result ((vs : List Bool) (o : Option State) →
-        gone_way slots.now.names (ways (L.reads g.now vs) (option_to_list side)) ≡ reached o
-        → see (L.reads g.now vs) slots.now.names out.new
-        ≡ and_seen (see (L.reads g.now vs) slots.now.names out.old) (seen_from o Next)) }
+        gone_way slots.now (ways (L.reads g.now vs) (option_to_list side)) ≡ reached o
+        → see (L.reads g.now vs) slots.now out.new
+        ≡ and_seen (see (L.reads g.now vs) slots.now out.old) (seen_from o Next)) }
 {
     match side {
         None => Ok(()),

@@ -4,14 +4,23 @@ use Rattle.std.proofs.Common.{length, map, replicate, Some, None, refl, ap, ◌�
 use Rattle.std.specs.Prelude.{◌&&◌}
 use Rattle.std.proofs.Math.Path.{fun_ext}
 use Rattle.std.proofs.lemmas.Bool.{and_from}
+use Rattle.std.proofs.lemmas.List.{map-append}
 use Rattle.mpy_tree.specs.declared.value.Value.{Value}
 use Rattle.mpy_tree.specs.Values.{State, same_bytes}
 use Rattle.mpy_tree.specs.Running.{bound}
+use Rattle.mpy_tree.specs.declared.limits.Limits.{Limits}
+use Rattle.bit_words.specs.Logic.{OwnsAll}
+use Rattle.bit_words.specs.Later.{owns_both, owns_first, owns_second}
 use Rattle.sym_values.specs.declared.value.SymValue.{SymValue}
+use Rattle.sym_values.specs.declared.value.SymValue.TheVariants as sym
+use Rattle.sym_values.specs.Forms.{IntForm, bits_of, forms_of, values_bits}
+use Rattle.sym_values.specs.Printed.{print_width}
 use Rattle.sym_values.specs.Reading.{Reading, map_bits, read, spelled}
-use Rattle.sym_paths.specs.Paths.{Way, state_in, are_proper, gone_way, reached}
-use Rattle.sym_paths.specs.Paths.{ReadAs}
-use Rattle.sym_paths.proofs.Arrivals.{the_arrival, same_arrival}
+use Rattle.sym_paths.specs.declared.slots.Slots.{Slots}
+use Rattle.sym_paths.specs.Slots.{print_forms}
+use Rattle.sym_paths.specs.Paths.{Way, state_in, are_proper, arrival, gone_way, reached}
+use Rattle.sym_paths.specs.Paths.{ReadAs, kept_on, kept_proper, printed_in}
+use Rattle.sym_paths.proofs.Arrivals.{same_arrival, same_state}
 
 -- no local is set
 unset : (names : List (List ℕ)) (values : List (SymValue Bool)) (m : ℕ) (y : List ℕ)
@@ -72,10 +81,56 @@ pub proper_push : (vs : List (SymValue Bool)) (v : SymValue Bool) → (spelled v
 proper_push [] v e = ap (λ b. b && true) e
 proper_push (w ∷ ws) v e = ap (λ b. (spelled w).proper && b) (proper_push ws v e)
 
+-- proper values more at the end
+proper_append : (vs ws : List (SymValue Bool)) → are_proper ws ≡ true
+    → are_proper (vs ++ ws) ≡ are_proper vs
+proper_append [] ws e = e
+proper_append (v ∷ vs) ws e = ap (λ b. (spelled v).proper && b) (proper_append vs ws e)
+
+-- numbers are proper, and so is what is kept of printed values as it stands
+words_proper : {B : Type 0} (rd : B → Bool) (width n : ℕ) (xs : List (SymValue B))
+    → forms_of xs ≡ replicate n (IntForm width) → are_proper (map (map_bits rd) xs) ≡ true
+words_proper rd width n [] e = refl
+words_proper rd width zero (x ∷ xs) e = absurd cc
+words_proper rd width (suc n) (sym.Int w ∷ xs) e =
+    let rest : forms_of xs ≡ replicate n (IntForm width) = cc in words_proper rd width n xs rest
+words_proper rd width (suc n) (sym.Bool b ∷ xs) e = absurd cc
+words_proper rd width (suc n) (sym.List len items ∷ xs) e = absurd cc
+words_proper rd width (suc n) (sym.Text len items ∷ xs) e = absurd cc
+
+forms_proper : {B : Type 0} (rd : B → Bool) (l : Limits) (n : ℕ) (xs : List (SymValue B))
+    → forms_of xs ≡ print_forms l n → are_proper (map (map_bits rd) xs) ≡ true
+forms_proper rd l n [] e = refl
+forms_proper rd l zero (x ∷ xs) e = absurd cc
+forms_proper rd l (suc n) (sym.Int w ∷ xs) e =
+    let rest : forms_of xs ≡ replicate (suc n) (IntForm (print_width l)) = cc in
+    words_proper rd (print_width l) (suc n) xs rest
+forms_proper rd l (suc n) (sym.Bool b ∷ xs) e = absurd cc
+forms_proper rd l (suc n) (sym.List len items ∷ xs) e = absurd cc
+forms_proper rd l (suc n) (sym.Text len items ∷ xs) e = absurd cc
+
+pub proper_behind : {B : Type 0} (rd : B → Bool) (l : Limits) (n : ℕ) (xs kept : List (SymValue B))
+    → forms_of kept ≡ print_forms l n
+    → are_proper (map (map_bits rd) (xs ++ kept)) ≡ are_proper (map (map_bits rd) xs)
+proper_behind rd l n xs kept e =
+    ap are_proper (map-append (map_bits rd) xs kept)
+    ∙ proper_append (map (map_bits rd) xs) (map (map_bits rd) kept) (forms_proper rd l n kept e)
+
+module _ {S B : Type 0} {owns : S → B → Type 0} where
+  pub owns_behind : {s : S} (xs ys : List (SymValue B)) → OwnsAll owns s (values_bits xs)
+      → OwnsAll owns s (values_bits ys) → OwnsAll owns s (values_bits (xs ++ ys))
+  owns_behind [] ys h k = k
+  owns_behind (x ∷ xs) ys h k = owns_both (owns_first (bits_of x) (values_bits xs) h)
+      (owns_behind xs ys (owns_second (bits_of x) (values_bits xs) h) k)
+
 -- where a way leads that is gone
-pub gone_to : (names : List (List ℕ)) (w : Way) (s : State) → w.gone ≡ true
-    → are_proper w.values ≡ true → state_in names w.values w.set ≡ s
-    → gone_way names (w ∷ []) ≡ reached (Some s)
-gone_to names w s e p q =
-    let there = the_arrival (are_proper w.values) (state_in names w.values w.set) in
-    ap (λ b. cond b (Some there) None) e ∙ ap Some (same_arrival p q)
+pub gone_to : (slots : Slots) (w : Way) (s : State) → w.gone ≡ true
+    → are_proper w.values ≡ true → kept_proper slots.limits (kept_on slots w) ≡ true
+    → state_in slots.names w.values w.set ≡ s.locals
+    → printed_in slots.limits (kept_on slots w) ≡ s.printed
+    → gone_way slots (w ∷ []) ≡ reached (Some s)
+gone_to slots w s e p q l k =
+    ap (λ b. cond b (Some (arrival slots w)) None) e
+    ∙ ap Some (same_arrival
+    (and_from (are_proper w.values) (kept_proper slots.limits (kept_on slots w)) p q)
+    (same_state l k))

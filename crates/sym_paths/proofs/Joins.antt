@@ -1,10 +1,11 @@
 -- Ways that are joined, narrowed and divided.
-use Rattle.std.proofs.Common.{◌≡◌, ℕ, Bool, true, false, cond, List, [], ◌∷◌, ◌++◌, refl, sym}
+use Rattle.std.proofs.Common.{◌≡◌, Bool, true, false, cond, List, [], ◌∷◌, ◌++◌, refl, sym}
 use Rattle.std.proofs.Common.{Option, Some, None, ap, ◌∙◌}
 use Rattle.std.specs.Prelude.{◌||◌, ◌&&◌, not}
 use Rattle.std.proofs.lemmas.List.{map-append}
 use Rattle.sym_values.specs.declared.value.SymValue.{SymValue}
 use Rattle.sym_paths.specs.declared.path.Path.{Path}
+use Rattle.sym_paths.specs.declared.slots.Slots.{Slots}
 use Rattle.sym_paths.specs.Paths.{Way, arrival, way, ways, gone_way}
 use Rattle.sym_paths.specs.Endings.{or_other}
 use Rattle.sym_paths.specs.Sights.{gone_append, or_assoc}
@@ -17,49 +18,49 @@ pub same_way : {a b : Bool} {v w : List (SymValue Bool)} {x y : List Bool} → a
 same_way {a} {b} {v} {w} {x} {y} p q r = cc
 
 -- a way that is gone where one of two is
-either_way : (names : List (List ℕ)) (x y : Way)
-    → gone_way names
+either_way : (slots : Slots) (x y : Way)
+    → gone_way slots
     (the_way (x.gone || y.gone) (cond x.gone x.values y.values) (cond x.gone x.set y.set) ∷ [])
-    ≡ gone_way names (x ∷ y ∷ [])
-either_way names x y =
-    elim x.gone as (λ (b : Bool). gone_way names
+    ≡ gone_way slots (x ∷ y ∷ [])
+either_way slots x y =
+    elim x.gone as (λ (b : Bool). gone_way slots
     (the_way (b || y.gone) (cond b x.values y.values) (cond b x.set y.set) ∷ [])
-    ≡ cond b (Some (arrival names x)) (gone_way names (y ∷ []))) [
+    ≡ cond b (Some (arrival slots x)) (gone_way slots (y ∷ []))) [
       | true ↦ refl
       | false ↦ refl
     ]
 
-pub joined_way : (names : List (List ℕ)) (x y w : Way) → w.gone ≡ (x.gone || y.gone)
+pub joined_way : (slots : Slots) (x y w : Way) → w.gone ≡ (x.gone || y.gone)
     → w.values ≡ cond x.gone x.values y.values → w.set ≡ cond x.gone x.set y.set
-    → gone_way names (w ∷ []) ≡ gone_way names (x ∷ y ∷ [])
-joined_way names x y w a b c =
-    ap (λ (v : Way). gone_way names (v ∷ [])) (same_way a b c) ∙ either_way names x y
+    → gone_way slots (w ∷ []) ≡ gone_way slots (x ∷ y ∷ [])
+joined_way slots x y w a b c =
+    ap (λ (v : Way). gone_way slots (v ∷ [])) (same_way a b c) ∙ either_way slots x y
 
 -- paths after others
-pub ways_both : (names : List (List ℕ)) {B : Type 0} (rd : B → Bool) (xs ys : List (Path B))
-    → gone_way names (ways rd (xs ++ ys))
-    ≡ or_other (gone_way names (ways rd xs)) (gone_way names (ways rd ys))
-ways_both names rd xs ys =
-    ap (gone_way names) (map-append (way rd) xs ys) ∙ gone_append names (ways rd xs) (ways rd ys)
+pub ways_both : (slots : Slots) {B : Type 0} (rd : B → Bool) (xs ys : List (Path B))
+    → gone_way slots (ways rd (xs ++ ys))
+    ≡ or_other (gone_way slots (ways rd xs)) (gone_way slots (ways rd ys))
+ways_both slots rd xs ys =
+    ap (gone_way slots) (map-append (way rd) xs ys) ∙ gone_append slots (ways rd xs) (ways rd ys)
 
 -- the path that stands for the last two
-pub ways_last : (names : List (List ℕ)) {B : Type 0} (rd : B → Bool) (xs : List (Path B))
+pub ways_last : (slots : Slots) {B : Type 0} (rd : B → Bool) (xs : List (Path B))
     (x y z : Path B)
-    → gone_way names (way rd z ∷ []) ≡ gone_way names (way rd x ∷ way rd y ∷ [])
-    → gone_way names (ways rd (xs ++ z ∷ []))
-    ≡ gone_way names (ways rd ((xs ++ x ∷ []) ++ y ∷ []))
-ways_last names rd xs x y z e =
-    let front = gone_way names (ways rd xs) in
-    let one = gone_way names (way rd x ∷ []) in
-    let two = gone_way names (way rd y ∷ []) in
-    let a : gone_way names (ways rd ((xs ++ x ∷ []) ++ y ∷ []))
-    ≡ or_other (gone_way names (ways rd (xs ++ x ∷ []))) two =
-    ways_both names rd (xs ++ x ∷ []) (y ∷ []) in
-    let b : gone_way names (ways rd (xs ++ x ∷ [])) ≡ or_other front one =
-    ways_both names rd xs (x ∷ []) in
-    let c : gone_way names (way rd x ∷ way rd y ∷ []) ≡ or_other one two =
-    gone_append names (way rd x ∷ []) (way rd y ∷ []) in
-    ways_both names rd xs (z ∷ [])
+    → gone_way slots (way rd z ∷ []) ≡ gone_way slots (way rd x ∷ way rd y ∷ [])
+    → gone_way slots (ways rd (xs ++ z ∷ []))
+    ≡ gone_way slots (ways rd ((xs ++ x ∷ []) ++ y ∷ []))
+ways_last slots rd xs x y z e =
+    let front = gone_way slots (ways rd xs) in
+    let one = gone_way slots (way rd x ∷ []) in
+    let two = gone_way slots (way rd y ∷ []) in
+    let a : gone_way slots (ways rd ((xs ++ x ∷ []) ++ y ∷ []))
+    ≡ or_other (gone_way slots (ways rd (xs ++ x ∷ []))) two =
+    ways_both slots rd (xs ++ x ∷ []) (y ∷ []) in
+    let b : gone_way slots (ways rd (xs ++ x ∷ [])) ≡ or_other front one =
+    ways_both slots rd xs (x ∷ []) in
+    let c : gone_way slots (way rd x ∷ way rd y ∷ []) ≡ or_other one two =
+    gone_append slots (way rd x ∷ []) (way rd y ∷ []) in
+    ways_both slots rd xs (z ∷ [])
     ∙ ap (or_other front) (e ∙ c)
     ∙ sym (or_assoc front one two)
     ∙ sym (a ∙ ap (λ o. or_other o two) b)
@@ -90,12 +91,12 @@ by_other true false o = refl
 by_other false true o = refl
 by_other false false o = refl
 
-pub also_way : (names : List (List ℕ)) (x w : Way) (t : Bool) → w.gone ≡ (x.gone && t)
+pub also_way : (slots : Slots) (x w : Way) (t : Bool) → w.gone ≡ (x.gone && t)
     → w.values ≡ x.values → w.set ≡ x.set
-    → gone_way names (w ∷ []) ≡ cond t (gone_way names (x ∷ [])) None
-also_way names x w t a b c =
-    ap (λ (v : Way). gone_way names (v ∷ [])) (same_way a b c)
-    ∙ by_bits x.gone t (Some (arrival names x))
+    → gone_way slots (w ∷ []) ≡ cond t (gone_way slots (x ∷ [])) None
+also_way slots x w t a b c =
+    ap (λ (v : Way). gone_way slots (v ∷ [])) (same_way a b c)
+    ∙ by_bits x.gone t (Some (arrival slots x))
 
 -- the two sides of a test, by the bits with which they are taken
 pub yes_side : {A : Type 0} (a : Option A) (bit g t : Bool) (o : Option A)

@@ -1,7 +1,10 @@
 pub mod Arrivals
 pub mod Lists
+pub mod Keeping
 pub mod Joins
 pub mod Gathers
 pub mod Setting
-pub mod Handing
 pub mod Entering
+pub mod Kept
+pub mod Endings
+pub mod Telling

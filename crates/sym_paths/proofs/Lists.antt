@@ -1,12 +1,11 @@
--- Lists of paths and of returned values that are held.
+-- Lists of paths and of returns that are held.
 use Rattle.std.proofs.Common.{◌≡◌, List, [], ◌∷◌, ◌++◌, sym, subst}
-use Rattle.bit_words.specs.Logic.{OwnsAll}
-use Rattle.sym_values.specs.Forms.{Form, bits_of, form_of}
+use Rattle.sym_values.specs.Forms.{Form}
+use Rattle.sym_paths.specs.declared.slots.Slots.{Slots}
 use Rattle.sym_paths.specs.declared.path.Path.{Path}
 use Rattle.sym_paths.specs.declared.path.Given.{Given}
 use Rattle.sym_paths.specs.Paths.{HoldsPath, HoldsPaths, EachPath}
 use Rattle.sym_paths.specs.Paths.{HoldsGiven, HoldsAllGiven, EachGiven}
-use Rattle.sym_paths.specs.Later.{holds_given}
 
 module _ {S B : Type 0} (owns : S → B → Type 0) (s : S) where
   each_append : (fs : List Form) (xs ys : List (Path B)) → EachPath owns s fs xs
@@ -19,16 +18,16 @@ module _ {S B : Type 0} (owns : S → B → Type 0) (s : S) where
   each_last fs [] x h = (tt, h.0)
   each_last fs (y ∷ xs) x h = let rest = each_last fs xs x h.1 in ((h.0, rest.0), rest.1)
 
-  each_given_append : (f : Form) (xs ys : List (Given B)) → EachGiven owns s f xs
-      → EachGiven owns s f ys → EachGiven owns s f (xs ++ ys)
-  each_given_append f [] ys h k = k
-  each_given_append f (x ∷ xs) ys h k = (h.0, each_given_append f xs ys h.1 k)
+  each_given_append : (c : Slots) (xs ys : List (Given B)) → EachGiven owns s c xs
+      → EachGiven owns s c ys → EachGiven owns s c (xs ++ ys)
+  each_given_append c [] ys h k = k
+  each_given_append c (x ∷ xs) ys h k = (h.0, each_given_append c xs ys h.1 k)
 
-  each_given_last : (f : Form) (xs : List (Given B)) (x : Given B)
-      → EachGiven owns s f (xs ++ x ∷ []) → EachGiven owns s f xs × HoldsGiven owns s f x
-  each_given_last f [] x h = (tt, h.0)
-  each_given_last f (y ∷ xs) x h =
-      let rest = each_given_last f xs x h.1 in ((h.0, rest.0), rest.1)
+  each_given_last : (c : Slots) (xs : List (Given B)) (x : Given B)
+      → EachGiven owns s c (xs ++ x ∷ []) → EachGiven owns s c xs × HoldsGiven owns s c x
+  each_given_last c [] x h = (tt, h.0)
+  each_given_last c (y ∷ xs) x h =
+      let rest = each_given_last c xs x h.1 in ((h.0, rest.0), rest.1)
 
 module _ {S B : Type 0} {owns : S → B → Type 0} where
   pub holds_none : {s : S} {fs : List Form} → HoldsPaths owns s fs []
@@ -60,30 +59,32 @@ module _ {S B : Type 0} {owns : S → B → Type 0} where
       let k : HoldsPaths owns s fs (xs ++ x ∷ []) = subst (HoldsPaths owns s fs) e h in
       (each_last owns s fs xs x k.each).1
 
-  pub given_append : {s : S} {f : Form} {xs ys zs : List (Given B)}
-      → HoldsAllGiven owns s f xs → HoldsAllGiven owns s f ys → zs ≡ xs ++ ys
-      → HoldsAllGiven owns s f zs
-  given_append {s} {f} {xs} {ys} h k e = subst (HoldsAllGiven owns s f) (sym e)
-      (record { each = each_given_append owns s f xs ys h.each k.each })
+  pub given_append : {s : S} {c : Slots} {xs ys zs : List (Given B)}
+      → HoldsAllGiven owns s c xs → HoldsAllGiven owns s c ys → zs ≡ xs ++ ys
+      → HoldsAllGiven owns s c zs
+  given_append {s} {c} {xs} {ys} h k e = subst (HoldsAllGiven owns s c) (sym e)
+      (record { each = each_given_append owns s c xs ys h.each k.each })
 
-  pub given_front : {s : S} {f : Form} {xs zs : List (Given B)} (x : Given B)
-      → HoldsAllGiven owns s f zs → zs ≡ xs ++ x ∷ [] → HoldsAllGiven owns s f xs
-  given_front {s} {f} {xs} x h e =
-      let k : HoldsAllGiven owns s f (xs ++ x ∷ []) = subst (HoldsAllGiven owns s f) e h in
-      record { each = (each_given_last owns s f xs x k.each).0 }
+  pub given_front : {s : S} {c : Slots} {xs zs : List (Given B)} (x : Given B)
+      → HoldsAllGiven owns s c zs → zs ≡ xs ++ x ∷ [] → HoldsAllGiven owns s c xs
+  given_front {s} {c} {xs} x h e =
+      let k : HoldsAllGiven owns s c (xs ++ x ∷ []) = subst (HoldsAllGiven owns s c) e h in
+      record { each = (each_given_last owns s c xs x k.each).0 }
 
-  pub given_last : {s : S} {f : Form} (xs : List (Given B)) {zs : List (Given B)} {x : Given B}
-      → HoldsAllGiven owns s f zs → zs ≡ xs ++ x ∷ [] → HoldsGiven owns s f x
-  given_last {s} {f} xs {zs} {x} h e =
-      let k : HoldsAllGiven owns s f (xs ++ x ∷ []) = subst (HoldsAllGiven owns s f) e h in
-      (each_given_last owns s f xs x k.each).1
+  pub given_last : {s : S} {c : Slots} (xs : List (Given B)) {zs : List (Given B)} {x : Given B}
+      → HoldsAllGiven owns s c zs → zs ≡ xs ++ x ∷ [] → HoldsGiven owns s c x
+  given_last {s} {c} xs {zs} {x} h e =
+      let k : HoldsAllGiven owns s c (xs ++ x ∷ []) = subst (HoldsAllGiven owns s c) e h in
+      (each_given_last owns s c xs x k.each).1
 
-  pub given_one : {s : S} {f : Form} {x : Given B} → HoldsGiven owns s f x
-      → HoldsAllGiven owns s f (x ∷ [])
+  pub given_one : {s : S} {c : Slots} {x : Given B} → HoldsGiven owns s c x
+      → HoldsAllGiven owns s c (x ∷ [])
   given_one h = record { each = (h, tt) }
 
-  pub given_only : {s : S} {f : Form} (x : Given B) {xs : List (Given B)} → xs ≡ x ∷ []
-      → owns s x.bit → OwnsAll owns s (bits_of x.value) → form_of x.value ≡ f
-      → HoldsAllGiven owns s f xs
-  given_only {s} {f} x e b v h =
-      subst (HoldsAllGiven owns s f) (sym e) (given_one (holds_given x b v h))
+  pub given_only : {s : S} {c : Slots} (x : Given B) {xs : List (Given B)} → xs ≡ x ∷ []
+      → HoldsGiven owns s c x → HoldsAllGiven owns s c xs
+  given_only {s} {c} x e h = subst (HoldsAllGiven owns s c) (sym e) (given_one h)
+
+  pub given_nothing : {s : S} {c : Slots} {xs : List (Given B)} → xs ≡ []
+      → HoldsAllGiven owns s c xs
+  given_nothing {s} {c} e = subst (HoldsAllGiven owns s c) (sym e) (record { each = tt })

@@ -1,28 +1,29 @@
 -- A local that is set: what the state is then.
-use Rattle.std.proofs.Common.{◌≡◌, ℕ, zero, suc, ◌<◌, Bool, true, false, cond, List, [], ◌∷◌}
-use Rattle.std.proofs.Common.{length, set, map, get_or, Option, Some, None, refl, sym, ap, ◌∙◌}
+use Rattle.std.proofs.Common.{◌≡◌, ℕ, zero, suc, ◌<◌, Bool, true, false, cond, List, [], ◌∷◌, ◌++◌}
+use Rattle.std.proofs.Common.{length, set, drop, get_or, Option, Some, None, refl, sym, ap, ◌∙◌}
 use Rattle.std.proofs.Common.{arith}
 use Rattle.std.specs.Prelude.{option_map, slice_get}
 use Rattle.std.proofs.Math.Path.{fun_ext}
 use Rattle.std.proofs.lemmas.Bool.{and_from, and_parts, both_ways}
-use Rattle.std.proofs.lemmas.Option.{slice_get-map}
+use Rattle.std.proofs.lemmas.List.{drop-set-lt}
+use Rattle.std.proofs.lemmas.Option.{slice_get-map, slice_get_within}
 use Rattle.std.proofs.lemmas.List.Elements.{All-set}
 use Rattle.std.proofs.lemmas.List.Quantifiers.{position-Some}
 use Rattle.std.proofs.lemmas.Slice.Eq.{bytes_eq-Decides}
-use Rattle.mpy_tree.specs.declared.limits.Limits.{Limits}
 use Rattle.mpy_tree.specs.declared.typing.Ty.{Ty}
 use Rattle.mpy_tree.specs.declared.value.Value.{Value}
-use Rattle.mpy_tree.specs.Values.{State, assign, same_bytes}
+use Rattle.mpy_tree.specs.Values.{State, assign, same_bytes, with_local}
 use Rattle.bit_words.specs.Logic.{OwnsAll}
 use Rattle.bit_words.specs.Later.{owns_both, owns_first, owns_second}
 use Rattle.sym_values.specs.declared.value.SymValue.{SymValue}
 use Rattle.sym_values.specs.Forms.{Form, bits_of, form_of, form_for, forms_of, values_bits}
 use Rattle.sym_values.specs.Reading.{Reading, spelled, sure}
 use Rattle.sym_paths.specs.Paths.{Way, Arrival, arrival, gone_way, reached, state_in, set_to}
-use Rattle.sym_paths.specs.Paths.{are_proper}
+use Rattle.sym_paths.specs.Paths.{are_proper, kept_on, kept_proper, printed_in}
 use Rattle.mpy_tree.specs.Locals.{place_of}
-use Rattle.sym_paths.specs.Slots.{type_among, type_at}
-use Rattle.sym_paths.proofs.Arrivals.{the_arrival, same_arrival}
+use Rattle.sym_paths.specs.declared.slots.Slots.{Slots}
+use Rattle.sym_paths.specs.Slots.{local_forms, print_forms, slot_forms, type_among, type_at}
+use Rattle.sym_paths.proofs.Arrivals.{the_arrival, same_arrival, same_state}
 
 -- the first place of a name among names
 abbrev pub IsFirst : List (List ℕ) → List ℕ → ℕ → Type 0
@@ -69,12 +70,12 @@ set_at (n ∷ ns) (w ∷ ws) (b ∷ bs) x (suc k) v y h p q =
     (λ i j. both_ways (same_bytes x n) h.0
     (is-same x n (sym (same-is y x j) ∙ same-is y n i)))
 
--- the state in which a local has a value is the state before in which it is assigned
+-- the locals of which one has a value are those before with this one
 set_is : (names : List (List ℕ)) (values : List (SymValue Bool)) (bits : List Bool) (x : List ℕ)
     (k : ℕ) (v : SymValue Bool)
     → IsFirst names x k → k < length values → k < length bits
     → state_in names (set values k v) (set bits k true)
-    ≡ assign (state_in names values bits) x (spelled v).value
+    ≡ with_local (state_in names values bits) x (spelled v).value
 set_is names values bits x k v h p q = fun_ext (λ y. set_at names values bits x k v y h p q)
 
 -- values stay proper where a proper one is set
@@ -114,14 +115,30 @@ pub has_place : (names : List (List ℕ)) (types : List Ty) (x : List ℕ) (t : 
 has_place names types x t h e =
     let none : None ≡ Some t = ap (type_at types) h ∙ e in cc
 
+-- a list with more behind it
+get_front : {A : Type 0} (xs ys : List A) (k : ℕ) (a : A) → slice_get xs k ≡ Some a
+    → slice_get (xs ++ ys) k ≡ Some a
+get_front [] ys k a e = absurd cc
+get_front (x ∷ xs) ys zero a e = e
+get_front (x ∷ xs) ys (suc k) a e = get_front xs ys k a e
+
+-- the place of a local is one of those that have types
+pub place_within : (slots : Slots) (x : List ℕ) (k : ℕ) (t : Ty) → Some k ≡ place_of slots.names x
+    → type_among slots.names slots.types x ≡ Some t → k < length slots.types
+place_within slots x k t h e =
+    slice_get_within slots.types k t (typed_place slots.names slots.types x k t h e)
+
 -- the form of the value at a local's place
-pub slot_form : (l : Limits) (names : List (List ℕ)) (types : List Ty) (x : List ℕ) (k : ℕ) (t : Ty)
-    (fs : List Form) → Some k ≡ place_of names x → type_among names types x ≡ Some t
-    → fs ≡ map (form_for l) types → slice_get fs k ≡ Some (form_for l t)
-slot_form l names types x k t fs h e q =
+pub slot_form : (slots : Slots) (x : List ℕ) (k : ℕ) (t : Ty) (fs : List Form)
+    → Some k ≡ place_of slots.names x → type_among slots.names slots.types x ≡ Some t
+    → fs ≡ slot_forms slots → slice_get fs k ≡ Some (form_for slots.limits t)
+slot_form slots x k t fs h e q =
+    let form = form_for slots.limits in
+    let local : slice_get (local_forms slots) k ≡ Some (form t) =
+    slice_get-map form slots.types k
+    ∙ ap (option_map form) (typed_place slots.names slots.types x k t h e) in
     ap (λ i. slice_get i k) q
-    ∙ slice_get-map (form_for l) types k
-    ∙ ap (option_map (form_for l)) (typed_place names types x k t h e)
+    ∙ get_front (local_forms slots) (print_forms slots.limits slots.prints) k (form t) local
 
 module _ {B : Type 0} where
   -- a value of the same form leaves the forms as they are
@@ -156,21 +173,29 @@ gone_set true p q s t h e =
     let both = h refl (ap (λ (a : Arrival). a.proper) i) (ap (λ (a : Arrival). a.state) i) in
     ap Some (same_arrival both.0 both.1)
 
-pub set_way : (names : List (List ℕ)) (w : Way) (x : List ℕ) (k : ℕ) (v : SymValue Bool) (s : State)
-    (u : Value) → IsFirst names x k → k < length w.values → k < length w.set → spelled v ≡ sure u
-    → gone_way names (w ∷ []) ≡ reached (Some s)
-    → gone_way names
+pub set_way : (slots : Slots) (w : Way) (x : List ℕ) (k : ℕ) (v : SymValue Bool) (s : State)
+    (u : Value) → IsFirst slots.names x k → k < length w.values → k < length w.set
+    → k < length slots.types → spelled v ≡ sure u
+    → gone_way slots (w ∷ []) ≡ reached (Some s)
+    → gone_way slots
     (record { gone = w.gone; values = set w.values k v; set = set w.set k true } ∷ [])
     ≡ reached (Some (assign s x u))
-set_way names w x k v s u f p q e at =
-    gone_set w.gone (arrival names w)
-    (the_arrival (are_proper (set w.values k v))
-    (state_in names (set w.values k v) (set w.set k true)))
-    s (assign s x u)
-    (λ b c d. (
-      proper_set w.values k v c (ap (λ (i : Reading). i.proper) e),
-      set_is names w.values w.set x k v f p q ∙ ap (λ i. assign i x (spelled v).value) d
-          ∙ ap (λ (i : Reading). assign s x i.value) e,
+set_way slots w x k v s u f p q r e at =
+    let values = set w.values k v in
+    let n = length slots.types in
+    let new : Way = record { gone = w.gone; values = values; set = set w.set k true } in
+    let kept : drop n values ≡ drop n w.values = drop-set-lt n w.values k v r in
+    gone_set w.gone (arrival slots w) (arrival slots new) s (assign s x u)
+    (λ b c d.
+    let proper = and_parts (are_proper w.values) (kept_proper slots.limits (kept_on slots w)) c in (
+      and_from (are_proper values) (kept_proper slots.limits (drop n values))
+          (proper_set w.values k v proper.0 (ap (λ (i : Reading). i.proper) e))
+          (ap (kept_proper slots.limits) kept ∙ proper.1),
+      same_state
+          (set_is slots.names w.values w.set x k v f p q
+          ∙ ap (λ (i : State). with_local i.locals x (spelled v).value) d
+          ∙ ap (λ (i : Reading). with_local s.locals x i.value) e)
+          (ap (printed_in slots.limits) kept ∙ ap (λ (i : State). i.printed) d),
     ))
     at
 
@@ -178,7 +203,7 @@ gone_none : (b : Bool) (p q : Arrival) → cond b (Some p) None ≡ None → con
 gone_none false p q e = refl
 gone_none true p q e = cc
 
-pub set_none : (names : List (List ℕ)) (w : Way) (values : List (SymValue Bool)) (bits : List Bool)
-    → gone_way names (w ∷ []) ≡ None
-    → gone_way names (record { gone = w.gone; values = values; set = bits } ∷ []) ≡ None
-set_none names w values bits e = gone_none w.gone (arrival names w) _ e
+pub set_none : (slots : Slots) (w : Way) (values : List (SymValue Bool)) (bits : List Bool)
+    → gone_way slots (w ∷ []) ≡ None
+    → gone_way slots (record { gone = w.gone; values = values; set = bits } ∷ []) ≡ None
+set_none slots w values bits e = gone_none w.gone (arrival slots w) _ e

@@ -1,12 +1,15 @@
 -- How a body ends, as it is seen from the ways that lead out of it.
-use Rattle.std.specs.Prelude.{◌≡◌, ℕ, Bool, List, [], ◌∷◌, Option, Some, None, map}
+use Rattle.std.specs.Prelude.{◌≡◌, Bool, true, List, [], ◌∷◌, Option, Some, None, map}
+use Rattle.std.specs.Prelude.{option_map}
 use Rattle.mpy_tree.specs.Values.{State}
 use Rattle.mpy_tree.specs.Statements.{Ran, Next, Broke, Continued, Returned, Failed}
-use Rattle.sym_values.specs.Forms.{Form}
-use Rattle.sym_values.specs.Reading.{Reading, sure}
+use Rattle.sym_values.specs.Reading.{sure}
+use Rattle.sym_paths.specs.declared.slots.Slots.{Slots}
+use Rattle.sym_paths.specs.Slots.{slot_forms}
 use Rattle.sym_paths.specs.declared.path.Path.{Path}
 use Rattle.sym_paths.specs.declared.path.Out.{Out}
-use Rattle.sym_paths.specs.Paths.{Arrival, reached, gone_way, way, ways, first_handed, handed}
+use Rattle.sym_paths.specs.Paths.{Arrival, Return, reached, gone_way, way, ways, first_handed}
+use Rattle.sym_paths.specs.Paths.{handed}
 use Rattle.sym_paths.specs.Paths.{HoldsPaths, HoldsAllGiven}
 
 -- What is seen of an end: where the first way that is gone leads on, out of the loop and to its
@@ -15,7 +18,7 @@ pub record Seen : Type 0 where
   pub next : Option Arrival
   pub broke : Option Arrival
   pub continued : Option Arrival
-  pub returned : Option Reading
+  pub returned : Option Return
 
 abbrev pub nothing_seen : Seen
 nothing_seen = record { next = None; broke = None; continued = None; returned = None }
@@ -28,8 +31,13 @@ seen_of (Broke s) =
     record { next = None; broke = reached (Some s); continued = None; returned = None }
 seen_of (Continued s) =
     record { next = None; broke = None; continued = reached (Some s); returned = None }
-seen_of (Returned v) =
-    record { next = None; broke = None; continued = None; returned = Some (sure v) }
+seen_of (Returned v s) =
+    record {
+      next = None;
+      broke = None;
+      continued = None;
+      returned = Some (record { value = option_map sure v; proper = true; printed = s.printed });
+    }
 seen_of (Failed h) = nothing_seen
 
 -- the same of a run from a state, where one is reached; else nothing is to be seen
@@ -38,12 +46,12 @@ seen_from None run = nothing_seen
 seen_from (Some s) run = seen_of (run s)
 
 -- what the ways out of a body show
-abbrev pub see : {B : Type 0} → (B → Bool) → List (List ℕ) → Out B → Seen
-see rd names out = record {
-  next = gone_way names (ways rd out.next);
-  broke = gone_way names (ways rd out.broke);
-  continued = gone_way names (ways rd out.continued);
-  returned = first_handed (map (handed rd) out.returned);
+abbrev pub see : {B : Type 0} → (B → Bool) → Slots → Out B → Seen
+see rd c out = record {
+  next = gone_way c (ways rd out.next);
+  broke = gone_way c (ways rd out.broke);
+  continued = gone_way c (ways rd out.continued);
+  returned = first_handed c.limits (map (handed rd) out.returned);
 }
 
 -- the first of two, where there is one, or else the second
@@ -72,16 +80,16 @@ turned x = record { next = x.broke; broke = None; continued = None; returned = x
 -- Under all truth values the ways out of a body show how a run ends that begins where a path leads,
 -- and nothing where the path isn't gone.
 abbrev pub RunsAs : {S B : Type 0} → (S → List Bool → B → Bool) → (old new : S)
-    → List (List ℕ) → Path B → Out B → (State → Ran) → Type 0
-RunsAs reads old new names path out run =
+    → Slots → Path B → Out B → (State → Ran) → Type 0
+RunsAs reads old new c path out run =
     (vs : List Bool) (o : Option State)
-    → gone_way names (way (reads old vs) path ∷ []) ≡ reached o
-    → see (reads new vs) names out ≡ seen_from o run
+    → gone_way c (way (reads old vs) path ∷ []) ≡ reached o
+    → see (reads new vs) c out ≡ seen_from o run
 
 -- all that leads out of a body belongs to a state of the logic
-pub record HoldsOut {S B : Type 0} (owns : S → B → Type 0) (s : S) (fs : List Form) (f : Form)
+pub record HoldsOut {S B : Type 0} (owns : S → B → Type 0) (s : S) (c : Slots)
     (out : Out B) : Type 0 where
-  pub next : HoldsPaths owns s fs out.next
-  pub broke : HoldsPaths owns s fs out.broke
-  pub continued : HoldsPaths owns s fs out.continued
-  pub returned : HoldsAllGiven owns s f out.returned
+  pub next : HoldsPaths owns s (slot_forms c) out.next
+  pub broke : HoldsPaths owns s (slot_forms c) out.broke
+  pub continued : HoldsPaths owns s (slot_forms c) out.continued
+  pub returned : HoldsAllGiven owns s c out.returned

@@ -9,3 +9,5 @@ pub mod Steps
 pub mod Items
 pub mod Storing
 pub mod Later
+pub mod Kept
+pub mod Ends

@@ -8,12 +8,13 @@ use Rattle.std.proofs.lemmas.Option.{slice_get-map}
 use Rattle.std.proofs.lemmas.Slice.Eq.{bytes_eq-Decides}
 use Rattle.mpy_tree.specs.Locals.{is_among}
 use Rattle.mpy_tree.specs.Names.{has_twice}
-use Rattle.mpy_tree.specs.Values.{State, same_bytes}
+use Rattle.mpy_tree.specs.Values.{Locals, State, same_bytes}
 use Rattle.sym_values.specs.declared.value.SymValue.{SymValue}
 use Rattle.sym_values.specs.Reading.{map_bits, read, spelled}
 use Rattle.sym_paths.specs.declared.path.Path.{Path}
+use Rattle.sym_paths.specs.declared.slots.Slots.{Slots}
 use Rattle.sym_paths.specs.Paths.{Arrival, arrival, gone_way, reached, state_in, set_to, way}
-use Rattle.sym_paths.specs.Paths.{are_proper}
+use Rattle.sym_paths.specs.Paths.{are_proper, kept_on, kept_proper}
 
 same-is : (x y : List ℕ) → same_bytes x y ≡ true → x ≡ y
 same-is x y = (bytes_eq-Decides x y).0
@@ -62,34 +63,36 @@ proper_at (w ∷ ws) zero v p h =
 proper_at (w ∷ ws) (suc i) v p h =
     proper_at ws i v p (and_parts (spelled w).proper (are_proper ws) h).1
 
-arrival_by : (b : Bool) (p : Arrival) (s : State) → (if b then Some p else None) ≡ reached (Some s)
-    → (p.proper ≡ true) × (p.state ≡ s)
+-- the state to which a way leads that is gone
+pub arrival_by : (b : Bool) (p : Arrival) (s : State)
+    → (if b then Some p else None) ≡ reached (Some s) → (p.proper ≡ true) × (p.state ≡ s)
 arrival_by false p s e = absurd cc
 arrival_by true p s e =
     let same : p ≡ record { proper = true; state = s } = cc in
     (ap (λ (a : Arrival). a.proper) same, ap (λ (a : Arrival). a.state) same)
 
 -- what a local is: by its bit its value, whose length is right
-pub record LocalIs {B : Type 0} (rd : B → Bool) (s : State) (name : List ℕ) (x : SymValue B)
+pub record LocalIs {B : Type 0} (rd : B → Bool) (s : Locals) (name : List ℕ) (x : SymValue B)
     (bit : B) : Type 0 where
   pub local : s name ≡ set_to (rd bit) (map_bits rd x)
   pub proper : (read rd x).proper ≡ true
 
 -- the locals of a path that leads to a state, if their names differ from one another
-pub local_is : {B : Type 0} (rd : B → Bool) (names : List (List ℕ)) (path : Path B) (s : State)
-    (i : ℕ) (name : List ℕ) (x : SymValue B) (bit : B) → has_twice names ≡ false
-    → gone_way names (way rd path ∷ []) ≡ reached (Some s)
-    → slice_get names i ≡ Some name → slice_get path.values i ≡ Some x
-    → slice_get path.set i ≡ Some bit → LocalIs rd s name x bit
-local_is rd names path s i name x bit d at e p q =
+pub local_is : {B : Type 0} (rd : B → Bool) (c : Slots) (path : Path B) (s : State)
+    (i : ℕ) (name : List ℕ) (x : SymValue B) (bit : B) → has_twice c.names ≡ false
+    → gone_way c (way rd path ∷ []) ≡ reached (Some s)
+    → slice_get c.names i ≡ Some name → slice_get path.values i ≡ Some x
+    → slice_get path.set i ≡ Some bit → LocalIs rd s.locals name x bit
+local_is rd c path s i name x bit d at e p q =
     let w = way rd path in
-    let both = arrival_by w.gone (arrival names w) s at in
+    let both = arrival_by w.gone (arrival c w) s at in
     let value : slice_get w.values i ≡ Some (map_bits rd x) =
     slice_get-map (map_bits rd) path.values i ∙ ap (option_map (map_bits rd)) p in
     let mark : slice_get w.set i ≡ Some (rd bit) =
     slice_get-map rd path.set i ∙ ap (option_map rd) q in
+    let proper = and_parts (are_proper w.values) (kept_proper c.limits (kept_on c w)) both.0 in
     record {
-      local = sym (ap (λ (t : State). t name) both.1)
-          ∙ state_at names w.values w.set i name (map_bits rd x) (rd bit) d e value mark;
-      proper = proper_at w.values i (map_bits rd x) value both.0;
+      local = sym (ap (λ (t : State). t.locals name) both.1)
+          ∙ state_at c.names w.values w.set i name (map_bits rd x) (rd bit) d e value mark;
+      proper = proper_at w.values i (map_bits rd x) value proper.0;
     }

@@ -1,11 +1,19 @@
 -- Paths through a body, and what they read as under truth values.
 use Rattle.std.specs.Prelude.{◌≡◌, ℕ, Bool, true, false, ◌&&◌, List, [], ◌∷◌, ◌++◌, length, map}
-use Rattle.std.specs.Prelude.{Option, Some, None, if◌then◌else◌}
+use Rattle.std.specs.Prelude.{take, drop, option_map, option_to_list, Option, Some, None}
+use Rattle.std.specs.Prelude.{if◌then◌else◌, ◌==◌, nat_le}
+use Rattle.std.specs.List.{list_all}
 use Rattle.mpy_tree.specs.declared.value.Value.{Value}
-use Rattle.mpy_tree.specs.Values.{State, nothing_set, same_bytes}
+use Rattle.mpy_tree.specs.declared.limits.Limits.{Limits}
+use Rattle.mpy_tree.specs.Values.{Locals, State, nothing_set, same_bytes}
 use Rattle.bit_words.specs.Logic.{OwnsAll}
 use Rattle.sym_values.specs.declared.value.SymValue.{SymValue}
-use Rattle.sym_values.specs.Forms.{Form, bits_of, form_of, forms_of, values_bits}
+use Rattle.sym_values.specs.Forms.{Form, bits_of, form_of, forms_of, gathered, values_bits}
+use Rattle.bit_words.specs.Words.{nat_of}
+use Rattle.sym_values.specs.Printed.{word_spelled}
+use Rattle.sym_values.specs.declared.value.SymValue.TheVariants as sym
+use Rattle.sym_paths.specs.declared.slots.Slots.{Slots}
+use Rattle.sym_paths.specs.Slots.{kept_by, print_forms, result_form}
 use Rattle.sym_values.specs.Reading.{Reading, map_bits, read, spelled, sure}
 use Rattle.sym_paths.specs.declared.path.Path.{Path}
 use Rattle.sym_paths.specs.declared.path.Given.{Given}
@@ -34,9 +42,9 @@ abbrev pub set_to : Bool → SymValue Bool → Option Value
 set_to true v = Some (spelled v).value
 set_to false v = None
 
--- The state in which the names have these values, where they are set. Of a name that stands twice
+-- The locals of which the names have these values, where they are set. Of a name that stands twice
 -- the first counts.
-abbrev pub state_in : List (List ℕ) → List (SymValue Bool) → List Bool → State
+abbrev pub state_in : List (List ℕ) → List (SymValue Bool) → List Bool → Locals
 state_in (n ∷ ns) (v ∷ vs) (b ∷ bs) =
     λ x. if same_bytes x n then set_to b v else state_in ns vs bs x
 state_in [] vs bs = nothing_set
@@ -48,34 +56,89 @@ pub record Arrival : Type 0 where
   pub proper : Bool
   pub state : State
 
+-- the word of a number
+abbrev pub word_in : SymValue Bool → List Bool
+word_in (sym.Int w) = w
+word_in (sym.Bool b) = []
+word_in (sym.List len xs) = []
+word_in (sym.Text len xs) = []
+
+-- What is kept of printed values stands as their number and a word for each that may be kept. These
+-- are the words that count.
+abbrev pub words_kept : List (SymValue Bool) → List (List Bool)
+words_kept [] = []
+words_kept (n ∷ ws) = map word_in (take (nat_of (word_in n)) ws)
+
+-- the printed values, where they are kept
+abbrev pub printed_in : Limits → List (SymValue Bool) → Option (List Value)
+printed_in l [] = None
+printed_in l (n ∷ ws) = Some (map (λ w. (word_spelled l w).value) (words_kept (n ∷ ws)))
+
+-- whether there are as many words as their number says
+abbrev pub number_fits : List (SymValue Bool) → Bool
+number_fits [] = true
+number_fits (n ∷ ws) = nat_le (nat_of (word_in n)) (length ws)
+
+-- whether what is kept is proper: the number, and each printed value
+abbrev pub kept_proper : Limits → List (SymValue Bool) → Bool
+kept_proper l ps = number_fits ps && list_all (λ w. (word_spelled l w).proper) (words_kept ps)
+
+-- what is kept of a way's printed values, behind the values of the locals
+abbrev pub kept_on : Slots → Way → List (SymValue Bool)
+kept_on c w = drop (length c.types) w.values
+
 -- where a way leads
-abbrev pub arrival : List (List ℕ) → Way → Arrival
-arrival names w = record { proper = are_proper w.values; state = state_in names w.values w.set }
+abbrev pub arrival : Slots → Way → Arrival
+arrival c w = record {
+  proper = are_proper w.values && kept_proper c.limits (kept_on c w);
+  state = record {
+    locals = state_in c.names w.values w.set;
+    printed = printed_in c.limits (kept_on c w);
+  };
+}
 
 -- where the first way leads that is gone, if one is
-abbrev pub gone_way : List (List ℕ) → List Way → Option Arrival
-gone_way names [] = None
-gone_way names (w ∷ ws) = if w.gone then Some (arrival names w) else gone_way names ws
+abbrev pub gone_way : Slots → List Way → Option Arrival
+gone_way c [] = None
+gone_way c (w ∷ ws) = if w.gone then Some (arrival c w) else gone_way c ws
 
 -- A state that the meaning reaches, with proper values, or none. That a path leads there is
--- `gone_way names (way rd path ∷ []) ≡ reached o`: it is gone exactly where there is a state, and
--- its locals are then that state's.
+-- `gone_way c (way rd path ∷ []) ≡ reached o`: it is gone exactly where there is a state, and
+-- what stands there is then that state.
 abbrev pub reached : Option State → Option Arrival
 reached None = None
 reached (Some s) = Some (record { proper = true; state = s })
 
--- a returned value under truth values: whether it is returned, and which it is
+-- a return under truth values: whether it is made, its value, if it has one, and what is kept
 pub record Handed : Type 0 where
   pub gone : Bool
-  pub value : SymValue Bool
+  pub value : Option (SymValue Bool)
+  pub printed : List (SymValue Bool)
 
 abbrev pub handed : {B : Type 0} → (B → Bool) → Given B → Handed
-handed rd x = record { gone = rd x.bit; value = map_bits rd x.value }
+handed rd x = record {
+  gone = rd x.bit;
+  value = option_map (map_bits rd) x.value;
+  printed = map (map_bits rd) x.printed;
+}
 
--- the first value that is returned, if one is
-abbrev pub first_handed : List Handed → Option Reading
-first_handed [] = None
-first_handed (h ∷ hs) = if h.gone then Some (spelled h.value) else first_handed hs
+-- what is returned, with the printed values that are kept, and whether these are proper
+pub record Return : Type 0 where
+  pub value : Option Reading
+  pub proper : Bool
+  pub printed : Option (List Value)
+
+abbrev pub return_of : Limits → Handed → Return
+return_of l h = record {
+  value = option_map spelled h.value;
+  proper = kept_proper l h.printed;
+  printed = printed_in l h.printed;
+}
+
+-- the first return that is made, if one is
+abbrev pub first_handed : Limits → List Handed → Option Return
+first_handed l [] = None
+first_handed l (h ∷ hs) = if h.gone then Some (return_of l h) else first_handed l hs
 
 -- values read as these
 abbrev pub ReadAs : {B : Type 0} → (B → Bool) → List (SymValue B) → List Value → Type 0
@@ -89,7 +152,7 @@ abbrev pub path_bits : {B : Type 0} → Path B → List B
 path_bits p = p.bit ∷ (values_bits p.values ++ p.set)
 
 abbrev pub given_bits : {B : Type 0} → Given B → List B
-given_bits x = x.bit ∷ bits_of x.value
+given_bits x = x.bit ∷ (gathered bits_of (option_to_list x.value) ++ values_bits x.printed)
 
 -- a path whose bits belong to a state of the logic, with values of these forms, each with its bit
 pub record HoldsPath {S B : Type 0} (owns : S → B → Type 0) (s : S) (fs : List Form) (p : Path B)
@@ -107,17 +170,40 @@ pub record HoldsPaths {S B : Type 0} (owns : S → B → Type 0) (s : S) (fs : L
     (ps : List (Path B)) : Type 0 where
   pub each : EachPath owns s fs ps
 
--- a returned value whose bits belong to a state of the logic, of a form
-pub record HoldsGiven {S B : Type 0} (owns : S → B → Type 0) (s : S) (f : Form) (x : Given B)
+-- a value of the result's form, or none, where printed values are kept
+abbrev pub IsGivenBy : {B : Type 0} → Slots → Option (SymValue B) → Type 0
+IsGivenBy c None = (c.prints == 0) ≡ false
+IsGivenBy c (Some v) = Some (form_of v) ≡ result_form c
+
+-- what is kept of printed values, whose bits belong to a state of the logic
+pub record HoldsKept {S B : Type 0} (owns : S → B → Type 0) (s : S) (c : Slots)
+    (ps : List (SymValue B)) : Type 0 where
+  pub owned : OwnsAll owns s (values_bits ps)
+  pub forms_are : forms_of ps ≡ print_forms c.limits c.prints
+
+-- Values of locals, and behind them what is kept at first.
+pub record BeginsKept {S B : Type 0} (owns : S → B → Type 0) (reads : S → List Bool → B → Bool)
+    (s : S) (c : Slots) (locals all : List (SymValue B)) : Type 0 where
+  pub kept : List (SymValue B)
+  pub behind : all ≡ locals ++ kept
+  pub held : HoldsKept owns s c kept
+  pub reads_as : (vs : List Bool)
+      → printed_in c.limits (map (map_bits (reads s vs)) kept) ≡ kept_by c
+  pub proper : (vs : List Bool)
+      → kept_proper c.limits (map (map_bits (reads s vs)) kept) ≡ true
+
+-- A return whose bits belong to a state of the logic, with a value of the result's form or none.
+pub record HoldsGiven {S B : Type 0} (owns : S → B → Type 0) (s : S) (c : Slots) (x : Given B)
     : Type 0 where
   pub owned : OwnsAll owns s (given_bits x)
-  pub form_is : form_of x.value ≡ f
+  pub form_is : IsGivenBy c x.value
+  pub kept : forms_of x.printed ≡ print_forms c.limits c.prints
 
-abbrev pub EachGiven : {S B : Type 0} → (S → B → Type 0) → S → Form → List (Given B) → Type 0
-EachGiven owns s f [] = Unit {0}
-EachGiven owns s f (x ∷ xs) = HoldsGiven owns s f x × EachGiven owns s f xs
+abbrev pub EachGiven : {S B : Type 0} → (S → B → Type 0) → S → Slots → List (Given B) → Type 0
+EachGiven owns s c [] = Unit {0}
+EachGiven owns s c (x ∷ xs) = HoldsGiven owns s c x × EachGiven owns s c xs
 
 -- several such values
-pub record HoldsAllGiven {S B : Type 0} (owns : S → B → Type 0) (s : S) (f : Form)
+pub record HoldsAllGiven {S B : Type 0} (owns : S → B → Type 0) (s : S) (c : Slots)
     (xs : List (Given B)) : Type 0 where
-  pub each : EachGiven owns s f xs
+  pub each : EachGiven owns s c xs

@@ -1,12 +1,14 @@
 -- How what is seen of an end is put together.
-use Rattle.std.specs.Prelude.{◌≡◌, ℕ, Bool, true, false, List, [], ◌∷◌, ◌++◌, Option, Some, None}
+use Rattle.std.specs.Prelude.{◌≡◌, Bool, true, false, List, [], ◌∷◌, ◌++◌, Option, Some, None}
 use Rattle.std.specs.Prelude.{refl}
 use Rattle.std.proofs.Common.{cond, ap, sym}
+use Rattle.mpy_tree.specs.declared.limits.Limits.{Limits}
 use Rattle.mpy_tree.specs.Values.{State}
 use Rattle.mpy_tree.specs.Statements.{Ran, Next, Broke, Continued, Returned, Failed}
 use Rattle.mpy_tree.specs.Statements.{then_on, then_turn}
-use Rattle.sym_values.specs.Reading.{Reading, spelled}
-use Rattle.sym_paths.specs.Paths.{Way, Handed, Arrival, arrival, gone_way, first_handed, reached}
+use Rattle.sym_paths.specs.declared.slots.Slots.{Slots}
+use Rattle.sym_paths.specs.Paths.{Way, Handed, Arrival, Return, arrival, gone_way, reached}
+use Rattle.sym_paths.specs.Paths.{first_handed, return_of}
 use Rattle.sym_paths.specs.Endings.{Seen, nothing_seen, seen_of, seen_from, or_other, and_seen}
 use Rattle.sym_paths.specs.Endings.{ended, turned}
 
@@ -20,10 +22,10 @@ or_assoc None b c = refl
 or_assoc (Some a) b c = refl
 
 -- what is seen, by its parts
-abbrev pub the_sight : Option Arrival → Option Arrival → Option Arrival → Option Reading → Seen
+abbrev pub the_sight : Option Arrival → Option Arrival → Option Arrival → Option Return → Seen
 the_sight a b c d = record { next = a; broke = b; continued = c; returned = d }
 
-pub same_sight : {a a' b b' c c' : Option Arrival} {d d' : Option Reading}
+pub same_sight : {a a' b b' c c' : Option Arrival} {d d' : Option Return}
     → a ≡ a' → b ≡ b' → c ≡ c' → d ≡ d' → the_sight a b c d ≡ the_sight a' b' c' d'
 same_sight {a} {a'} {b} {b'} {c} {c'} {d} {d'} p q r s = cc
 
@@ -38,31 +40,34 @@ and_assoc x y z = same_sight
     (or_assoc x.continued y.continued z.continued)
     (or_assoc x.returned y.returned z.returned)
 
--- ways, and returned values, after others
-pub gone_append : (names : List (List ℕ)) (xs ys : List Way)
-    → gone_way names (xs ++ ys) ≡ or_other (gone_way names xs) (gone_way names ys)
-gone_append names [] ys = refl
-gone_append names (x ∷ xs) ys =
-    elim x.gone as (λ (b : Bool). cond b (Some (arrival names x)) (gone_way names (xs ++ ys))
-    ≡ or_other (cond b (Some (arrival names x)) (gone_way names xs)) (gone_way names ys)) [
+-- ways, and returns, after others
+pub gone_append : (c : Slots) (xs ys : List Way)
+    → gone_way c (xs ++ ys) ≡ or_other (gone_way c xs) (gone_way c ys)
+gone_append c [] ys = refl
+gone_append c (x ∷ xs) ys =
+    elim x.gone as (λ (b : Bool). cond b (Some (arrival c x)) (gone_way c (xs ++ ys))
+    ≡ or_other (cond b (Some (arrival c x)) (gone_way c xs)) (gone_way c ys)) [
       | true ↦ refl
-      | false ↦ gone_append names xs ys
+      | false ↦ gone_append c xs ys
     ]
 
-pub handed_append : (xs ys : List Handed)
-    → first_handed (xs ++ ys) ≡ or_other (first_handed xs) (first_handed ys)
-handed_append [] ys = refl
-handed_append (x ∷ xs) ys =
-    elim x.gone as (λ (b : Bool). cond b (Some (spelled x.value)) (first_handed (xs ++ ys))
-    ≡ or_other (cond b (Some (spelled x.value)) (first_handed xs)) (first_handed ys)) [
+pub handed_append : (l : Limits) (xs ys : List Handed)
+    → first_handed l (xs ++ ys) ≡ or_other (first_handed l xs) (first_handed l ys)
+handed_append l [] ys = refl
+handed_append l (x ∷ xs) ys =
+    elim x.gone as (λ (b : Bool). cond b (Some (return_of l x)) (first_handed l (xs ++ ys))
+    ≡ or_other (cond b (Some (return_of l x)) (first_handed l xs)) (first_handed l ys)) [
       | true ↦ refl
-      | false ↦ handed_append xs ys
+      | false ↦ handed_append l xs ys
     ]
 
 -- the state from which the next statement runs
 abbrev pub state_next : Ran → Option State
 state_next (Next s) = Some s
-state_next _ = None
+state_next (Broke s) = None
+state_next (Continued s) = None
+state_next (Returned v s) = None
+state_next (Failed h) = None
 
 abbrev pub onward : Option State → (State → Ran) → Option State
 onward None run = None
@@ -71,8 +76,10 @@ onward (Some s) run = state_next (run s)
 -- the state from which the next turn of a loop begins
 abbrev pub state_again : Ran → Option State
 state_again (Next s) = Some s
+state_again (Broke s) = None
 state_again (Continued s) = Some s
-state_again _ = None
+state_again (Returned v s) = None
+state_again (Failed h) = None
 
 abbrev pub again : Option State → (State → Ran) → Option State
 again None run = None
@@ -86,7 +93,7 @@ next_is (Some s) run =
       | Next t ↦ refl
       | Broke t ↦ refl
       | Continued t ↦ refl
-      | Returned v ↦ refl
+      | Returned v t ↦ refl
       | Failed h ↦ refl
     ]
 
@@ -99,7 +106,7 @@ again_is (Some s) run =
       | Next t ↦ refl
       | Broke t ↦ refl
       | Continued t ↦ refl
-      | Returned v ↦ refl
+      | Returned v t ↦ refl
       | Failed h ↦ refl
     ]
 
@@ -115,7 +122,7 @@ on_is (Some s) run after =
       | Next t ↦ refl
       | Broke t ↦ refl
       | Continued t ↦ refl
-      | Returned v ↦ refl
+      | Returned v t ↦ refl
       | Failed h ↦ refl
     ]
 
@@ -131,7 +138,7 @@ turn_is (Some s) run after =
       | Next t ↦ refl
       | Broke t ↦ refl
       | Continued t ↦ refl
-      | Returned v ↦ refl
+      | Returned v t ↦ refl
       | Failed h ↦ refl
     ]
 

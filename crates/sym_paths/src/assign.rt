@@ -40,13 +40,13 @@ pub fn assign<L: Logic>(
         × IsValueIn L.owns g.now (form_for slots.now.limits t) value }
     ensures held { HoldsPath L.owns g.now (slot_forms slots.now) result }
     ensures value { (vs : List Bool) (s : State) (v : Value)
-        → gone_way slots.now.names (way (L.reads g.now vs) path ∷ []) ≡ reached (Some s)
+        → gone_way slots.now (way (L.reads g.now vs) path ∷ []) ≡ reached (Some s)
         → read (L.reads g.now vs) value ≡ sure v
-        → gone_way slots.now.names (way (L.reads g.now vs) result ∷ [])
+        → gone_way slots.now (way (L.reads g.now vs) result ∷ [])
         ≡ reached (Some (assigned s x.now v)) }
     ensures none { (vs : List Bool)
-        → gone_way slots.now.names (way (L.reads g.now vs) path ∷ []) ≡ None
-        → gone_way slots.now.names (way (L.reads g.now vs) result ∷ []) ≡ None }
+        → gone_way slots.now (way (L.reads g.now vs) path ∷ []) ≡ None
+        → gone_way slots.now (way (L.reads g.now vs) result ∷ []) ≡ None }
 {
     match slots.names.place(x) {
         None => unreachable!(),

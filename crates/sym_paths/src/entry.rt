@@ -1,17 +1,19 @@
 //! The path at the start of a body.
 
 ghost use Rattle.std.specs.Prelude.{◌≡◌, ◌+◌, ℕ, Bool, true, List, [], ◌∷◌, ◌++◌, length, map};
-ghost use Rattle.std.specs.Prelude.{replicate, Some, IfOk};
+ghost use Rattle.std.specs.Prelude.{drop, replicate, Some, IfOk};
 ghost use Rattle.mpy_tree.specs.declared.value.Value.{Value};
 ghost use Rattle.mpy_tree.specs.Running.{bound};
 ghost use Rattle.bit_words.specs.Logic.{OwnsAll};
 ghost use Rattle.sym_values.specs.Forms.{forms_of, values_bits};
 ghost use Rattle.sym_values.specs.Reading.{map_bits};
 ghost use Rattle.sym_paths.specs.Paths.{way, gone_way, reached, are_proper, ReadAs, HoldsPath};
+ghost use Rattle.sym_paths.specs.Paths.{kept_proper, printed_in};
 ghost use Rattle.sym_paths.specs.Places.{Begins};
-ghost use Rattle.sym_paths.specs.Slots.{slot_forms};
+ghost use Rattle.sym_paths.specs.Slots.{kept_by, local_forms, slot_forms};
 
 use crate::path::Path;
+use crate::printed::with_nothing_printed;
 use crate::slots::Slots;
 use bit_words::NoMemory;
 use bit_words::bits::Bits;
@@ -41,7 +43,8 @@ fn with_constants<L: Logic>(
     Ok(all)
 }
 
-// The values of all locals: those of the parameters, and a zero of its type for each other one.
+// The values of all locals: those of the parameters, and a zero of its type for each other one; and
+// that nothing was printed, where that is kept.
 fn with_zeros<L: Logic>(
     alloc: Global,
     g: &L,
@@ -49,13 +52,21 @@ fn with_zeros<L: Logic>(
     args: SymValues<L::Bit>,
 ) -> Result<SymValues<L::Bit>, NoMemory>
     requires owned { OwnsAll L.owns g.now (values_bits args) }
-    requires typed { Begins (forms_of args) (slot_forms slots.now) }
+    requires typed { Begins (forms_of args) (local_forms slots.now) }
     ensures owned { IfOk result (λ r. OwnsAll L.owns g.now (values_bits r)) }
     ensures forms { IfOk result (λ r. forms_of r ≡ slot_forms slots.now) }
     ensures begins { IfOk result (λ r. Begins args r) }
     ensures proper { IfOk result (λ r. (vs : List Bool) →
         are_proper (map (map_bits (L.reads g.now vs)) r)
         ≡ are_proper (map (map_bits (L.reads g.now vs)) args)) }
+    ensures kept { IfOk result (λ r. (vs : List Bool) →
+        printed_in slots.now.limits
+        (map (map_bits (L.reads g.now vs)) (drop (length slots.now.types) r))
+        ≡ kept_by slots.now) }
+    ensures kept_proper { IfOk result (λ r. (vs : List Bool) →
+        kept_proper slots.now.limits
+        (map (map_bits (L.reads g.now vs)) (drop (length slots.now.types) r))
+        ≡ true) }
 {
     let mut values = args;
     for i in values.len()..slots.count() {
@@ -63,7 +74,8 @@ fn with_zeros<L: Logic>(
         let zero = zero_value(alloc, g, &slots.limits, ty)?;
         values.push(zero)?;
     }
-    Ok(values)
+    let all = with_nothing_printed(alloc, g, slots, values)?;
+    Ok(all)
 }
 
 /// The path at the start of a body whose parameters, which are the first of its locals, have these
@@ -75,14 +87,14 @@ pub fn entry<L: Logic>(
     args: SymValues<L::Bit>,
 ) -> Result<Path<L::Bit>, NoMemory>
     requires owned { OwnsAll L.owns g.now (values_bits args) }
-    requires typed { Begins (forms_of args) (slot_forms slots.now) }
+    requires typed { Begins (forms_of args) (local_forms slots.now) }
     ensures held { IfOk result (λ r. HoldsPath L.owns g.now (slot_forms slots.now) r) }
     ensures value { IfOk result (λ r.
         (vs : List Bool) (params : List (List ℕ)) (values : List Value)
         → Begins params slots.now.names → length params ≡ length args
         → ReadAs (L.reads g.now vs) args values
-        → gone_way slots.now.names (way (L.reads g.now vs) r ∷ [])
-        ≡ reached (Some (bound params values))) }
+        → gone_way slots.now (way (L.reads g.now vs) r ∷ [])
+        ≡ reached (Some (record { locals = bound params values; printed = kept_by slots.now }))) }
 {
     let given = args.len();
     let values = with_zeros(alloc, g, slots, args)?;

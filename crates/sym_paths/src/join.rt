@@ -63,8 +63,8 @@ pub fn join_two<L: Logic>(
     ensures extends { Extends L.owns L.reads L.count g.old g.new }
     ensures held { IfOk result (λ r. HoldsPath L.owns g.new (slot_forms slots.now) r) }
     ensures value { IfOk result (λ r. (vs : List Bool) →
-        gone_way slots.now.names (way (L.reads g.new vs) r ∷ [])
-        ≡ gone_way slots.now.names
+        gone_way slots.now (way (L.reads g.new vs) r ∷ [])
+        ≡ gone_way slots.now
         (way (L.reads g.old vs) a.now ∷ way (L.reads g.old vs) b.now ∷ [])) }
 {
     let bit = or(g, a.bit, b.bit)?;
@@ -86,8 +86,8 @@ pub fn join_known<L: Logic>(
     ensures extends { Extends L.owns L.reads L.count g.old g.new }
     ensures held { IfOk result (λ r. HoldsPath L.owns g.new (slot_forms slots.now) r) }
     ensures value { IfOk result (λ r. (vs : List Bool) →
-        gone_way slots.now.names (way (L.reads g.new vs) r ∷ [])
-        ≡ gone_way slots.now.names
+        gone_way slots.now (way (L.reads g.new vs) r ∷ [])
+        ≡ gone_way slots.now
         (way (L.reads g.old vs) a ∷ way (L.reads g.old vs) b ∷ [])) }
 {
     match g.known(a.bit) {
@@ -116,8 +116,8 @@ pub fn join_all<L: Logic>(
     ensures held { IfOk result (λ r.
         HoldsPaths L.owns g.new (slot_forms slots.now) (option_to_list r)) }
     ensures value { IfOk result (λ r. (vs : List Bool) →
-        gone_way slots.now.names (ways (L.reads g.new vs) (option_to_list r))
-        ≡ gone_way slots.now.names (ways (L.reads g.old vs) all)) }
+        gone_way slots.now (ways (L.reads g.new vs) (option_to_list r))
+        ≡ gone_way slots.now (ways (L.reads g.old vs) all)) }
 {
     let Some(last) = all.pop() else {
         return Ok(None);

@@ -2,11 +2,13 @@
 #![tactic(auto)]
 
 pub mod assign;
+pub mod done;
 pub mod entry;
 pub mod finish;
 pub mod join;
 pub mod outs;
 pub mod path;
+pub mod printed;
 pub mod slots;
 pub mod split;
 pub mod store;

@@ -1,22 +1,25 @@
 //! The ways out of a body, gathered from its parts.
 
-ghost use Rattle.std.specs.Prelude.{◌≡◌, Bool, List, [], ◌∷◌, Option, Some, option_to_list};
+ghost use Rattle.std.specs.Prelude.{◌≡◌, ℕ, Bool, List, [], ◌∷◌, Option, Some, option_to_list};
 ghost use Rattle.std.specs.Prelude.{IfOk, OnOk};
 ghost use Rattle.std.specs.declared.result.Result.{Result};
 ghost use Rattle.mpy_tree.specs.declared.outcome.Halted.{Halted};
+ghost use Rattle.mpy_tree.specs.declared.typing.Ty.{Ty};
 ghost use Rattle.mpy_tree.specs.declared.value.Value.{Value};
 ghost use Rattle.mpy_tree.specs.Values.{State};
-ghost use Rattle.mpy_tree.specs.Statements.{Next, Broke, Continued, Returned, given};
+ghost use Rattle.mpy_tree.specs.Statements.{Next, Broke, Continued, Returned, ended_by, given};
 ghost use Rattle.bit_words.specs.Logic.{Extends};
+ghost use Rattle.sym_values.specs.Forms.{form_for};
 ghost use Rattle.sym_values.specs.Reading.{OutcomeReads};
 ghost use Rattle.sym_values.specs.Results.{IsOutcomeIn};
 ghost use Rattle.sym_paths.specs.Paths.{way, ways, gone_way, reached, HoldsPath, HoldsPaths};
 ghost use Rattle.sym_paths.specs.Endings.{see, or_other, and_seen, ended, turned, nothing_seen};
 ghost use Rattle.sym_paths.specs.Endings.{seen_from, HoldsOut, RunsAs};
-ghost use Rattle.sym_paths.specs.Slots.{slot_forms, result_form};
+ghost use Rattle.sym_paths.specs.Slots.{slot_forms};
 
 use crate::join::join_all;
 use crate::path::{Given, Many, Out, Path};
+use crate::printed::printed_on;
 use crate::slots::Slots;
 use bit_words::NoMemory;
 use bit_words::logic::Logic;
@@ -25,9 +28,9 @@ use sym_values::SymOutcome;
 
 /// No way out.
 pub fn no_way_out<L: Logic>(alloc: Global, _g: &L, _slots: &Slots) -> Out<L::Bit>
-    ensures held { HoldsOut L.owns _g.now (slot_forms _slots.now) (result_form _slots.now) result }
+    ensures held { HoldsOut L.owns _g.now _slots.now result }
     ensures value { (vs : List Bool) →
-        see (L.reads _g.now vs) _slots.now.names result ≡ nothing_seen }
+        see (L.reads _g.now vs) _slots.now result ≡ nothing_seen }
 {
     Out {
         next: Many::new(alloc),
@@ -46,9 +49,9 @@ pub fn out_next<L: Logic>(
 ) -> Result<Out<L::Bit>, NoMemory>
     requires { HoldsPath L.owns _g.now (slot_forms _slots.now) path }
     ensures held { IfOk result (λ r.
-        HoldsOut L.owns _g.now (slot_forms _slots.now) (result_form _slots.now) r) }
+        HoldsOut L.owns _g.now _slots.now r) }
     ensures value { IfOk result (λ r.
-        RunsAs L.reads _g.now _g.now _slots.now.names path r Next) }
+        RunsAs L.reads _g.now _g.now _slots.now path r Next) }
 {
     let next = Many::one(alloc, path)?;
     Ok(Out {
@@ -68,9 +71,9 @@ pub fn out_broke<L: Logic>(
 ) -> Result<Out<L::Bit>, NoMemory>
     requires { HoldsPath L.owns _g.now (slot_forms _slots.now) path }
     ensures held { IfOk result (λ r.
-        HoldsOut L.owns _g.now (slot_forms _slots.now) (result_form _slots.now) r) }
+        HoldsOut L.owns _g.now _slots.now r) }
     ensures value { IfOk result (λ r.
-        RunsAs L.reads _g.now _g.now _slots.now.names path r Broke) }
+        RunsAs L.reads _g.now _g.now _slots.now path r Broke) }
 {
     let broke = Many::one(alloc, path)?;
     Ok(Out {
@@ -90,9 +93,9 @@ pub fn out_continued<L: Logic>(
 ) -> Result<Out<L::Bit>, NoMemory>
     requires { HoldsPath L.owns _g.now (slot_forms _slots.now) path }
     ensures held { IfOk result (λ r.
-        HoldsOut L.owns _g.now (slot_forms _slots.now) (result_form _slots.now) r) }
+        HoldsOut L.owns _g.now _slots.now r) }
     ensures value { IfOk result (λ r.
-        RunsAs L.reads _g.now _g.now _slots.now.names path r Continued) }
+        RunsAs L.reads _g.now _g.now _slots.now path r Continued) }
 {
     let continued = Many::one(alloc, path)?;
     Ok(Out {
@@ -112,23 +115,61 @@ pub fn out_returned<L: Logic>(
     outcome: SymOutcome<L::Bit>,
 ) -> Result<Out<L::Bit>, NoMemory>
     requires held { HoldsPath L.owns g.old (slot_forms slots.now) path.now }
-    requires outcome { IsOutcomeIn L.owns g.old (result_form slots.now) outcome }
+    requires outcome { (t : Ty) × (slots.now.result ≡ Some t)
+        × IsOutcomeIn L.owns g.old (form_for slots.now.limits t) outcome }
     ensures extends { Extends L.owns L.reads L.count g.old g.new }
     ensures held { IfOk result (λ r.
-        HoldsOut L.owns g.new (slot_forms slots.now) (result_form slots.now) r) }
+        HoldsOut L.owns g.new slots.now r) }
     ensures value { IfOk result (λ r.
         (vs : List Bool) (o : Option State) (k : State → Result Value Halted)
-        → gone_way slots.now.names (way (L.reads g.old vs) path.now ∷ []) ≡ reached o
+        → gone_way slots.now (way (L.reads g.old vs) path.now ∷ []) ≡ reached o
         → ((s : State) → o ≡ Some s → OutcomeReads (L.reads g.old vs) outcome (k s))
-        → see (L.reads g.new vs) slots.now.names r ≡ seen_from o (λ s. given (k s) Returned)) }
+        → see (L.reads g.new vs) slots.now r
+        ≡ seen_from o (λ s. given (k s) (λ v. Returned (Some v) s))) }
 {
     let fine = g.not(outcome.fault);
     let bit = g.and(path.bit, fine)?;
+    let printed = printed_on(alloc, slots, path)?;
     let returned = Many::one(
         alloc,
         Given {
             bit,
-            value: outcome.value,
+            value: Some(outcome.value),
+            printed,
+        },
+    )?;
+    Ok(Out {
+        next: Many::new(alloc),
+        broke: Many::new(alloc),
+        continued: Many::new(alloc),
+        returned,
+    })
+}
+
+/// A path that ends by a `return` alone. Where printed values are kept it ends the run without a
+/// value; else there is a fault.
+pub fn out_ended<L: Logic>(
+    alloc: Global,
+    g: &L,
+    slots: &Slots,
+    path: &Path<L::Bit>,
+) -> Result<Out<L::Bit>, NoMemory>
+    requires { HoldsPath L.owns g.now (slot_forms slots.now) path.now }
+    ensures held { IfOk result (λ r. HoldsOut L.owns g.now slots.now r) }
+    ensures value { IfOk result (λ r. (line : ℕ) →
+        RunsAs L.reads g.now g.now slots.now path.now r (λ s. ended_by line s s.printed)) }
+{
+    if slots.prints == 0 {
+        let out = no_way_out(alloc, g, slots);
+        return Ok(out);
+    }
+    let printed = printed_on(alloc, slots, path)?;
+    let returned = Many::one(
+        alloc,
+        Given {
+            bit: path.bit,
+            value: None,
+            printed,
         },
     )?;
     Ok(Out {
@@ -146,15 +187,14 @@ pub fn add_next<L: Logic>(
     out: &mut Out<L::Bit>,
     path: Path<L::Bit>,
 ) -> Result<(), NoMemory>
-    requires so_far { HoldsOut L.owns _g.now (slot_forms _slots.now)
-        (result_form _slots.now) out.old }
+    requires so_far { HoldsOut L.owns _g.now _slots.now out.old }
     requires path { HoldsPath L.owns _g.now (slot_forms _slots.now) path }
     ensures held { OnOk result
-        (HoldsOut L.owns _g.now (slot_forms _slots.now) (result_form _slots.now) out.new) }
+        (HoldsOut L.owns _g.now _slots.now out.new) }
     ensures value { OnOk result ((vs : List Bool) (o : Option State) →
-        gone_way _slots.now.names (way (L.reads _g.now vs) path ∷ []) ≡ reached o
-        → see (L.reads _g.now vs) _slots.now.names out.new
-        ≡ and_seen (see (L.reads _g.now vs) _slots.now.names out.old) (seen_from o Next)) }
+        gone_way _slots.now (way (L.reads _g.now vs) path ∷ []) ≡ reached o
+        → see (L.reads _g.now vs) _slots.now out.new
+        ≡ and_seen (see (L.reads _g.now vs) _slots.now out.old) (seen_from o Next)) }
 {
     out.next.push(path)?;
     Ok(())
@@ -167,15 +207,14 @@ pub fn add_part<L: Logic>(
     out: &mut Out<L::Bit>,
     part: Out<L::Bit>,
 ) -> Result<(), NoMemory>
-    requires so_far { HoldsOut L.owns _g.now (slot_forms _slots.now)
-        (result_form _slots.now) out.old }
-    requires part { HoldsOut L.owns _g.now (slot_forms _slots.now) (result_form _slots.now) part }
+    requires so_far { HoldsOut L.owns _g.now _slots.now out.old }
+    requires part { HoldsOut L.owns _g.now _slots.now part }
     ensures held { OnOk result
-        (HoldsOut L.owns _g.now (slot_forms _slots.now) (result_form _slots.now) out.new) }
+        (HoldsOut L.owns _g.now _slots.now out.new) }
     ensures value { OnOk result ((vs : List Bool) →
-        see (L.reads _g.now vs) _slots.now.names out.new
-        ≡ and_seen (see (L.reads _g.now vs) _slots.now.names out.old)
-        (see (L.reads _g.now vs) _slots.now.names part)) }
+        see (L.reads _g.now vs) _slots.now out.new
+        ≡ and_seen (see (L.reads _g.now vs) _slots.now out.old)
+        (see (L.reads _g.now vs) _slots.now part)) }
 {
     out.next.append(part.next)?;
     out.broke.append(part.broke)?;
@@ -192,20 +231,20 @@ pub fn take_step<L: Logic>(
     out: &mut Out<L::Bit>,
     step: Out<L::Bit>,
 ) -> Result<Option<Path<L::Bit>>, NoMemory>
-    requires so_far { HoldsOut L.owns g.old (slot_forms slots.now) (result_form slots.now) out.old }
-    requires step { HoldsOut L.owns g.old (slot_forms slots.now) (result_form slots.now) step }
+    requires so_far { HoldsOut L.owns g.old slots.now out.old }
+    requires step { HoldsOut L.owns g.old slots.now step }
     ensures extends { Extends L.owns L.reads L.count g.old g.new }
     ensures held { OnOk result
-        (HoldsOut L.owns g.new (slot_forms slots.now) (result_form slots.now) out.new) }
+        (HoldsOut L.owns g.new slots.now out.new) }
     ensures on { IfOk result (λ r.
         HoldsPaths L.owns g.new (slot_forms slots.now) (option_to_list r)) }
     ensures value { OnOk result ((vs : List Bool) →
-        see (L.reads g.new vs) slots.now.names out.new
-        ≡ and_seen (see (L.reads g.old vs) slots.now.names out.old)
-        (ended (see (L.reads g.old vs) slots.now.names step))) }
+        see (L.reads g.new vs) slots.now out.new
+        ≡ and_seen (see (L.reads g.old vs) slots.now out.old)
+        (ended (see (L.reads g.old vs) slots.now step))) }
     ensures next { IfOk result (λ r. (vs : List Bool) →
-        gone_way slots.now.names (ways (L.reads g.new vs) (option_to_list r))
-        ≡ gone_way slots.now.names (ways (L.reads g.old vs) step.next)) }
+        gone_way slots.now (ways (L.reads g.new vs) (option_to_list r))
+        ≡ gone_way slots.now (ways (L.reads g.old vs) step.next)) }
 {
     let on = join_all(alloc, g, slots, step.next)?;
     out.broke.append(step.broke)?;
@@ -223,21 +262,21 @@ pub fn take_turn<L: Logic>(
     out: &mut Out<L::Bit>,
     turn: Out<L::Bit>,
 ) -> Result<Option<Path<L::Bit>>, NoMemory>
-    requires so_far { HoldsOut L.owns g.old (slot_forms slots.now) (result_form slots.now) out.old }
-    requires turn { HoldsOut L.owns g.old (slot_forms slots.now) (result_form slots.now) turn }
+    requires so_far { HoldsOut L.owns g.old slots.now out.old }
+    requires turn { HoldsOut L.owns g.old slots.now turn }
     ensures extends { Extends L.owns L.reads L.count g.old g.new }
     ensures held { OnOk result
-        (HoldsOut L.owns g.new (slot_forms slots.now) (result_form slots.now) out.new) }
+        (HoldsOut L.owns g.new slots.now out.new) }
     ensures on { IfOk result (λ r.
         HoldsPaths L.owns g.new (slot_forms slots.now) (option_to_list r)) }
     ensures value { OnOk result ((vs : List Bool) →
-        see (L.reads g.new vs) slots.now.names out.new
-        ≡ and_seen (see (L.reads g.old vs) slots.now.names out.old)
-        (turned (see (L.reads g.old vs) slots.now.names turn))) }
+        see (L.reads g.new vs) slots.now out.new
+        ≡ and_seen (see (L.reads g.old vs) slots.now out.old)
+        (turned (see (L.reads g.old vs) slots.now turn))) }
     ensures next { IfOk result (λ r. (vs : List Bool) →
-        gone_way slots.now.names (ways (L.reads g.new vs) (option_to_list r))
-        ≡ or_other (see (L.reads g.old vs) slots.now.names turn).next
-        (see (L.reads g.old vs) slots.now.names turn).continued) }
+        gone_way slots.now (ways (L.reads g.new vs) (option_to_list r))
+        ≡ or_other (see (L.reads g.old vs) slots.now turn).next
+        (see (L.reads g.old vs) slots.now turn).continued) }
 {
     let mut again = turn.next;
     again.append(turn.continued)?;

@@ -9,7 +9,8 @@ use std::marker::Model;
 use sym_values::{SymValue, SymValues};
 
 /// A path through a body: a bit that says whether it is taken, and the locals there, each with a
-/// value and a bit that says whether it is set.
+/// value and a bit that says whether it is set. Where printed values are kept, their number and
+/// they stand behind the locals, each with a bit of no meaning.
 #[derive(Drop)]
 pub struct Path<B: Copy> {
     pub bit: B,
@@ -32,11 +33,13 @@ impl<B: Copy> Path<B> {
     }
 }
 
-/// A value that is returned where a bit holds.
+/// A value that is returned where a bit holds, or a return without one, with what is kept then of
+/// printed values.
 #[derive(Drop)]
 pub struct Given<B: Copy> {
     pub bit: B,
-    pub value: SymValue<B>,
+    pub value: Option<SymValue<B>>,
+    pub printed: SymValues<B>,
 }
 
 /// Things in order.

@@ -1,16 +1,18 @@
-//! What is known of a function's locals and of its result.
+//! What is known of a function's locals, of its result and of what it prints.
 
 ghost use Rattle.std.specs.Prelude.{◌≡◌, ◌<◌, length, Some, slice_get};
 
 use mpy_tree::{Limits, Names, Ty, Tys};
 
-/// The locals of a function with their types, the type of its result, and the limits of a run.
+/// The locals of a function with their types, the type of its result, if it has one, the limits of
+/// a run, and how many printed values are kept: none in a function that is called.
 #[derive(Drop)]
 pub struct Slots {
     pub limits: Limits,
     pub names: Names,
     pub types: Tys,
-    pub result: Ty,
+    pub result: Option<Ty>,
+    pub prints: u32,
 }
 
 impl Slots {

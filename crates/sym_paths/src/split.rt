@@ -51,9 +51,9 @@ pub fn narrow<L: Logic>(
     ensures extends { Extends L.owns L.reads L.count g.old g.new }
     ensures held { IfOk result (λ r. HoldsPath L.owns g.new (slot_forms slots.now) r) }
     ensures value { IfOk result (λ r. (vs : List Bool) →
-        gone_way slots.now.names (way (L.reads g.new vs) r ∷ [])
+        gone_way slots.now (way (L.reads g.new vs) r ∷ [])
         ≡ (if L.reads g.old vs test
-        then gone_way slots.now.names (way (L.reads g.old vs) path ∷ []) else None)) }
+        then gone_way slots.now (way (L.reads g.old vs) path ∷ []) else None)) }
 {
     let bit = both(g, path.bit, test)?;
     Ok(Path {
@@ -68,8 +68,8 @@ pub fn living<L: Logic>(g: &L, slots: &Slots, path: Path<L::Bit>) -> Option<Path
     requires { HoldsPath L.owns g.now (slot_forms slots.now) path }
     ensures held { HoldsPaths L.owns g.now (slot_forms slots.now) (option_to_list result) }
     ensures value { (vs : List Bool) →
-        gone_way slots.now.names (ways (L.reads g.now vs) (option_to_list result))
-        ≡ gone_way slots.now.names (way (L.reads g.now vs) path ∷ []) }
+        gone_way slots.now (ways (L.reads g.now vs) (option_to_list result))
+        ≡ gone_way slots.now (way (L.reads g.now vs) path ∷ []) }
 {
     match g.known(path.bit) {
         Some(false) => None,
@@ -83,9 +83,9 @@ fn with_bit<L: Logic>(_g: &L, _slots: &Slots, path: Path<L::Bit>, bit: L::Bit) -
     requires bit { L.owns _g.now bit }
     ensures held { HoldsPath L.owns _g.now (slot_forms _slots.now) result }
     ensures value { (vs : List Bool) →
-        gone_way _slots.now.names (way (L.reads _g.now vs) result ∷ [])
+        gone_way _slots.now (way (L.reads _g.now vs) result ∷ [])
         ≡ (if L.reads _g.now vs bit
-        then Some (arrival _slots.now.names (way (L.reads _g.now vs) path)) else None) }
+        then Some (arrival _slots.now (way (L.reads _g.now vs) path)) else None) }
 {
     Path {
         bit,
@@ -105,9 +105,9 @@ fn copy_with_bit<L: Logic>(
     requires bit { L.owns _g.now bit }
     ensures held { IfOk result (λ r. HoldsPath L.owns _g.now (slot_forms _slots.now) r) }
     ensures value { IfOk result (λ r. (vs : List Bool) →
-        gone_way _slots.now.names (way (L.reads _g.now vs) r ∷ [])
+        gone_way _slots.now (way (L.reads _g.now vs) r ∷ [])
         ≡ (if L.reads _g.now vs bit
-        then Some (arrival _slots.now.names (way (L.reads _g.now vs) path.now)) else None)) }
+        then Some (arrival _slots.now (way (L.reads _g.now vs) path.now)) else None)) }
 {
     let values = path.values.copy()?;
     let set = path.set.copy()?;
@@ -130,13 +130,13 @@ fn both_sides<L: Logic>(
     ensures held_no { IfOk result (λ r.
         HoldsPaths L.owns g.now (slot_forms slots.now) (option_to_list r.no)) }
     ensures yes { IfOk result (λ r. (vs : List Bool) →
-        gone_way slots.now.names (ways (L.reads g.now vs) (option_to_list r.yes))
+        gone_way slots.now (ways (L.reads g.now vs) (option_to_list r.yes))
         ≡ (if L.reads g.now vs yes
-        then Some (arrival slots.now.names (way (L.reads g.now vs) path)) else None)) }
+        then Some (arrival slots.now (way (L.reads g.now vs) path)) else None)) }
     ensures no { IfOk result (λ r. (vs : List Bool) →
-        gone_way slots.now.names (ways (L.reads g.now vs) (option_to_list r.no))
+        gone_way slots.now (ways (L.reads g.now vs) (option_to_list r.no))
         ≡ (if L.reads g.now vs no
-        then Some (arrival slots.now.names (way (L.reads g.now vs) path)) else None)) }
+        then Some (arrival slots.now (way (L.reads g.now vs) path)) else None)) }
 {
     match g.known(no) {
         Some(false) => {
@@ -179,13 +179,13 @@ fn divide_by<L: Logic>(
     ensures held_no { IfOk result (λ r.
         HoldsPaths L.owns g.new (slot_forms slots.now) (option_to_list r.no)) }
     ensures yes { IfOk result (λ r. (vs : List Bool) →
-        gone_way slots.now.names (ways (L.reads g.new vs) (option_to_list r.yes))
+        gone_way slots.now (ways (L.reads g.new vs) (option_to_list r.yes))
         ≡ (if L.reads g.old vs test
-        then gone_way slots.now.names (way (L.reads g.old vs) path ∷ []) else None)) }
+        then gone_way slots.now (way (L.reads g.old vs) path ∷ []) else None)) }
     ensures no { IfOk result (λ r. (vs : List Bool) →
-        gone_way slots.now.names (ways (L.reads g.new vs) (option_to_list r.no))
+        gone_way slots.now (ways (L.reads g.new vs) (option_to_list r.no))
         ≡ (if L.reads g.old vs test
-        then None else gone_way slots.now.names (way (L.reads g.old vs) path ∷ []))) }
+        then None else gone_way slots.now (way (L.reads g.old vs) path ∷ []))) }
 {
     let other = g.not(test);
     let yes = g.and(path.bit, test)?;
@@ -209,13 +209,13 @@ fn divide<L: Logic>(
     ensures held_no { IfOk result (λ r.
         HoldsPaths L.owns g.new (slot_forms slots.now) (option_to_list r.no)) }
     ensures yes { IfOk result (λ r. (vs : List Bool) →
-        gone_way slots.now.names (ways (L.reads g.new vs) (option_to_list r.yes))
+        gone_way slots.now (ways (L.reads g.new vs) (option_to_list r.yes))
         ≡ (if L.reads g.old vs test
-        then gone_way slots.now.names (way (L.reads g.old vs) path ∷ []) else None)) }
+        then gone_way slots.now (way (L.reads g.old vs) path ∷ []) else None)) }
     ensures no { IfOk result (λ r. (vs : List Bool) →
-        gone_way slots.now.names (ways (L.reads g.new vs) (option_to_list r.no))
+        gone_way slots.now (ways (L.reads g.new vs) (option_to_list r.no))
         ≡ (if L.reads g.old vs test
-        then None else gone_way slots.now.names (way (L.reads g.old vs) path ∷ []))) }
+        then None else gone_way slots.now (way (L.reads g.old vs) path ∷ []))) }
 {
     match g.known(test) {
         Some(true) => {
@@ -250,13 +250,13 @@ fn split_by<L: Logic>(
     ensures held_no { IfOk result (λ r.
         HoldsPaths L.owns g.new (slot_forms slots.now) (option_to_list r.no)) }
     ensures yes { IfOk result (λ r. (vs : List Bool) →
-        gone_way slots.now.names (ways (L.reads g.new vs) (option_to_list r.yes))
+        gone_way slots.now (ways (L.reads g.new vs) (option_to_list r.yes))
         ≡ (if L.reads g.old vs fault then None else if L.reads g.old vs test
-        then gone_way slots.now.names (way (L.reads g.old vs) path ∷ []) else None)) }
+        then gone_way slots.now (way (L.reads g.old vs) path ∷ []) else None)) }
     ensures no { IfOk result (λ r. (vs : List Bool) →
-        gone_way slots.now.names (ways (L.reads g.new vs) (option_to_list r.no))
+        gone_way slots.now (ways (L.reads g.new vs) (option_to_list r.no))
         ≡ (if L.reads g.old vs fault then None else if L.reads g.old vs test
-        then None else gone_way slots.now.names (way (L.reads g.old vs) path ∷ []))) }
+        then None else gone_way slots.now (way (L.reads g.old vs) path ∷ []))) }
 {
     let fine = g.not(fault);
     let here = narrow(g, slots, path, fine)?;
@@ -281,13 +281,13 @@ pub fn split<L: Logic>(
     ensures held_no { IfOk result (λ r.
         HoldsPaths L.owns g.new (slot_forms slots.now) (option_to_list r.no)) }
     ensures yes { IfOk result (λ r. (vs : List Bool) →
-        gone_way slots.now.names (ways (L.reads g.new vs) (option_to_list r.yes))
+        gone_way slots.now (ways (L.reads g.new vs) (option_to_list r.yes))
         ≡ (if L.reads g.old vs fault then None else if L.reads g.old vs test
-        then gone_way slots.now.names (way (L.reads g.old vs) path ∷ []) else None)) }
+        then gone_way slots.now (way (L.reads g.old vs) path ∷ []) else None)) }
     ensures no { IfOk result (λ r. (vs : List Bool) →
-        gone_way slots.now.names (ways (L.reads g.new vs) (option_to_list r.no))
+        gone_way slots.now (ways (L.reads g.new vs) (option_to_list r.no))
         ≡ (if L.reads g.old vs fault then None else if L.reads g.old vs test
-        then None else gone_way slots.now.names (way (L.reads g.old vs) path ∷ []))) }
+        then None else gone_way slots.now (way (L.reads g.old vs) path ∷ []))) }
 {
     match g.known(fault) {
         Some(true) => Ok(Sides {

@@ -1,8 +1,7 @@
 use Rattle.std.proofs.Common.{◌≡◌, ◌∙◌, ◌+◌, ◌-◌, [], ◌∷◌, Some, map, drop, ap, sym, subst, arith, is_some}
 use Rattle.std.proofs.lemmas.List.{drop_all}
 use Rattle.bit_words.specs.Logic.{extends_keeps, extends_refl, extends_trans}
-use Rattle.mpy_tree.specs.Expressions.{value_of}
-use Rattle.mpy_tree.specs.Statements.{Next, run_block, while_turns}
+use Rattle.mpy_tree.specs.Statements.{Next, run_block, while_turns, value_at}
 use Rattle.mpy_tree.specs.Syntax.{Block}
 use Rattle.mpy_tree.specs.Trees as kind
 use Rattle.mpy_tree.specs.Values.{State}
@@ -98,7 +97,6 @@ exec_live-returns-in-None-clause-value g t c vs m calls o b chosen at is =
     let reads = g.L.Logic.reads in
     let run = c.args.run.now in
     let slots = run.slots.now in
-    let names = slots.names in
     let l = slots.limits in
     let before = c.loop-s.invariant in
     let all = before.value vs m calls o b chosen at is in
@@ -111,9 +109,9 @@ exec_live-returns-in-None-clause-value g t c vs m calls o b chosen at is =
     let this = run_statement l calls first.first in
     let now = chosen_later (extends_keeps before.extends) c.requires.run chosen in
     let step = c.in_ok-step.ensures.value vs m calls n first.first now all.2 first.plain_first in
-    let kept = see_later (extends_keeps c.exec_stmt.ensures.extends) before.out names vs in
-    let after = see (reads c.take_step.new.g vs) names c.take_step.new.out in
-    let goes = statement_goes l calls m (see (reads c.loop-s.g vs) names c.loop-s.out) after _ _ _ n all.1 (weighted_stmt s) (weighteds (map weighted_stmt rest)) first
+    let kept = see_later (extends_keeps c.exec_stmt.ensures.extends) before.out vs in
+    let after = see (reads c.take_step.new.g vs) slots c.take_step.new.out in
+    let goes = statement_goes l calls m (see (reads c.loop-s.g vs) slots c.loop-s.out) after _ _ _ n all.1 (weighted_stmt s) (weighteds (map weighted_stmt rest)) first
     (c.in_ok-take_step.ensures.value vs) kept step all.4 in
     let next = c.in_ok-take_step.ensures.next vs ∙ ap (λ (x : Seen). x.next) step ∙ next_is n this in
     let none = rw c.in-None.is at next in
@@ -135,7 +133,6 @@ exec_live-loop-s-preserved g t c =
           let reads = g.L.Logic.reads in
           let run = c.args.run.now in
           let slots = run.slots.now in
-          let names = slots.names in
           let l = slots.limits in
           let before = c.loop-s.invariant in
           let all = before.value vs m calls o b chosen at is in
@@ -148,9 +145,9 @@ exec_live-loop-s-preserved g t c =
           let this = run_statement l calls first.first in
           let now = chosen_later (extends_keeps before.extends) c.requires.run chosen in
           let step = c.in_ok-step.ensures.value vs m calls n first.first now all.2 first.plain_first in
-          let kept = see_later (extends_keeps c.exec_stmt.ensures.extends) before.out names vs in
-          let after = see (reads c.take_step.new.g vs) names c.take_step.new.out in
-          let goes = statement_goes l calls m (see (reads c.loop-s.g vs) names c.loop-s.out) after _ _ _ n all.1 (weighted_stmt s) (weighteds (map weighted_stmt rest)) first
+          let kept = see_later (extends_keeps c.exec_stmt.ensures.extends) before.out vs in
+          let after = see (reads c.take_step.new.g vs) slots c.take_step.new.out in
+          let goes = statement_goes l calls m (see (reads c.loop-s.g vs) slots c.loop-s.out) after _ _ _ n all.1 (weighted_stmt s) (weighteds (map weighted_stmt rest)) first
           (c.in_ok-take_step.ensures.value vs) kept step all.4 in
           let next = c.in_ok-take_step.ensures.next vs ∙ ap (λ (x : Seen). x.next) step ∙ next_is n this in
           (onward n this, first.rest, rw c.in-Some.is at next, first.plain_rest, goes);
@@ -159,7 +156,7 @@ exec_live-loop-s-preserved g t c =
 pub exec_live-returns-clause-value : goal.exec_live-returns-clause-value
 exec_live-returns-clause-value g t c vs m calls o b chosen at is =
     let slots = c.args.run.now.slots.now in
-    let start = see (g.L.Logic.reads c.loop-s.g vs) slots.names c.loop-s.out in
+    let start = see (g.L.Logic.reads c.loop-s.g vs) slots c.loop-s.out in
     let all = c.loop-s.invariant.value vs m calls o b chosen at is in
     let items = c.deref-s-items.result.now in
     let none = block_end m all.1 (all.3 ∙ ap (λ l. plains m (weighteds (map weighted_stmt l))) (drop_all c.loop-s.s-index items c.loop-s-test.false)) in
@@ -167,6 +164,24 @@ exec_live-returns-clause-value g t c vs m calls o b chosen at is =
 
 pub exec_arm-returns-clause-extends : goal.exec_arm-returns-clause-extends
 exec_arm-returns-clause-extends g t c = extends_trans c.tested.ensures.extends c.exec_side.ensures.extends
+
+pub exec_if-returns-in_err-add_part-clause-extends : goal.exec_if-returns-in_err-add_part-clause-extends
+exec_if-returns-in_err-add_part-clause-extends g t c = extends_trans c.loop-arm.invariant.extends c.exec_arm.ensures.extends
+
+pub exec_if-returns-in_err-add_part-2-clause-extends : goal.exec_if-returns-in_err-add_part-2-clause-extends
+exec_if-returns-in_err-add_part-2-clause-extends g t c = extends_trans c.loop-arm.invariant.extends c.exec_else.ensures.extends
+
+pub exec_while-returns-in_err-add_side-clause-extends : goal.exec_while-returns-in_err-add_side-clause-extends
+exec_while-returns-in_err-add_side-clause-extends g t c = extends_trans c.turns.invariant.extends c.tested.ensures.extends
+
+pub exec_while-returns-in_err-turn-clause-extends : goal.exec_while-returns-in_err-turn-clause-extends
+exec_while-returns-in_err-turn-clause-extends g t c = extends_trans (extends_trans c.turns.invariant.extends c.tested.ensures.extends) c.exec_side.ensures.extends
+
+pub exec_items-returns-in_err-add_side-clause-extends : goal.exec_items-returns-in_err-add_side-clause-extends
+exec_items-returns-in_err-add_side-clause-extends g t c = extends_trans c.items.invariant.extends c.more_items.ensures.extends
+
+pub exec_items-returns-in_err-round-clause-extends : goal.exec_items-returns-in_err-round-clause-extends
+exec_items-returns-in_err-round-clause-extends g t c = extends_trans (extends_trans c.items.invariant.extends c.more_items.ensures.extends) c.exec_item.ensures.extends
 
 pub exec_while-returns-in_err-take_turn-clause-extends : goal.exec_while-returns-in_err-take_turn-clause-extends
 exec_while-returns-in_err-take_turn-clause-extends g t c = extends_trans (extends_trans (extends_trans c.turns.invariant.extends c.tested.ensures.extends) c.exec_side.ensures.extends) c.take_turn.ensures.extends
@@ -458,7 +473,6 @@ exec_if-returns-in-None-clause-value g t c vs m calls o p chosen at is =
     let reads = g.L.Logic.reads in
     let run = c.args.run.now in
     let slots = run.slots.now in
-    let names = slots.names in
     let l = slots.limits in
     let last = weighted_else c.args.last.now in
     let before = c.loop-arm.invariant in
@@ -472,9 +486,9 @@ exec_if-returns-in-None-clause-value g t c vs m calls o p chosen at is =
     let first = arms_more m all.1 p.1 arm.line (weighted_arm a) (weighted_of arm.test) (weighted_body arm.body) rest (arm_is a) (all.3 ∙ ap (λ l. plains m (arms_before (map weighted_arm l) last)) more) in
     let now = chosen_later (extends_keeps before.extends) c.requires.run chosen in
     let tried = c.in_ok-tried.ensures.value vs m calls n first.first now all.2 first.plain_first in
-    let kept = see_later (extends_keeps c.exec_arm.ensures.extends) before.out names vs in
-    let after = see (reads c.exec_arm.new.g vs) names c.add_part.new.out in
-    let goes = arm_goes l calls m (see (reads c.loop-arm.g vs) names c.loop-arm.out) after _ _ _ n tried.0 all.1 p.1 (weighted_arm a) rest first
+    let kept = see_later (extends_keeps c.exec_arm.ensures.extends) before.out vs in
+    let after = see (reads c.exec_arm.new.g vs) slots c.add_part.new.out in
+    let goes = arm_goes l calls m (see (reads c.loop-arm.g vs) slots c.loop-arm.out) after _ _ _ n tried.0 all.1 p.1 (weighted_arm a) rest first
     (c.in_ok-add_part.ensures.value vs) kept tried.2 all.4 in
     let none = rw c.in-None.is at tried.1 in
     sym (nothing_more after tried.0 (run_if l calls (first.rest, p.1)) (sym none)) ∙ goes
@@ -496,7 +510,6 @@ exec_if-loop-arm-preserved g t c =
           let reads = g.L.Logic.reads in
           let run = c.args.run.now in
           let slots = run.slots.now in
-          let names = slots.names in
           let l = slots.limits in
           let last = weighted_else c.args.last.now in
           let before = c.loop-arm.invariant in
@@ -510,9 +523,9 @@ exec_if-loop-arm-preserved g t c =
           let first = arms_more m all.1 p.1 arm.line (weighted_arm a) (weighted_of arm.test) (weighted_body arm.body) rest (arm_is a) (all.3 ∙ ap (λ l. plains m (arms_before (map weighted_arm l) last)) more) in
           let now = chosen_later (extends_keeps before.extends) c.requires.run chosen in
           let tried = c.in_ok-tried.ensures.value vs m calls n first.first now all.2 first.plain_first in
-          let kept = see_later (extends_keeps c.exec_arm.ensures.extends) before.out names vs in
-          let after = see (reads c.exec_arm.new.g vs) names c.add_part.new.out in
-          let goes = arm_goes l calls m (see (reads c.loop-arm.g vs) names c.loop-arm.out) after _ _ _ n tried.0 all.1 p.1 (weighted_arm a) rest first
+          let kept = see_later (extends_keeps c.exec_arm.ensures.extends) before.out vs in
+          let after = see (reads c.exec_arm.new.g vs) slots c.add_part.new.out in
+          let goes = arm_goes l calls m (see (reads c.loop-arm.g vs) slots c.loop-arm.out) after _ _ _ n tried.0 all.1 p.1 (weighted_arm a) rest first
           (c.in_ok-add_part.ensures.value vs) kept tried.2 all.4 in
           (tried.0, first.rest, rw c.in-Some.is at tried.1, first.plain_rest, goes);
     }
@@ -546,8 +559,8 @@ exec_if-returns-clause-value g t c vs m calls o p chosen at is =
     let none = arms_end m all.1 p.1 c.args.last.now (all.3 ∙ ap (λ l. plains m (arms_before (map weighted_arm l) last)) (drop_all c.loop-arm.arm-index items c.loop-arm-test.false)) in
     let now = chosen_later (extends_keeps before.extends) c.requires.run chosen in
     let part = c.in_ok-part.ensures.value vs m calls all.0 p.1 now all.2 none.1 in
-    let kept = see_later (extends_keeps c.exec_else.ensures.extends) before.out slots.names vs in
-    last_goes slots.limits calls m (see (reads c.loop-arm.g vs) slots.names c.loop-arm.out) _ _ _ _ all.0 all.1 p.1 none.0 (c.in_ok-add_part-2.ensures.value vs) kept part all.4
+    let kept = see_later (extends_keeps c.exec_else.ensures.extends) before.out vs in
+    last_goes slots.limits calls m (see (reads c.loop-arm.g vs) slots c.loop-arm.out) _ _ _ _ all.0 all.1 p.1 none.0 (c.in_ok-add_part-2.ensures.value vs) kept part all.4
 
 -- one arm
 pub exec_arm-tested-requires-clause-typed : goal.exec_arm-tested-requires-clause-typed
@@ -575,10 +588,10 @@ exec_arm-returns-clause-value g t c vs m calls o a chosen at is =
     let l = slots.limits in
     let arm = out-WArm c.args.arm.now in
     let parts = arm_parts l calls m a arm.line (weighted_of arm.test) (weighted_body arm.body) (is ∙ ap (plain m) (arm_is c.args.arm.now)) in
-    let test = λ (s : State). value_of l calls s parts.0 parts.1 in
+    let test = λ (s : State). value_at l calls s parts.0 parts.1 in
     let yes = c.in_ok-sides.ensures.yes vs m calls o parts.0 parts.1 chosen at parts.3 in
     let no = c.in_ok-sides.ensures.no vs m calls o parts.0 parts.1 chosen at parts.3 in
-    let off = all_lead_later slots.names vs (extends_keeps c.exec_side.ensures.extends) c.in_ok-sides.ensures.held_no no in
+    let off = all_lead_later slots vs (extends_keeps c.exec_side.ensures.extends) c.in_ok-sides.ensures.held_no no in
     let now = chosen_later (extends_keeps c.tested.ensures.extends) c.requires.run chosen in
     let part = c.in_ok-part.ensures.value vs m calls (passes o test) parts.2 now yes parts.4 in
     (misses o test, off, λ rest. one_arm l calls m a parts.0 parts.1 parts.2 _ o rest parts.5 part)
@@ -631,16 +644,15 @@ pub exec_while-returns-then-left-eq0-clause-value : goal.exec_while-returns-then
 exec_while-returns-then-left-eq0-clause-value g t c line vs m calls o p chosen at is =
     let reads = g.L.Logic.reads in
     let slots = c.args.run.now.slots.now in
-    let names = slots.names in
     let l = slots.limits in
     let before = c.turns.invariant in
     let all = before.value vs m calls o line p chosen at is in
     let n = all.0 in
-    let test = λ (s : State). value_of l calls s line p.0 in
+    let test = λ (s : State). value_at l calls s line p.0 in
     let now = chosen_later (extends_keeps before.extends) c.requires.run chosen in
     let no = c.in_ok-sides.ensures.no vs m calls n line p.0 now all.1 is.0 in
-    let start = see (reads c.turns.g vs) names c.turns.out in
-    let kept = see_later (extends_keeps c.tested.ensures.extends) before.out names vs in
+    let start = see (reads c.turns.g vs) slots c.turns.out in
+    let kept = see_later (extends_keeps c.tested.ensures.extends) before.out vs in
     let left = c.in_ok-add_side.ensures.value vs (misses n test) no ∙ ap (λ (x : Seen). and_seen x (seen_from (misses n test) Next)) kept in
     last_turn_goes start _ _ n test (run_block l calls p.1) c.turns.left line c.if-left-eq0.true left all.2
 
@@ -659,23 +671,22 @@ pub exec_while-returns-in-None-clause-value : goal.exec_while-returns-in-None-cl
 exec_while-returns-in-None-clause-value g t c line vs m calls o p chosen at is =
     let reads = g.L.Logic.reads in
     let slots = c.args.run.now.slots.now in
-    let names = slots.names in
     let l = slots.limits in
     let before = c.turns.invariant in
     let all = before.value vs m calls o line p chosen at is in
     let n = all.0 in
-    let test = λ (s : State). value_of l calls s line p.0 in
+    let test = λ (s : State). value_at l calls s line p.0 in
     let now = chosen_later (extends_keeps before.extends) c.requires.run chosen in
     let no = c.in_ok-sides.ensures.no vs m calls n line p.0 now all.1 is.0 in
-    let start = see (reads c.turns.g vs) names c.turns.out in
-    let kept = see_later (extends_keeps c.tested.ensures.extends) before.out names vs in
+    let start = see (reads c.turns.g vs) slots c.turns.out in
+    let kept = see_later (extends_keeps c.tested.ensures.extends) before.out vs in
     let left = c.in_ok-add_side.ensures.value vs (misses n test) no ∙ ap (λ (x : Seen). and_seen x (seen_from (misses n test) Next)) kept in
     let body = run_block l calls p.1 in
     let yes = c.in_ok-sides.ensures.yes vs m calls n line p.0 now all.1 is.0 in
     let then = chosen_later (extends_keeps (extends_trans before.extends c.tested.ensures.extends)) c.requires.run chosen in
     let turn = c.in_ok-turn.ensures.value vs m calls (passes n test) p.1 then yes is.1 in
-    let out = see_later (extends_keeps c.exec_side.ensures.extends) c.in_ok-add_side.ensures.held names vs in
-    let after = see (reads c.take_turn.new.g vs) names c.take_turn.new.out in
+    let out = see_later (extends_keeps c.exec_side.ensures.extends) c.in_ok-add_side.ensures.held vs in
+    let after = see (reads c.take_turn.new.g vs) slots c.take_turn.new.out in
     let goes = turn_goes start _ after _ _ _ n test body c.turns.left line (omega arith) left (c.in_ok-take_turn.ensures.value vs) out turn all.2 in
     let next = c.in_ok-take_turn.ensures.next vs ∙ ap (λ (x : Seen). or_other x.next x.continued) turn ∙ again_is (passes n test) body in
     let none = rw c.in-None.is at next in
@@ -689,23 +700,22 @@ exec_while-turns-preserved g t c = record {
   value = λ vs m calls o line p chosen at is.
       let reads = g.L.Logic.reads in
       let slots = c.args.run.now.slots.now in
-      let names = slots.names in
       let l = slots.limits in
       let before = c.turns.invariant in
       let all = before.value vs m calls o line p chosen at is in
       let n = all.0 in
-      let test = λ (s : State). value_of l calls s line p.0 in
+      let test = λ (s : State). value_at l calls s line p.0 in
       let now = chosen_later (extends_keeps before.extends) c.requires.run chosen in
       let no = c.in_ok-sides.ensures.no vs m calls n line p.0 now all.1 is.0 in
-      let start = see (reads c.turns.g vs) names c.turns.out in
-      let kept = see_later (extends_keeps c.tested.ensures.extends) before.out names vs in
+      let start = see (reads c.turns.g vs) slots c.turns.out in
+      let kept = see_later (extends_keeps c.tested.ensures.extends) before.out vs in
       let left = c.in_ok-add_side.ensures.value vs (misses n test) no ∙ ap (λ (x : Seen). and_seen x (seen_from (misses n test) Next)) kept in
       let body = run_block l calls p.1 in
       let yes = c.in_ok-sides.ensures.yes vs m calls n line p.0 now all.1 is.0 in
       let then = chosen_later (extends_keeps (extends_trans before.extends c.tested.ensures.extends)) c.requires.run chosen in
       let turn = c.in_ok-turn.ensures.value vs m calls (passes n test) p.1 then yes is.1 in
-      let out = see_later (extends_keeps c.exec_side.ensures.extends) c.in_ok-add_side.ensures.held names vs in
-      let after = see (reads c.take_turn.new.g vs) names c.take_turn.new.out in
+      let out = see_later (extends_keeps c.exec_side.ensures.extends) c.in_ok-add_side.ensures.held vs in
+      let after = see (reads c.take_turn.new.g vs) slots c.take_turn.new.out in
       let goes = turn_goes start _ after _ _ _ n test body c.turns.left line (omega arith) left (c.in_ok-take_turn.ensures.value vs) out turn all.2 in
       let next = c.in_ok-take_turn.ensures.next vs ∙ ap (λ (x : Seen). or_other x.next x.continued) turn ∙ again_is (passes n test) body in
       (again (passes n test) body, rw c.in-Some.is at next, goes);
@@ -772,14 +782,14 @@ exec_for-returns-clause-value g t c line vs m calls o p chosen at is =
     let reads = g.L.Logic.reads in
     let mid = reads c.eval_on.new.g vs in
     let fault = c.in_ok-list.list.fault in
-    let value = λ (s : State). value_of l calls s line p.0 in
+    let value = λ (s : State). value_at l calls s line p.0 in
     let k = λ (s : State). given_items line (value s) in
     let has = λ (v : Value) (e : read mid x ≡ sure v). has_members mid x v (ap is_some some) e in
     let gives = λ (s : State) (e : o ≡ Some s). c.in_ok-list.ensures.value vs m calls s line p.0 chosen (at ∙ ap reached e) is.0 in
-    let here = leads_later slots.names vs (extends_keeps c.eval_on.ensures.extends) c.requires.path at in
+    let here = leads_later slots vs (extends_keeps c.eval_on.ensures.extends) c.requires.path at in
     let fine_bit = c.not-fine.ensures.value vs in
     let on = rw fine_bit at (c.in_ok-here.ensures.value vs) in
-    let lead = leads_fine _ (gone_way slots.names (way mid c.args.path ∷ [])) o (mid fault) k here (λ s e. fault_is line (mid fault) (read mid x) (value s) has (gives s e)) on in
+    let lead = leads_fine _ (gone_way slots (way mid c.args.path ∷ [])) o (mid fault) k here (λ s e. fault_is line (mid fault) (read mid x) (value s) has (gives s e)) on in
     let both = extends_keeps (extends_trans c.eval_on.ensures.extends c.narrow.ensures.extends) in
     let have = items_later vs x (fine o k) (items o k) (extends_keeps c.narrow.ensures.extends) made.owned (items_first line mid x has (mid fault) o value gives) in
     let now = chosen_later both c.requires.run chosen in
@@ -828,7 +838,6 @@ pub exec_items-returns-then-place-run-clause-value : goal.exec_items-returns-the
 exec_items-returns-then-place-run-clause-value g t c vs m calls o b ms line chosen at has is =
     let reads = g.L.Logic.reads in
     let slots = c.args.run.now.slots.now in
-    let names = slots.names in
     let l = slots.limits in
     let list = c.args.over.list.now in
     let x = c.args.over.name.now in
@@ -837,7 +846,7 @@ exec_items-returns-then-place-run-clause-value g t c vs m calls o b ms line chos
     let all = before.value vs m calls o b ms line chosen at has is in
     let n = all.0 in
     let i = c.items.place in
-    let start = see (reads c.items.g vs) names c.items.out in
+    let start = see (reads c.items.g vs) slots c.items.out in
     let some = ap is_some c.requires.item.2 in
     let room = sequence_room l list c.requires.list.form some in
     let none = λ (s : State) (e : n ≡ Some s). few_items (reads c.args.g.now vs) list ms i (all.2 s e) (omega (arith, room)) in
@@ -850,7 +859,6 @@ pub exec_items-returns-then-turns-eq0-clause-value : goal.exec_items-returns-the
 exec_items-returns-then-turns-eq0-clause-value g t c vs m calls o b ms line chosen at has is =
     let reads = g.L.Logic.reads in
     let slots = c.args.run.now.slots.now in
-    let names = slots.names in
     let l = slots.limits in
     let list = c.args.over.list.now in
     let x = c.args.over.name.now in
@@ -859,11 +867,11 @@ exec_items-returns-then-turns-eq0-clause-value g t c vs m calls o b ms line chos
     let all = before.value vs m calls o b ms line chosen at has is in
     let n = all.0 in
     let i = c.items.place in
-    let start = see (reads c.items.g vs) names c.items.out in
+    let start = see (reads c.items.g vs) slots c.items.out in
     let have = items_later vs list n ms (extends_keeps before.extends) c.requires.list.owned all.2 in
     let leave = leaving n (drop i ms) in
     let no = c.in_ok-sides.ensures.no vs n ms all.1 have in
-    let kept = see_later (extends_keeps c.more_items.ensures.extends) before.out names vs in
+    let kept = see_later (extends_keeps c.more_items.ensures.extends) before.out vs in
     let left = c.in_ok-add_side.ensures.value vs leave no ∙ ap (λ (y : Seen). and_seen y (seen_from leave Next)) kept in
     last_item_goes start _ _ n (drop i ms) x body c.items.turns line c.if-turns-eq0.true left all.3
 
@@ -874,7 +882,6 @@ pub exec_items-returns-in-None-clause-value : goal.exec_items-returns-in-None-cl
 exec_items-returns-in-None-clause-value g t c vs m calls o b ms line chosen at has is =
     let reads = g.L.Logic.reads in
     let slots = c.args.run.now.slots.now in
-    let names = slots.names in
     let l = slots.limits in
     let list = c.args.over.list.now in
     let x = c.args.over.name.now in
@@ -883,11 +890,11 @@ exec_items-returns-in-None-clause-value g t c vs m calls o b ms line chosen at h
     let all = before.value vs m calls o b ms line chosen at has is in
     let n = all.0 in
     let i = c.items.place in
-    let start = see (reads c.items.g vs) names c.items.out in
+    let start = see (reads c.items.g vs) slots c.items.out in
     let have = items_later vs list n ms (extends_keeps before.extends) c.requires.list.owned all.2 in
     let leave = leaving n (drop i ms) in
     let no = c.in_ok-sides.ensures.no vs n ms all.1 have in
-    let kept = see_later (extends_keeps c.more_items.ensures.extends) before.out names vs in
+    let kept = see_later (extends_keeps c.more_items.ensures.extends) before.out vs in
     let left = c.in_ok-add_side.ensures.value vs leave no ∙ ap (λ (y : Seen). and_seen y (seen_from leave Next)) kept in
     let enter = entering n x (drop i ms) in
     let yes = c.in_ok-sides.ensures.yes vs n ms all.1 have in
@@ -895,8 +902,8 @@ exec_items-returns-in-None-clause-value g t c vs m calls o b ms line chosen at h
     let now = chosen_later then c.requires.run chosen in
     let late = items_later vs list n ms then c.requires.list.owned all.2 in
     let turn = c.in_ok-round.ensures.value vs m calls n b ms now yes late is in
-    let out = see_later (extends_keeps c.exec_item.ensures.extends) c.in_ok-add_side.ensures.held names vs in
-    let after = see (reads c.take_turn.new.g vs) names c.take_turn.new.out in
+    let out = see_later (extends_keeps c.exec_item.ensures.extends) c.in_ok-add_side.ensures.held vs in
+    let after = see (reads c.take_turn.new.g vs) slots c.take_turn.new.out in
     let goes = item_goes start _ after _ _ _ n ms x body i c.items.turns line (omega arith) left (c.in_ok-take_turn.ensures.value vs) out turn all.3 in
     let next = c.in_ok-take_turn.ensures.next vs ∙ ap (λ (y : Seen). or_other y.next y.continued) turn ∙ again_is enter body in
     let none = rw c.in-None.is at next in
@@ -911,7 +918,6 @@ exec_items-items-preserved g t c = record {
   value = λ vs m calls o b ms line chosen at has is.
       let reads = g.L.Logic.reads in
       let slots = c.args.run.now.slots.now in
-      let names = slots.names in
       let l = slots.limits in
       let list = c.args.over.list.now in
       let x = c.args.over.name.now in
@@ -920,11 +926,11 @@ exec_items-items-preserved g t c = record {
       let all = before.value vs m calls o b ms line chosen at has is in
       let n = all.0 in
       let i = c.items.place in
-      let start = see (reads c.items.g vs) names c.items.out in
+      let start = see (reads c.items.g vs) slots c.items.out in
       let have = items_later vs list n ms (extends_keeps before.extends) c.requires.list.owned all.2 in
       let leave = leaving n (drop i ms) in
       let no = c.in_ok-sides.ensures.no vs n ms all.1 have in
-      let kept = see_later (extends_keeps c.more_items.ensures.extends) before.out names vs in
+      let kept = see_later (extends_keeps c.more_items.ensures.extends) before.out vs in
       let left = c.in_ok-add_side.ensures.value vs leave no ∙ ap (λ (y : Seen). and_seen y (seen_from leave Next)) kept in
       let enter = entering n x (drop i ms) in
       let yes = c.in_ok-sides.ensures.yes vs n ms all.1 have in
@@ -932,8 +938,8 @@ exec_items-items-preserved g t c = record {
       let now = chosen_later then c.requires.run chosen in
       let late = items_later vs list n ms then c.requires.list.owned all.2 in
       let turn = c.in_ok-round.ensures.value vs m calls n b ms now yes late is in
-      let out = see_later (extends_keeps c.exec_item.ensures.extends) c.in_ok-add_side.ensures.held names vs in
-      let after = see (reads c.take_turn.new.g vs) names c.take_turn.new.out in
+      let out = see_later (extends_keeps c.exec_item.ensures.extends) c.in_ok-add_side.ensures.held vs in
+      let after = see (reads c.take_turn.new.g vs) slots c.take_turn.new.out in
       let goes = item_goes start _ after _ _ _ n ms x body i c.items.turns line (omega arith) left (c.in_ok-take_turn.ensures.value vs) out turn all.3 in
       let next = c.in_ok-take_turn.ensures.next vs ∙ ap (λ (y : Seen). or_other y.next y.continued) turn ∙ again_is enter body in
       (again enter body, rw c.in-Some.is at next, items_again (reads c.args.g.now vs) list n x (drop i ms) ms body all.2, goes);

@@ -1,9 +1,9 @@
 use Rattle.std.proofs.Common.{◌≡◌, ◌≤◌, ◌+◌, ◌*◌, ℕ, Bool, List, [], ◌∷◌, Option, map, drop}
 use Rattle.bit_words.specs.Logic.{Extends}
 use Rattle.mpy_tree.specs.declared.value.Value.{Value}
-use Rattle.mpy_tree.specs.Expressions.{Calls, value_of}
+use Rattle.mpy_tree.specs.Expressions.{Calls}
 use Rattle.mpy_tree.specs.Shapes.{arms_shapes, last_shapes, statement_shapes}
-use Rattle.mpy_tree.specs.Statements.{for_turns, run_block, while_turns}
+use Rattle.mpy_tree.specs.Statements.{for_turns, run_block, while_turns, value_at}
 use Rattle.mpy_tree.specs.Syntax.{Block, Branches, MaybeBlock, Term}
 use Rattle.mpy_tree.specs.Values.{State}
 use Rattle.choice_tree.specs.Selections.{plains}
@@ -13,7 +13,7 @@ use Rattle.choice_tree.specs.WeightedViews.{weighted_of, weighteds}
 use Rattle.sym_nodes.specs.Environments.{AllHavePicks}
 use Rattle.sym_paths.specs.Endings.{HoldsOut, and_seen, see, seen_from}
 use Rattle.sym_paths.specs.Paths.{HoldsPath, gone_way, reached, way}
-use Rattle.sym_paths.specs.Slots.{result_form, slot_forms}
+use Rattle.sym_paths.specs.Slots.{slot_forms}
 use Rattle.typed_trees.specs.TypedStatements.{AreTyped}
 use Rattle.sym_blocks.specs.Bodies.{AreChosen, scope_in}
 use Rattle.sym_blocks.specs.Runs.{IsPlainBlock, IsPlainIf, IsPlainLoop, run_if, run_while}
@@ -62,14 +62,14 @@ invariant-exec_live-loop-s g l =
     record {
       extends : Extends owns reads g.L.Logic.count l.fn.g l.g;
       here : HoldsPath owns l.g (slot_forms slots) l.here;
-      out : HoldsOut owns l.g (slot_forms slots) (result_form slots) l.out;
+      out : HoldsOut owns l.g slots l.out;
       typed : AreTyped (scope_in (g.C.Functions.signatures functions) run) left;
       picks : AllHavePicks run.picks.now left;
       value : (vs : List Bool) (m : ℕ → ℕ) (calls : Calls) (o : Option State) (b : Block)
           → AreChosen reads (g.C.Functions.are_calls functions) l.fn.g vs run m calls
-          → gone_way slots.names (way (reads l.fn.g vs) l.fn.path ∷ []) ≡ reached o → IsPlainBlock (weighted_body l.body) m b
-          → (n : Option State) × (r : Block) × (gone_way slots.names (way (reads l.g vs) l.here ∷ []) ≡ reached n) × (statement_shapes r ≡ plains m left)
-          × (and_seen (see (reads l.g vs) slots.names l.out) (seen_from n (run_block slots.limits calls r)) ≡ seen_from o (run_block slots.limits calls b));
+          → gone_way slots (way (reads l.fn.g vs) l.fn.path ∷ []) ≡ reached o → IsPlainBlock (weighted_body l.body) m b
+          → (n : Option State) × (r : Block) × (gone_way slots (way (reads l.g vs) l.here ∷ []) ≡ reached n) × (statement_shapes r ≡ plains m left)
+          × (and_seen (see (reads l.g vs) slots l.out) (seen_from n (run_block slots.limits calls r)) ≡ seen_from o (run_block slots.limits calls b));
     }
 
 -- the same of the arms that are left and what follows them
@@ -84,14 +84,14 @@ invariant-exec_if-loop-arm g l =
     record {
       extends : Extends owns reads g.L.Logic.count l.fn.g l.g;
       here : HoldsPath owns l.g (slot_forms slots) l.here;
-      out : HoldsOut owns l.g (slot_forms slots) (result_form slots) l.out;
+      out : HoldsOut owns l.g slots l.out;
       typed : AreTyped (scope_in (g.C.Functions.signatures functions) run) left;
       picks : AllHavePicks run.picks.now left;
       value : (vs : List Bool) (m : ℕ → ℕ) (calls : Calls) (o : Option State) (p : Branches × MaybeBlock)
           → AreChosen reads (g.C.Functions.are_calls functions) l.fn.g vs run m calls
-          → gone_way slots.names (way (reads l.fn.g vs) l.fn.path ∷ []) ≡ reached o → IsPlainIf (weighted_arms l.arms) (weighted_else l.last) m p
-          → (n : Option State) × (bs : Branches) × (gone_way slots.names (way (reads l.g vs) l.here ∷ []) ≡ reached n) × (arms_shapes bs (last_shapes p.1) ≡ plains m left)
-          × (and_seen (see (reads l.g vs) slots.names l.out) (seen_from n (run_if slots.limits calls (bs, p.1))) ≡ seen_from o (run_if slots.limits calls p));
+          → gone_way slots (way (reads l.fn.g vs) l.fn.path ∷ []) ≡ reached o → IsPlainIf (weighted_arms l.arms) (weighted_else l.last) m p
+          → (n : Option State) × (bs : Branches) × (gone_way slots (way (reads l.g vs) l.here ∷ []) ≡ reached n) × (arms_shapes bs (last_shapes p.1) ≡ plains m left)
+          × (and_seen (see (reads l.g vs) slots l.out) (seen_from n (run_if slots.limits calls (bs, p.1))) ≡ seen_from o (run_if slots.limits calls p));
     }
 
 -- the same of the turns that are left
@@ -105,12 +105,12 @@ invariant-exec_while-turns g l =
     record {
       extends : Extends owns reads g.L.Logic.count l.fn.g l.g;
       here : HoldsPath owns l.g (slot_forms slots) l.here;
-      out : HoldsOut owns l.g (slot_forms slots) (result_form slots) l.out;
+      out : HoldsOut owns l.g slots l.out;
       value : (vs : List Bool) (m : ℕ → ℕ) (calls : Calls) (o : Option State) (line : ℕ) (p : Term × Block)
           → AreChosen reads (g.C.Functions.are_calls functions) l.fn.g vs run m calls
-          → gone_way slots.names (way (reads l.fn.g vs) l.fn.path ∷ []) ≡ reached o → IsPlainLoop (weighted_of l.e) (weighted_body l.body) m p
-          → (n : Option State) × (gone_way slots.names (way (reads l.g vs) l.here ∷ []) ≡ reached n)
-          × (and_seen (see (reads l.g vs) slots.names l.out) (seen_from n (while_turns l.left (λ s. value_of slots.limits calls s line p.0) (run_block slots.limits calls p.1) line))
+          → gone_way slots (way (reads l.fn.g vs) l.fn.path ∷ []) ≡ reached o → IsPlainLoop (weighted_of l.e) (weighted_body l.body) m p
+          → (n : Option State) × (gone_way slots (way (reads l.g vs) l.here ∷ []) ≡ reached n)
+          × (and_seen (see (reads l.g vs) slots l.out) (seen_from n (while_turns l.left (λ s. value_at slots.limits calls s line p.0) (run_block slots.limits calls p.1) line))
           ≡ seen_from o (run_while line slots.limits calls p));
     }
 
@@ -130,13 +130,13 @@ invariant-exec_items-items g l =
     record {
       extends : Extends owns reads g.L.Logic.count l.fn.g l.g;
       here : HoldsPath owns l.g (slot_forms slots) l.here;
-      out : HoldsOut owns l.g (slot_forms slots) (result_form slots) l.out;
+      out : HoldsOut owns l.g slots l.out;
       place : l.place ≤ slots.limits.cap;
       value : (vs : List Bool) (m : ℕ → ℕ) (calls : Calls) (o : Option State) (b : Block) (ms : List Value) (line : ℕ)
           → AreChosen reads (g.C.Functions.are_calls functions) l.fn.g vs run m calls
-          → gone_way slots.names (way (reads l.fn.g vs) l.fn.path ∷ []) ≡ reached o → ItemsRead (reads l.fn.g vs) list o ms → IsPlainBlock (weighted_body l.body) m b
-          → (n : Option State) × (gone_way slots.names (way (reads l.g vs) l.here ∷ []) ≡ reached n) × ItemsRead (reads l.fn.g vs) list n ms
-          × (and_seen (see (reads l.g vs) slots.names l.out) (seen_from n (for_turns (drop l.place ms) l.turns name (run_block slots.limits calls b) line))
+          → gone_way slots (way (reads l.fn.g vs) l.fn.path ∷ []) ≡ reached o → ItemsRead (reads l.fn.g vs) list o ms → IsPlainBlock (weighted_body l.body) m b
+          → (n : Option State) × (gone_way slots (way (reads l.g vs) l.here ∷ []) ≡ reached n) × ItemsRead (reads l.fn.g vs) list n ms
+          × (and_seen (see (reads l.g vs) slots l.out) (seen_from n (for_turns (drop l.place ms) l.turns name (run_block slots.limits calls b) line))
           ≡ seen_from o (for_turns ms slots.limits.turns name (run_block slots.limits calls b) line));
     }
 

@@ -2,8 +2,7 @@ use Rattle.std.proofs.Common.{ap, is_some}
 use Rattle.bit_words.specs.Logic.{extends_keeps, extends_trans}
 use Rattle.choice_tree.specs.WeightedViews.{weighted_of}
 use Rattle.mpy_tree.specs.declared.typing.Ty.TheVariants as ty
-use Rattle.mpy_tree.specs.Expressions.{value_of}
-use Rattle.mpy_tree.specs.Statements.{local_at}
+use Rattle.mpy_tree.specs.Statements.{local_at, value_at}
 use Rattle.sym_paths.specs.Later.{path_later}
 use Rattle.sym_values.specs.Later.{outcome_in_later, outcome_later}
 use Rattle.sym_blocks.specs.Bodies.{scope_in}
@@ -67,9 +66,9 @@ returns-clause-value g c vs m calls s line p chosen at plain =
     let two = extends_keeps c.eval_on-2.ensures.extends in
     let both = extends_keeps (extends_trans c.eval_on.ensures.extends c.eval_on-2.ensures.extends) in
     let first = local_at l calls s line c.args.at.name.now in
-    let second = value_of l calls s line p.0 in
+    let second = value_at l calls s line p.0 in
     let later = chosen_later one c.requires.run chosen in
-    let then = leads_later slots.names vs one c.requires.path at in
+    let then = leads_later slots vs one c.requires.path at in
     record {
       list = outcome_later c.in_ok-list.list both (c.in_ok-list.ensures.made ty.List typed.0) vs first (c.in_ok-list.ensures.value vs s line at);
       place = outcome_later c.in_ok-place.place two (c.in_ok-place.ensures.made ty.Int typed.1) vs second (c.in_ok-place.ensures.value vs m calls s line p.0 chosen at plain.0);

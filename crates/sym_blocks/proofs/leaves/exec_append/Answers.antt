@@ -1,6 +1,5 @@
 use Rattle.std.proofs.Common.{◌∙◌, ap, sym, is_some}
 use Rattle.bit_words.specs.Logic.{extends_keeps, extends_trans}
-use Rattle.mpy_tree.specs.Expressions.{value_of}
 use Rattle.sym_paths.specs.Later.{path_later}
 use Rattle.sym_paths.specs.Paths.{reached}
 use Rattle.sym_blocks.specs.Bodies.{scope_in}
@@ -8,7 +7,7 @@ use Rattle.sym_blocks.proofs.Laters.{leads_later}
 use Rattle.choice_tree.specs.WeightedViews.{weighted_of}
 use Rattle.mpy_tree.specs.declared.typing.Ty.TheVariants as ty
 use Rattle.mpy_tree.specs.Operations.{append}
-use Rattle.mpy_tree.specs.Statements.{local_at, set_by}
+use Rattle.mpy_tree.specs.Statements.{local_at, set_by, value_at}
 use Rattle.sym_values.specs.Later.{outcome_in_later, outcome_later}
 use Rattle.sym_blocks.proofs.Settings.{local_type_is}
 use Rattle.sym_blocks.proofs.TypedParts.{appended}
@@ -66,11 +65,11 @@ returns-clause-value g c line vs m calls o t chosen at plain =
     let typed = appended σ c.args.x.now (weighted_of c.args.e.now) c.requires.typed in
     let one = extends_keeps c.eval_on.ensures.extends in
     let both = extends_trans c.eval_on.ensures.extends c.append_outcome.ensures.extends in
-    let here = leads_later slots.names vs (extends_keeps both) c.requires.path at in
+    let here = leads_later slots vs (extends_keeps both) c.requires.path at in
     let local = c.in_ok-list in
     c.in_ok-out.ensures.value vs o (λ s. set_by slots.limits calls s line c.args.x.now (append slots.limits) t) here
     (λ s e.
     let there = at ∙ ap reached e in
     let first = local_at slots.limits calls s line c.args.x.now in
     let old = outcome_later local.list one (c.in_ok-list.ensures.made ty.List typed.0) vs first (local.ensures.value vs s line there) in
-    c.in_ok-outcome.ensures.value vs line first (value_of slots.limits calls s line t) old (c.in_ok-number.ensures.value vs m calls s line t chosen there plain))
+    c.in_ok-outcome.ensures.value vs line first (value_at slots.limits calls s line t) old (c.in_ok-number.ensures.value vs m calls s line t chosen there plain))

@@ -1,6 +1,6 @@
 use Rattle.std.proofs.Common.{◌∙◌, ap, sym, is_some}
 use Rattle.bit_words.specs.Logic.{extends_keeps, extends_trans}
-use Rattle.mpy_tree.specs.Expressions.{value_of}
+use Rattle.mpy_tree.specs.Statements.{value_at}
 use Rattle.sym_paths.specs.Later.{path_later}
 use Rattle.sym_paths.specs.Paths.{reached}
 use Rattle.sym_blocks.specs.Bodies.{scope_in}
@@ -35,6 +35,6 @@ returns-clause-extends g c = extends_trans c.eval_on.ensures.extends c.out_store
 pub returns-clause-value : goal.returns-clause-value
 returns-clause-value g c line vs m calls o t chosen at plain =
     let slots = c.args.run.now.slots.now in
-    let here = leads_later slots.names vs (extends_keeps c.eval_on.ensures.extends) c.requires.path at in
-    c.in_ok-out.ensures.value vs o (λ s. value_of slots.limits calls s line t) here
+    let here = leads_later slots vs (extends_keeps c.eval_on.ensures.extends) c.requires.path at in
+    c.in_ok-out.ensures.value vs o (λ s. value_at slots.limits calls s line t) here
     (λ s e. c.in_ok-value.ensures.value vs m calls s line t chosen (at ∙ ap reached e) plain)

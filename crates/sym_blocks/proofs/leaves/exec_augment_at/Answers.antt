@@ -2,9 +2,8 @@ use Rattle.std.proofs.Common.{◌∙◌, ap, sym}
 use Rattle.bit_words.specs.Logic.{extends_keeps, extends_trans}
 use Rattle.choice_tree.specs.WeightedViews.{weighted_of}
 use Rattle.mpy_tree.specs.declared.typing.Ty.TheVariants as ty
-use Rattle.mpy_tree.specs.Expressions.{value_of}
 use Rattle.mpy_tree.specs.Operations.{arith}
-use Rattle.mpy_tree.specs.Statements.{local_at, set_at_by}
+use Rattle.mpy_tree.specs.Statements.{local_at, set_at_by, value_at}
 use Rattle.sym_paths.specs.Later.{path_later}
 use Rattle.sym_paths.specs.Paths.{reached}
 use Rattle.sym_blocks.specs.Bodies.{scope_in}
@@ -34,8 +33,8 @@ returns-clause-value g c line vs m calls o p chosen at plain =
     let l = slots.limits in
     let x = c.args.at.name.now in
     let both = extends_trans c.element_parts.ensures.extends c.changed_outcome.ensures.extends in
-    let here = leads_later slots.names vs (extends_keeps both) c.requires.path at in
+    let here = leads_later slots vs (extends_keeps both) c.requires.path at in
     c.in_ok-out.ensures.value vs o (λ s. set_at_by l calls s line x p.0 (arith l c.args.by.op) p.1) here
     (λ s e.
     let parts = c.in_ok-parts.ensures.value vs m calls s line p chosen (at ∙ ap reached e) plain in
-    c.in_ok-outcome.ensures.value vs line (local_at l calls s line x) (value_of l calls s line p.0) (value_of l calls s line p.1) parts)
+    c.in_ok-outcome.ensures.value vs line (local_at l calls s line x) (value_at l calls s line p.0) (value_at l calls s line p.1) parts)

@@ -1,6 +1,6 @@
-use Rattle.std.proofs.Common.{◌∙◌, ap}
+use Rattle.mpy_tree.specs.Statements.{value_at}
+use Rattle.std.proofs.Common.{◌∙◌, ap, sym}
 use Rattle.bit_words.specs.Logic.{extends_keeps, extends_trans}
-use Rattle.mpy_tree.specs.Expressions.{value_of}
 use Rattle.sym_nodes.specs.Plain.{type_of}
 use Rattle.sym_paths.specs.Later.{path_later}
 use Rattle.sym_paths.specs.Paths.{reached}
@@ -17,7 +17,9 @@ out_printed-requires g c =
     let typed = some_of (type_of σ (weighted_of c.args.e.now)) c.requires.typed in
     record {
       held = path_later (extends_keeps c.eval_on.ensures.extends) c.requires.path;
-      fault = (c.in_ok-outcome.ensures.made typed.0 typed.1).owned_fault;
+      each = sym c.requires.run.types;
+      keeps = c.requires.run.keeps;
+      outcome = (typed.0, c.in_ok-outcome.ensures.made typed.0 typed.1);
     }
 
 pub returns-clause-extends : goal.returns-clause-extends
@@ -26,6 +28,6 @@ returns-clause-extends g c = extends_trans c.eval_on.ensures.extends c.out_print
 pub returns-clause-value : goal.returns-clause-value
 returns-clause-value g c line vs m calls o t chosen at plain =
     let slots = c.args.run.now.slots.now in
-    let here = leads_later slots.names vs (extends_keeps c.eval_on.ensures.extends) c.requires.path at in
-    c.in_ok-out.ensures.value vs o (λ s. value_of slots.limits calls s line t) line here
+    let here = leads_later slots vs (extends_keeps c.eval_on.ensures.extends) c.requires.path at in
+    c.in_ok-out.ensures.value vs o (λ s. value_at slots.limits calls s line t) line here
     (λ s e. c.in_ok-outcome.ensures.value vs m calls s line t chosen (at ∙ ap reached e) plain)

@@ -12,9 +12,9 @@ return_value-requires-clause-typed g c =
 pub return_value-requires-clause-picks : goal.return_value-requires-clause-picks
 return_value-requires-clause-picks g c = value_picks c.args.run.now.picks.now c.args.e.now c.in-Some.value c.in-Some.is c.requires.picks
 
-pub returns-in-None-clause-value : goal.returns-in-None-clause-value
-returns-in-None-clause-value g c line vs m calls o t chosen at plain =
-    c.no_way_out.ensures.value vs ∙ give_nothing c.args.run.now.slots.now.limits calls m line c.args.e.now o t c.in-None.is plain
+pub returns-in_ok-out-in-None-clause-value : goal.returns-in_ok-out-in-None-clause-value
+returns-in_ok-out-in-None-clause-value g c line vs m calls o t chosen at plain =
+    c.in_ok-out-in-None.ensures.value line vs o at ∙ give_nothing c.args.run.now.slots.now.limits calls m line c.args.e.now o t c.in-None.is plain
 
 pub returns-in_ok-out-in-Some-clause-value : goal.returns-in_ok-out-in-Some-clause-value
 returns-in_ok-out-in-Some-clause-value g c line vs m calls o t chosen at plain =

@@ -1,11 +1,11 @@
 use Rattle.std.proofs.Common.{◌-◌, ◌∙◌, ◌++◌, ap, arith, map, length, replicate, true}
 use Rattle.std.proofs.Common.{false}
-use Rattle.std.proofs.lemmas.List.{length-append, length-map, map-append}
+use Rattle.std.proofs.lemmas.List.{drop-map, length-append, length-map, map-append}
 use Rattle.bit_words.proofs.Kept.{owns_none}
 use Rattle.sym_values.specs.Forms.{form_of}
 use Rattle.sym_values.specs.Reading.{map_bits}
 use Rattle.sym_paths.specs.Later.{holds_path}
-use Rattle.sym_paths.specs.Paths.{state_in}
+use Rattle.sym_paths.specs.Paths.{kept_proper, printed_in, state_in}
 use Rattle.sym_paths.proofs.Entering.{bound_is, gone_to, read_proper}
 use Rattle.sym_paths.proofs.entry.entry.Goals as goal
 
@@ -26,7 +26,7 @@ returns-clause-held g c =
 pub returns-clause-value : goal.returns-clause-value
 returns-clause-value g c vs params given_values begins long is =
     let rd = g.L.Logic.reads c.args.g.now vs in
-    let names = c.args.slots.now.names in
+    let slots = c.args.slots.now in
     let args = c.args.args in
     let all = c.in_ok-values.ensures in
     let rest = map (map_bits rd) all.begins.0 in
@@ -41,8 +41,11 @@ returns-clause-value g c vs params given_values begins long is =
     let none = ap (λ l. map rd l ++ replicate given true) c.new.ensures in
     let marked = c.in_ok-marked.ensures.value vs ∙ none in
     let set = c.in_ok-set.ensures.value vs ∙ ap (λ w. w ++ replicate others false) marked in
-    gone_to names _ _ (c.constant-bit.ensures.value vs) proper
+    let there = drop-map (map_bits rd) (length slots.types) c.in_ok-values.values in
+    gone_to slots _ _ (c.constant-bit.ensures.value vs) proper
+    (ap (kept_proper slots.limits) there ∙ all.kept_proper vs)
     (ap (λ l. state_in l values bits) begins.1
     ∙ ap (λ v. state_in both v bits) locals
     ∙ ap (λ s. state_in both (map (map_bits rd) args ++ rest) s) set
     ∙ bound_is rd params begins.0 args rest given_values given others long c.len-given.ensures is)
+    (ap (printed_in slots.limits) there ∙ all.kept vs)

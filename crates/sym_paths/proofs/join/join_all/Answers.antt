@@ -8,14 +8,14 @@ use Rattle.sym_paths.proofs.join.join_all.Goals as goal
 
 pub loop-path-init : goal.loop-path-init
 loop-path-init g c =
-    let names = c.args.slots.now.names in
+    let slots = c.args.slots.now in
     let reads = g.L.Logic.reads in
     let split = c.in-Some.ensures.some in
     record {
       extends = extends_refl;
       held = holds_last _ c.requires split;
       rest = holds_front _ c.requires split;
-      value = λ vs. ap (λ l. gone_way names (ways (reads c.args.g.now vs) l)) (sym split);
+      value = λ vs. ap (λ l. gone_way slots (ways (reads c.args.g.now vs) l)) (sym split);
     }
 
 pub join_known-requires-clause-first : goal.join_known-requires-clause-first
@@ -25,7 +25,7 @@ join_known-requires-clause-first g c =
 pub loop-path-preserved : goal.loop-path-preserved
 loop-path-preserved g c =
     let reads = g.L.Logic.reads in
-    let names = c.args.slots.now.names in
+    let slots = c.args.slots.now in
     let before = c.loop-path.invariant in
     let step = extends_keeps c.join_known.ensures.extends in
     let split = c.in-Some-pop.ensures.some in
@@ -40,14 +40,14 @@ loop-path-preserved g c =
       value = λ vs.
           let old = reads c.loop-path.g vs in
           let new = reads c.join_known.new.g vs in
-          let left = ap (λ w. gone_way names (w ∷ way old joined ∷ []))
+          let left = ap (λ w. gone_way slots (w ∷ way old joined ∷ []))
           (way_later step first vs) in
-          let right = ap (λ w. gone_way names (way new path ∷ w ∷ []))
+          let right = ap (λ w. gone_way slots (way new path ∷ w ∷ []))
           (way_later step before.held vs) in
           let one = c.in_ok-joined.ensures.value vs ∙ sym left ∙ sym right in
-          let all = ap (λ l. gone_way names (ways new (l ++ joined ∷ []))) (sym split) in
-          let kept = ap (gone_way names) (ways_later step all_held vs) in
-          ways_last names new c.pop-in-loop-path.new.self path joined c.in_ok-joined.joined one
+          let all = ap (λ l. gone_way slots (ways new (l ++ joined ∷ []))) (sym split) in
+          let kept = ap (gone_way slots) (ways_later step all_held vs) in
+          ways_last slots new c.pop-in-loop-path.new.self path joined c.in_ok-joined.joined one
           ∙ all ∙ kept ∙ before.value vs;
     }
 

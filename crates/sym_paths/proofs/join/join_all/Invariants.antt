@@ -9,13 +9,13 @@ abbrev pub invariant-loop-path : goal.invariant-loop-path
 invariant-loop-path g l =
     let owns = g.L.Logic.owns in
     let reads = g.L.Logic.reads in
-    let names = l.slots.names in
+    let slots = l.slots in
     record {
       extends : Extends owns reads g.L.Logic.count l.fn.g l.g;
       held : HoldsPath owns l.g (slot_forms l.slots) l.joined;
       rest : HoldsPaths owns l.g (slot_forms l.slots) l.all;
-      value : (vs : List Bool) → gone_way names (ways (reads l.g vs) (l.all ++ l.joined ∷ []))
-          ≡ gone_way names (ways (reads l.fn.g vs) l.fn.all);
+      value : (vs : List Bool) → gone_way slots (ways (reads l.g vs) (l.all ++ l.joined ∷ []))
+          ≡ gone_way slots (ways (reads l.fn.g vs) l.fn.all);
     }
 
 abbrev pub decreases-loop-path : goal.decreases-loop-path

@@ -75,4 +75,4 @@ returns-clause-value g c vs =
     let chosen_set = c.in_ok-set.ensures.value vs in
     let slices = rw (c.as_slice.ensures, c.as_slice-2.ensures) at chosen_set in
     let set = rw (test_two, left_two, right_two) at slices in
-    joined_way _ (way start a) (way start b) _ bit values set
+    joined_way c.args.slots.now (way start a) (way start b) _ bit values set

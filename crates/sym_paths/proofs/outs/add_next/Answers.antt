@@ -15,5 +15,5 @@ returns-clause-held g c =
 
 pub returns-clause-value : goal.returns-clause-value
 returns-clause-value g c vs o at =
-    see_next _ (g.L.Logic.reads c.args._g.now vs) c.args.out.now _ c.args.path o at
+    see_next c.args._slots.now (g.L.Logic.reads c.args._g.now vs) c.args.out.now _ c.args.path o at
     c.in_ok-push.ensures.ok refl refl refl

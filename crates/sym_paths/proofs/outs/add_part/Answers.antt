@@ -15,6 +15,6 @@ returns-clause-held g c =
 
 pub returns-clause-value : goal.returns-clause-value
 returns-clause-value g c vs =
-    see_both _ (g.L.Logic.reads c.args._g.now vs) c.args.out.now c.args.part _
+    see_both c.args._slots.now (g.L.Logic.reads c.args._g.now vs) c.args.out.now c.args.part _
     c.in_ok-append.ensures.ok c.in_ok-append-2.ensures.ok c.in_ok-append-3.ensures.ok
     c.in_ok-append-4.ensures.ok

@@ -22,8 +22,8 @@ returns-clause-held g c =
 
 pub returns-clause-value : goal.returns-clause-value
 returns-clause-value g c vs =
-    let names = c.args.slots.now.names in
+    let slots = c.args.slots.now in
     let e = extends_keeps c.join_all.ensures.extends in
-    see_step names (g.L.Logic.reads c.join_all.new.g vs) c.args.out.now c.args.step _ _ _
-    (see_later e c.requires.so_far names vs) (see_later e c.requires.step names vs) refl
+    see_step slots (g.L.Logic.reads c.join_all.new.g vs) c.args.out.now c.args.step _ _ _
+    (see_later e c.requires.so_far vs) (see_later e c.requires.step vs) refl
     c.in_ok-append.ensures.ok c.in_ok-append-2.ensures.ok c.in_ok-append-3.ensures.ok

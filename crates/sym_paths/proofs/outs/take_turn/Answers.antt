@@ -27,16 +27,16 @@ returns-clause-held g c =
 
 pub returns-clause-value : goal.returns-clause-value
 returns-clause-value g c vs =
-    let names = c.args.slots.now.names in
+    let slots = c.args.slots.now in
     let e = extends_keeps c.join_all.ensures.extends in
-    see_turn names (g.L.Logic.reads c.join_all.new.g vs) c.args.out.now c.args.turn _ _ _
-    (see_later e c.requires.so_far names vs) (see_later e c.requires.turn names vs)
+    see_turn slots (g.L.Logic.reads c.join_all.new.g vs) c.args.out.now c.args.turn _ _ _
+    (see_later e c.requires.so_far vs) (see_later e c.requires.turn vs)
     c.in_ok-append-2.ensures.ok refl refl c.in_ok-append-3.ensures.ok
 
 pub returns-clause-next : goal.returns-clause-next
 returns-clause-next g c vs =
     let start = g.L.Logic.reads c.args.g.now vs in
-    let names = c.args.slots.now.names in
+    let slots = c.args.slots.now in
     c.in_ok-on.ensures.value vs
-    ∙ ap (λ l. gone_way names (ways start l)) c.in_ok-append.ensures.ok
-    ∙ ways_both names start c.args.turn.next c.args.turn.continued
+    ∙ ap (λ l. gone_way slots (ways start l)) c.in_ok-append.ensures.ok
+    ∙ ways_both slots start c.args.turn.next c.args.turn.continued

@@ -19,4 +19,4 @@ returns-clause-value g c vs =
     let rd = g.L.Logic.reads c.args._g.now vs in
     let values = ap (map (map_bits rd)) c.in_ok-values.ensures in
     let set = ap (map rd) c.in_ok-set.ensures in
-    ap (λ (w : Way). gone_way c.args._slots.now.names (w ∷ [])) (same_way refl values set)
+    ap (λ (w : Way). gone_way c.args._slots.now (w ∷ [])) (same_way refl values set)

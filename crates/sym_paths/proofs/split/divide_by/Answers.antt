@@ -30,15 +30,15 @@ returns-clause-yes g c vs =
     let reads = g.L.Logic.reads in
     let start = reads c.args.g.now vs in
     let new = reads c.and-2.new.self vs in
-    let names = c.args.slots.now.names in
+    let slots = c.args.slots.now in
     let path = c.args.path in
     let two = c.and-2.ensures.extends in
     let both = extends_trans c.and.ensures.extends two in
     let kept = way_later (extends_keeps both) c.requires.held vs in
-    let there = ap (λ (w : Way). cond (new c.in_ok-yes.yes) (Some (arrival names w)) None) kept in
+    let there = ap (λ (w : Way). cond (new c.in_ok-yes.yes) (Some (arrival slots w)) None) kept in
     let bit = two.same _ c.in_ok-yes.ensures.owned vs ∙ c.in_ok-yes.ensures.value vs in
     yes_side _ (new c.in_ok-yes.yes) (start path.bit) (start c.args.test)
-    (Some (arrival names (way start path))) (c.in_ok-sides.ensures.yes vs ∙ there) bit
+    (Some (arrival slots (way start path))) (c.in_ok-sides.ensures.yes vs ∙ there) bit
 
 pub returns-clause-no : goal.returns-clause-no
 returns-clause-no g c vs =
@@ -46,14 +46,14 @@ returns-clause-no g c vs =
     let start = reads c.args.g.now vs in
     let middle = reads c.and.new.self vs in
     let new = reads c.and-2.new.self vs in
-    let names = c.args.slots.now.names in
+    let slots = c.args.slots.now in
     let path = c.args.path in
     let one = c.and.ensures.extends in
     let both = extends_trans one c.and-2.ensures.extends in
     let kept = way_later (extends_keeps both) c.requires.held vs in
-    let there = ap (λ (w : Way). cond (new c.in_ok-no.no) (Some (arrival names w)) None) kept in
+    let there = ap (λ (w : Way). cond (new c.in_ok-no.no) (Some (arrival slots w)) None) kept in
     let taken = one.same _ (path_bit c.requires.held) vs in
     let bit = rw taken at (c.in_ok-no.ensures.value vs) in
     let other = one.same _ c.not-other.ensures.owned vs ∙ c.not-other.ensures.value vs in
     no_side _ (new c.in_ok-no.no) (start path.bit) (start c.args.test) (middle c.not-other.result)
-    (Some (arrival names (way start path))) (c.in_ok-sides.ensures.no vs ∙ there) bit other
+    (Some (arrival slots (way start path))) (c.in_ok-sides.ensures.no vs ∙ there) bit other

@@ -20,6 +20,6 @@ pub returns-clause-value : goal.returns-clause-value
 returns-clause-value g c vs =
     let e = extends_keeps c.both.ensures.extends in
     let h = c.requires.held in
-    also_way _ (way (g.L.Logic.reads c.args.g.now vs) c.args.path) _ _
+    also_way c.args.slots.now (way (g.L.Logic.reads c.args.g.now vs) c.args.path) _ _
     (c.in_ok-bit.ensures.value vs) (values_later e c.args.path.values (path_values h) vs)
     (read_later e (path_set h) vs)

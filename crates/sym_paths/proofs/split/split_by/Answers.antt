@@ -13,19 +13,19 @@ returns-clause-extends g c = extends_trans c.narrow.ensures.extends c.divide.ens
 pub returns-clause-yes : goal.returns-clause-yes
 returns-clause-yes g c vs =
     let start = g.L.Logic.reads c.args.g.now vs in
-    let names = c.args.slots.now.names in
+    let slots = c.args.slots.now in
     let test = c.narrow.ensures.extends.same _ c.requires.test vs in
     let yes = rw test at (c.in_ok-sides.ensures.yes vs) in
     yes_fine (start c.args.fault) (start c.args.test) _ _ _
-    (gone_way names (way start c.args.path ∷ [])) (c.not-fine.ensures.value vs)
+    (gone_way slots (way start c.args.path ∷ [])) (c.not-fine.ensures.value vs)
     (c.in_ok-here.ensures.value vs) yes
 
 pub returns-clause-no : goal.returns-clause-no
 returns-clause-no g c vs =
     let start = g.L.Logic.reads c.args.g.now vs in
-    let names = c.args.slots.now.names in
+    let slots = c.args.slots.now in
     let test = c.narrow.ensures.extends.same _ c.requires.test vs in
     let no = rw test at (c.in_ok-sides.ensures.no vs) in
     no_fine (start c.args.fault) (start c.args.test) _ _ _
-    (gone_way names (way start c.args.path ∷ [])) (c.not-fine.ensures.value vs)
+    (gone_way slots (way start c.args.path ∷ [])) (c.not-fine.ensures.value vs)
     (c.in_ok-here.ensures.value vs) no

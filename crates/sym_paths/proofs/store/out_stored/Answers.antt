@@ -22,7 +22,7 @@ pub returns-clause-value : goal.returns-clause-value
 returns-clause-value g c vs o k at h =
     let start = g.L.Logic.reads c.args.g.now vs in
     let new = g.L.Logic.reads c.narrow.new.g vs in
-    let names = c.args.slots.now.names in
+    let slots = c.args.slots.now in
     let x = c.args.x.now in
     let outcome = c.args.outcome in
     let typed = c.requires.typed in
@@ -31,7 +31,7 @@ returns-clause-value g c vs o k at h =
     let here = rw fine at (c.in_ok-here.ensures.value vs) in
     let same = ap spelled (value_later step outcome.value typed.2.owned vs) in
     let assigned = c.assign-there.ensures in
-    let done = stored_is _ _ (gone_way names (way new c.assign-there.result ∷ [])) o
+    let done = stored_is _ _ (gone_way slots (way new c.assign-there.result ∷ [])) o
     (start outcome.fault) (read start outcome.value) k x at here h
     (λ s v p q. assigned.value vs s v p (same ∙ q)) (assigned.none vs) in
     c.in_ok-out.ensures.value vs (stored o k x) done ∙ store_shows o k x
