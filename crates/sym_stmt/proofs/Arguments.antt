@@ -26,7 +26,7 @@ use Rattle.sym_paths.specs.declared.slots.Slots.{Slots}
 use Rattle.sym_paths.specs.Paths.{ReadAs}
 use Rattle.mpy_tree.specs.Locals.{place_of}
 use Rattle.sym_paths.specs.Places.{Begins}
-use Rattle.sym_paths.specs.Slots.{slot_forms, type_among, type_at}
+use Rattle.sym_paths.specs.Slots.{local_forms, type_among, type_at}
 use Rattle.sym_stmt.specs.FactSlots.{AreSlotsOf}
 
 same_types : (t u : Ty) → same_type t u ≡ true → t ≡ u
@@ -81,12 +81,12 @@ module _ {S B : Type 0} {owns : S → B → Type 0} {s : S} (l : Limits) where
       λ i. head i ∷ tail i
 
   -- the forms of the slots begin with those of the arguments
-  pub arguments_begin : (types : SlotTypes) (j : ℕ) (params : List (List ℕ)) (slots : Slots)
-      (args : List (SymValue B)) → AreSlotsOf types j params l slots
+  pub arguments_begin : (types : SlotTypes) (j : ℕ) (params : List (List ℕ)) (n : ℕ)
+      (slots : Slots) (args : List (SymValue B)) → AreSlotsOf types j params l n slots
       → All (IsTypedIn owns s l) args
       → map (λ x. types j (slot.Local x)) params ≡ map (λ x. Some (ty_of x)) args
-      → Begins (forms_of args) (slot_forms slots)
-  arguments_begin types j params slots args h each same =
+      → Begins (forms_of args) (local_forms slots)
+  arguments_begin types j params n slots args h each same =
       let type = λ (x : List ℕ). types j (slot.Local x) in
       let others = h.begins.0 in
       let all = h.typed ∙ ap (map type) h.begins.1 ∙ map-append type params others
@@ -129,8 +129,8 @@ shown_once None v e = absurd cc
 shown_once (Some t) v e = cc
 
 -- the slots have the types of their names
-module _ (types : SlotTypes) (j : ℕ) (params : List (List ℕ)) (l : Limits) (slots : Slots)
-    (h : AreSlotsOf types j params l slots) where
+module _ (types : SlotTypes) (j : ℕ) (params : List (List ℕ)) (l : Limits) (n : ℕ)
+    (slots : Slots) (h : AreSlotsOf types j params l n slots) where
   pub slots_many : length slots.types ≡ length slots.names
   slots_many =
       same_many (λ t. Some t) (λ (x : List ℕ). types j (slot.Local x)) slots.types slots.names

@@ -6,5 +6,6 @@ pub mod ProgramFacts
 pub mod Rewritten
 pub mod Calls
 mod CallLevels
+mod ConstantEnds
 mod KnownPicks
 mod KnownRuns

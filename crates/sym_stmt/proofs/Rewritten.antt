@@ -6,9 +6,11 @@ use Rattle.std.specs.Prelude.{⊤}
 use Rattle.mpy_tree.specs.declared.typing.Fact.{Fact}
 use Rattle.mpy_tree.specs.declared.typing.Slot.TheVariants as slot
 use Rattle.mpy_tree.specs.declared.typing.Ty.{Ty}
-use Rattle.mpy_tree.specs.Entries.{valued}
+use Rattle.mpy_tree.specs.Entries.{Entry}
+use Rattle.mpy_tree.specs.Faults.{free_function}
+use Rattle.mpy_tree.specs.Options.{◌>>=◌}
 use Rattle.mpy_tree.specs.Rules.{Slots, are_arguments, callee_type, single}
-use Rattle.mpy_tree.specs.SetTypes.{Callee, FactSet, callee, called_from}
+use Rattle.mpy_tree.specs.SetTypes.{Callee, FactSet, callee, called, called_from}
 use Rattle.mpy_tree.specs.Shapes.{block_shape, program_shape, routine_shape, routine_shapes}
 use Rattle.mpy_tree.specs.Syntax.{Routine}
 use Rattle.mpy_tree.specs.Trees as kind
@@ -29,7 +31,7 @@ use Rattle.typed_trees.specs.TypingLaws.{setting_by}
 use Rattle.typed_trees.specs.Wholes.{MakeWholes}
 use Rattle.typed_trees.proofs.GrownStatements.{statement_grown}
 use Rattle.typed_trees.proofs.TypedFunctions.{func_typed, program_typed}
-use Rattle.sym_stmt.specs.Programs.{TypesProgram, functions_of, header, scope_in}
+use Rattle.sym_stmt.specs.Programs.{TypesProgram, callee_takes, functions_of, header, scope_in}
 use Rattle.sym_stmt.proofs.ProgramFacts.{AreHeadersTyped, IsAlone, IsHeaderTyped, are_facts}
 use Rattle.typed_trees.proofs.StatementsFollow.{typed_follows}
 
@@ -74,65 +76,111 @@ have_headers g p w e =
     (outermost g)) 0 = cc in
     grown_headers g grows.0 p (functions_of w) 0 0 (outermost g) parts
 
--- so calls of them have the same types
-module _ (S : Slots) (f : List ℕ) (os : List (Option Ty)) where
-  called_alike : (b c : Bool) (r : Routine) (w : WFunc) (n : ℕ) (o q : Option Callee) → c ≡ b
-      → w.params ≡ r.params → callee_type S o os ≡ callee_type S q os
-      → callee_type S (if b then Some (callee n r) else o) os
-      ≡ callee_type S (if c then Some (callee n (header w)) else q) os
-  called_alike true true r w n o q e params rest =
-      ap (λ xs. if are_arguments S n xs os then S n slot.Result else None) (sym params)
-  called_alike true false r w n o q e params rest = absurd cc
-  called_alike false true r w n o q e params rest = absurd cc
-  called_alike false false r w n o q e params rest = rest
+-- so a name is that of a function with the same number and the same parameters
+abbrev known_of : Option Callee → Option (ℕ × List (List ℕ))
+known_of None = None
+known_of (Some g) = Some (g.number, g.routine.params)
 
-  calls_alike : (fs : List WFunc) (rs : List Routine) (n : ℕ) → HaveHeaders fs rs
-      → callee_type S (called_from rs f n) os ≡ callee_type S (called_from (map header fs) f n) os
-  calls_alike [] [] n h = refl
-  calls_alike [] (r ∷ rs) n h = absurd h
-  calls_alike (w ∷ fs) [] n h = absurd h
-  calls_alike (w ∷ fs) (r ∷ rs) n h =
-      called_alike (same_bytes f r.name) (same_bytes f w.name) r w n (called_from rs f (n + 1))
-      (called_from (map header fs) f (n + 1)) (ap (same_bytes f) h.0) h.1
-      (calls_alike fs rs (n + 1) h.2)
+known_by : (b c : Bool) (r : Routine) (w : WFunc) (n : ℕ) (o q : Option Callee) → c ≡ b
+    → w.params ≡ r.params → known_of o ≡ known_of q
+    → known_of (if b then Some (callee n r) else o)
+    ≡ known_of (if c then Some (callee n (header w)) else q)
+known_by true true r w n o q e params rest =
+    ap (λ (xs : List (List ℕ)). Some (n, xs)) (sym params)
+known_by true false r w n o q e params rest = absurd cc
+known_by false true r w n o q e params rest = absurd cc
+known_by false false r w n o q e params rest = rest
 
-header_at : (F : FactSet) (fs : List WFunc) (rs : List Routine) (n k i : ℕ) (f : WFunc)
-    → HaveHeaders fs rs → AreHeadersTyped F n rs → n + k ≡ i → slice_get fs k ≡ Some f
-    → IsHeaderTyped F i f.params
-header_at F [] rs n k i f h typed e is = absurd cc
-header_at F (w ∷ fs) [] n k i f h typed e is = absurd h
-header_at F (w ∷ fs) (r ∷ rs) n zero i f h typed e is =
+known_alike : (f : List ℕ) (fs : List WFunc) (rs : List Routine) (n : ℕ) → HaveHeaders fs rs
+    → known_of (called_from rs f n) ≡ known_of (called_from (map header fs) f n)
+known_alike f [] [] n h = refl
+known_alike f [] (r ∷ rs) n h = absurd h
+known_alike f (w ∷ fs) [] n h = absurd h
+known_alike f (w ∷ fs) (r ∷ rs) n h =
+    known_by (same_bytes f r.name) (same_bytes f w.name) r w n (called_from rs f (n + 1))
+    (called_from (map header fs) f (n + 1)) (ap (same_bytes f) h.0) h.1
+    (known_alike f fs rs (n + 1) h.2)
+
+-- and all that types ask of it is the same
+module _ (S : Slots) (o q : Option Callee) (same : known_of o ≡ known_of q) where
+  abbrev takes_known : Option (ℕ × List (List ℕ)) → List (Option Ty) → Bool
+  takes_known None os = false
+  takes_known (Some k) os = are_arguments S k.0 k.1 os
+
+  takes_by : (u : Option Callee) (os : List (Option Ty))
+      → callee_takes S u os ≡ takes_known (known_of u) os
+  takes_by None os = refl
+  takes_by (Some g) os = refl
+
+  takes_alike : (os : List (Option Ty)) → callee_takes S o os ≡ callee_takes S q os
+  takes_alike os = takes_by o os ∙ ap (λ k. takes_known k os) same ∙ sym (takes_by q os)
+
+  abbrev result_known : Option (ℕ × List (List ℕ)) → Option Ty
+  result_known None = None
+  result_known (Some k) = S k.0 slot.Result
+
+  result_by : (u : Option Callee)
+      → (u >>= λ c. S c.number slot.Result) ≡ result_known (known_of u)
+  result_by None = refl
+  result_by (Some g) = refl
+
+  results_alike : (o >>= λ c. S c.number slot.Result) ≡ (q >>= λ c. S c.number slot.Result)
+  results_alike = result_by o ∙ ap result_known same ∙ sym (result_by q)
+
+  call_by : (u : Option Callee) (os : List (Option Ty)) → callee_type S u os
+      ≡ (if takes_known (known_of u) os then result_known (known_of u) else None)
+  call_by None os = refl
+  call_by (Some g) os = refl
+
+  calls_alike : (os : List (Option Ty)) → callee_type S o os ≡ callee_type S q os
+  calls_alike os =
+      call_by o os ∙ ap (λ k. if takes_known k os then result_known k else None) same
+      ∙ sym (call_by q os)
+
+header_at : (free : Option ℕ) (F : FactSet) (fs : List WFunc) (rs : List Routine) (n k i : ℕ)
+    (f : WFunc) → HaveHeaders fs rs → AreHeadersTyped free F n rs → n + k ≡ i
+    → slice_get fs k ≡ Some f → IsHeaderTyped free F i f.params
+header_at free F [] rs n k i f h typed e is = absurd cc
+header_at free F (w ∷ fs) [] n k i f h typed e is = absurd h
+header_at free F (w ∷ fs) (r ∷ rs) n zero i f h typed e is =
     let same : w ≡ f = cc in
     let place : n ≡ i = omega (arith, e) in
     let params : r.params ≡ f.params = sym h.1 ∙ ap (λ (v : WFunc). v.params) same in
-    subst (λ j. IsHeaderTyped F j f.params) place (subst (IsHeaderTyped F n) params typed.0)
-header_at F (w ∷ fs) (r ∷ rs) n (suc k) i f h typed e is =
-    header_at F fs rs (n + 1) k i f h.2 typed.1 (omega (arith, e)) is
+    subst (λ j. IsHeaderTyped free F j f.params) place
+    (subst (IsHeaderTyped free F n) params typed.0)
+header_at free F (w ∷ fs) (r ∷ rs) n (suc k) i f h typed e is =
+    header_at free F fs rs (n + 1) k i f h.2 typed.1 (omega (arith, e)) is
 
-pub rewritten_typed : (rules : List Correction) (T : List Fact) (p : List Routine)
-    (entry : List ℕ) (ts : List Ty) (w : WProg) → MakeWholes rules → AreTypes T p (valued entry ts)
-    → weighted_prog w ≡ weighted_program (setting_by rules p T) p → TypesProgram T w entry ts
-rewritten_typed rules T p entry ts w wholes typed same =
+pub rewritten_typed : (rules : List Correction) (T : List Fact) (p : List Routine) (e : Entry)
+    (w : WProg) → MakeWholes rules → AreTypes T p e
+    → weighted_prog w ≡ weighted_program (setting_by rules p T) p → TypesProgram T w e
+rewritten_typed rules T p e w wholes typed same =
     let g = setting_by rules p T in
     let S = single (set_of T) in
     let fs = functions_of w in
-    let facts = are_facts T p entry ts typed in
+    let free = free_function p e in
+    let facts = are_facts T p e typed in
     let heads = have_headers g p w same in
-    let grows = program_typed rules T p (valued entry ts) wholes typed in
+    let grows = program_typed rules T p e wholes typed in
+    let known = λ (f : List ℕ). known_alike f fs p 0 heads in
+    let by_tree = called p e.name in
+    let by_headers = called (map header fs) e.name in
     record {
       functions = record {
         alone = all_of (IsAlone T) T facts.alone;
         typed = λ i f is.
-            let h = header_at (set_of T) fs p 0 i i f heads facts.headers (omega arith) is in
+            let h = header_at free (set_of T) fs p 0 i i f heads facts.headers (omega arith) is in
             record {
               differ = h.differ;
               params = h.params;
-              result = h.result;
               body = typed_follows (contexts.scope_in g i) (scope_in w T i) (λ x. refl)
-                  (λ c os. calls_alike S c os fs p 0 heads) refl (weighted_body f.body)
-                  (func_typed g w p i f grows same is).0;
+                  (λ c os. calls_alike S (called p c) (called (map header fs) c) (known c) os) refl
+                  (weighted_body f.body) (func_typed g w p i f grows same is).0;
             };
       };
-      enters = sym (ap is_some (calls_alike S entry (map (λ t. Some t) ts) fs p 0 heads))
-          ∙ facts.enters;
+      takes_them =
+          sym (takes_alike S by_tree by_headers (known e.name) (map (λ t. Some t) e.types))
+          ∙ facts.takes_them;
+      gives = λ must.
+          sym (ap is_some (results_alike S by_tree by_headers (known e.name))) ∙ facts.gives must;
     }

@@ -31,7 +31,7 @@ other_number j n h =
 
 -- a body beside the functions of its program
 module _ (w : WProg) (T : List Fact) (i : ℕ) (params : List (List ℕ)) (l : Limits)
-    (slots : Slots) (h : AreSlotsOf (single (set_of T)) i params l slots) where
+    (n : ℕ) (slots : Slots) (h : AreSlotsOf (single (set_of T)) i params l n slots) where
   abbrev inner : Scope
   inner = scope_in w T i
 
@@ -40,7 +40,7 @@ module _ (w : WProg) (T : List Fact) (i : ℕ) (params : List (List ℕ)) (l : L
 
   same_locals : SameLocals inner beside
   same_locals x =
-      sym (slot_type_is (single (set_of T)) i params l slots h x)
+      sym (slot_type_is (single (set_of T)) i params l n slots h x)
       ∙ sym (local_type_is (signatures_of w T) slots x)
 
   same_slots : (j : ℕ) (x : Slot) → j < length (map header (functions_of w))

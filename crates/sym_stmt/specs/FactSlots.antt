@@ -24,13 +24,15 @@ named_by i f = if f.func == i then local_name f.slot else []
 abbrev pub local_names : ℕ → List (List ℕ) → List Fact → List (List ℕ)
 local_names i params facts = and_new params (flat_map (named_by i) facts)
 
--- Locals with their types, and the type of the result: the parameters are the first, no name stands
--- twice, each has its type, and no other local has one.
+-- Locals with their types, the type of the result, if it has one, and how many printed values are
+-- kept: the parameters are the first, no name stands twice, each has its type, and no other local
+-- has one.
 pub record AreSlotsOf (types : SlotTypes) (i : ℕ) (params : List (List ℕ)) (l : Limits)
-    (slots : Slots) : Type 0 where
+    (n : ℕ) (slots : Slots) : Type 0 where
   pub limits : slots.limits ≡ l
   pub begins : Begins params slots.names
   pub differ : has_twice slots.names ≡ false
   pub typed : map (λ t. Some t) slots.types ≡ map (λ x. types i (slot.Local x)) slots.names
   pub others : (x : List ℕ) → is_among slots.names x ≡ false → types i (slot.Local x) ≡ None
-  pub result : types i slot.Result ≡ Some slots.result
+  pub result : types i slot.Result ≡ slots.result
+  pub prints : slots.prints ≡ n

@@ -1,10 +1,10 @@
 -- Levels of calls: what their calls are, and when they can be entered.
-use Rattle.std.specs.Prelude.{◌≡◌, ℕ, zero, suc, List, min}
+use Rattle.std.specs.Prelude.{◌≡◌, ℕ, zero, suc, List, None, min}
 use Rattle.mpy_tree.specs.declared.limits.Limits.{Limits}
 use Rattle.mpy_tree.specs.declared.typing.Fact.{Fact}
 use Rattle.mpy_tree.specs.declared.value.Value.{Value}
 use Rattle.mpy_tree.specs.Expressions.{Calls}
-use Rattle.mpy_tree.specs.Running.{enter, found, no_calls}
+use Rattle.mpy_tree.specs.Running.{enter, found, given_by, no_calls}
 use Rattle.mpy_tree.specs.Shapes.{program_shape}
 use Rattle.mpy_tree.specs.Syntax.{Routine}
 use Rattle.choice_tree.specs.declared.tree.WProg.{WProg}
@@ -23,7 +23,7 @@ pub record AreDeeper (w : WProg) (AreBelow : Calls → Type 0) (l : Limits) (m :
   pub below : Calls
   pub are_below : AreBelow below
   pub entered : (f : List ℕ) (vs : List Value) (line : ℕ)
-      → calls f vs line ≡ enter l below (found program f) vs line
+      → calls f vs line ≡ enter given_by None l below (found program f) vs line
 
 -- calls of so many levels
 abbrev pub AreCallsAt : WProg → ℕ → Limits → (ℕ → ℕ) → Calls → Type 0

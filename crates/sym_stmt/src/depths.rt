@@ -11,24 +11,29 @@ ghost use Rattle.bit_words.specs.Logic.{Extends, OwnsAll};
 ghost use Rattle.choice_tree.specs.Selections.{plain};
 ghost use Rattle.choice_tree.specs.StatementViews.{weighted_prog};
 ghost use Rattle.sym_values.specs.Forms.{form_for, joined};
+ghost use Rattle.sym_values.specs.Printed.{DoneReads, IsDoneIn};
 ghost use Rattle.sym_values.specs.Reading.{OutcomeReads, read, sure};
 ghost use Rattle.sym_values.specs.Results.{IsOutcomeIn};
 ghost use Rattle.sym_nodes.specs.Environments.{HasPicks, PicksRead};
+ghost use Rattle.sym_nodes.specs.Operands.{ty_of};
 ghost use Rattle.sym_nodes.specs.Views.{env_of};
 ghost use Rattle.sym_expr.specs.Signatures.{AreArgumentsIn, given_type, value_types};
 ghost use Rattle.sym_calls.specs.Pairs.{paired};
 ghost use Rattle.sym_stmt.specs.Levels.{Fixes, IsUpTo};
-ghost use Rattle.sym_stmt.specs.Programs.{TypesFunctions, signatures_of};
+ghost use Rattle.sym_stmt.specs.Programs.{TypesProgram, end_form, entry_within, signatures_of};
 
+use crate::entering::begun;
 use crate::levels::{Deepest, Level};
 use crate::program::Program;
+use crate::slots::slots_of;
 use bit_words::NoMemory;
 use bit_words::logic::Logic;
 use mpy_tree::{Name, Ty};
 use std::alloc::Global;
+use sym_blocks::Body;
 use sym_calls::{Once, Remembering, Setting};
 use sym_expr::{Functions, View};
-use sym_values::{SymOutcome, SymValues};
+use sym_values::{SymDone, SymOutcome, SymValues};
 
 /// Calls of a program's functions at a level, each of which is built once, and whose own calls are
 /// those of `below`. Where the most levels are fewer, the call is handed down to `below`.
@@ -106,7 +111,7 @@ where
     }
 }
 
-// The outcome of a call of the entry, over a logic that remembers calls.
+// How a run of the entry ends, over a logic that remembers calls.
 fn at_depth<L: Logic, K: Setting<L::Bit>>(
     alloc: Global,
     g: &mut Remembering<'_, L, K>,
@@ -114,32 +119,29 @@ fn at_depth<L: Logic, K: Setting<L::Bit>>(
     view: &View<'_, L::Bit>,
     entry: &Name,
     args: SymValues<L::Bit>,
-) -> Result<SymOutcome<L::Bit>, NoMemory>
+) -> Result<SymDone<L::Bit>, NoMemory>
     requires picks { OwnsAll (λ s b. L.owns s.logic.now b) g.old (joined (env_of view.now).picks) }
     requires many { HasPicks (env_of view.now).picks (weighted_prog program.now.tree.now) }
     requires fixed { Fixes program.now.tree.now program.now.types.now.facts
         (env_of view.now).picks K.fixed }
-    requires functions { TypesFunctions program.now.types.now.facts program.now.tree.now }
     requires args { AreArgumentsIn (λ s b. L.owns s.logic.now b) g.old (env_of view.now).limits
         args }
-    requires typed { IsSome (given_type (signatures_of program.now.tree.now
-        program.now.types.now.facts) entry.now (value_types args)) }
+    requires typed { TypesProgram program.now.types.now.facts program.now.tree.now
+        (entry_within (env_of view.now).limits entry.now (map ty_of args)) }
     ensures extends { Extends (λ s b. L.owns s.logic.now b) (λ s vs b. L.reads s.logic.now vs b)
         (λ s. paired (L.count s.logic.now) s.logic.ghost_name) g.old g.new }
-    ensures made { IfOk result (λ r. (u : AnyType)
-        → given_type (signatures_of program.now.tree.now program.now.types.now.facts) entry.now
-        (value_types args) ≡ Some u
-        → IsOutcomeIn (λ s b. L.owns s.logic.now b) g.new (form_for (env_of view.now).limits u)
-        r) }
+    ensures made { IfOk result (λ r. IsDoneIn (λ s b. L.owns s.logic.now b) g.new
+        (env_of view.now).limits (end_form (env_of view.now).limits program.now.tree.now
+        program.now.types.now.facts entry.now) r) }
     ensures value { IfOk result (λ r.
         (vs : List Bool) (m : ℕ → ℕ) (values : List Value) (p : List Routine)
         → PicksRead (L.reads g.old.logic.now vs) (env_of view.now).picks m
         → map (read (L.reads g.old.logic.now vs)) args ≡ map sure values
         → program_shape p ≡ plain m (weighted_prog program.now.tree.now)
-        → OutcomeReads (L.reads g.new.logic.now vs) r
+        → DoneReads (env_of view.now).limits (L.reads g.new.logic.now vs) r
         (evaluated (env_of view.now).limits p entry.now values)) }
 {
-    let most = view.limits.depth;
+    let most = view.limits.depth - 1;
     let none = Deepest { program: *program };
     let one = UpTo {
         program: *program,
@@ -183,14 +185,21 @@ fn at_depth<L: Logic, K: Setting<L::Bit>>(
         most,
         below: six,
     };
-    let eight = UpTo {
-        program: *program,
-        level: 8,
-        most,
-        below: seven,
-    };
-    let outcome = eight.call(alloc, g, view, entry, args)?;
-    Ok(outcome)
+    match program.number(entry) {
+        None => unreachable!(),
+        Some(i) => {
+            let func = &program.tree.funcs.items[i];
+            let slots = slots_of(alloc, program, i, func, view.limits, view.limits.prints)?;
+            let run = Body {
+                slots: &slots,
+                picks: view.picks,
+                functions: &seven,
+                depth: 1,
+            };
+            let done = begun(alloc, g, &run, func, args)?;
+            Ok(done)
+        }
+    }
 }
 
 // The logic as it is left.
@@ -200,8 +209,8 @@ fn keep<L>(logic: &mut L)
     let _ = logic;
 }
 
-/// The outcome of a call of the entry, from which calls may go as deep as the limits allow. A call
-/// that was made before gives what was built then.
+/// How a run of the entry ends, from which calls may go as deep as the limits allow. A call that
+/// was made before gives what was built then.
 pub fn remembering<L: Logic, K: Setting<L::Bit>>(
     alloc: Global,
     g: &mut L,
@@ -209,26 +218,24 @@ pub fn remembering<L: Logic, K: Setting<L::Bit>>(
     view: &View<'_, L::Bit>,
     entry: &Name,
     args: SymValues<L::Bit>,
-) -> Result<SymOutcome<L::Bit>, NoMemory>
+) -> Result<SymDone<L::Bit>, NoMemory>
     requires picks { OwnsAll L.owns g.old (joined (env_of view.now).picks) }
     requires many { HasPicks (env_of view.now).picks (weighted_prog program.now.tree.now) }
     requires fixed { Fixes program.now.tree.now program.now.types.now.facts
         (env_of view.now).picks K.fixed }
-    requires functions { TypesFunctions program.now.types.now.facts program.now.tree.now }
     requires args { AreArgumentsIn L.owns g.old (env_of view.now).limits args }
-    requires typed { IsSome (given_type (signatures_of program.now.tree.now
-        program.now.types.now.facts) entry.now (value_types args)) }
+    requires typed { TypesProgram program.now.types.now.facts program.now.tree.now
+        (entry_within (env_of view.now).limits entry.now (map ty_of args)) }
     ensures extends { Extends L.owns L.reads L.count g.old g.new }
-    ensures made { IfOk result (λ r. (u : AnyType)
-        → given_type (signatures_of program.now.tree.now program.now.types.now.facts) entry.now
-        (value_types args) ≡ Some u
-        → IsOutcomeIn L.owns g.new (form_for (env_of view.now).limits u) r) }
+    ensures made { IfOk result (λ r. IsDoneIn L.owns g.new (env_of view.now).limits
+        (end_form (env_of view.now).limits program.now.tree.now program.now.types.now.facts
+        entry.now) r) }
     ensures value { IfOk result (λ r.
         (vs : List Bool) (m : ℕ → ℕ) (values : List Value) (p : List Routine)
         → PicksRead (L.reads g.old vs) (env_of view.now).picks m
         → map (read (L.reads g.old vs)) args ≡ map sure values
         → program_shape p ≡ plain m (weighted_prog program.now.tree.now)
-        → OutcomeReads (L.reads g.new vs) r
+        → DoneReads (env_of view.now).limits (L.reads g.new vs) r
         (evaluated (env_of view.now).limits p entry.now values)) }
 {
     let mut memory: Remembering<'_, L, K> = Remembering::new(alloc, g);

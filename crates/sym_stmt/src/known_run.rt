@@ -1,26 +1,22 @@
 //! Weighted programs whose picks and arguments are all known. The program that the picks choose is
 //! run on values.
 
-ghost use Rattle.std.specs.Prelude.{◌≡◌, ℕ, Bool, List, map, Some, IfOk, IfSome, IsSome};
-ghost use Rattle.std.specs.declared.result.Result.{Result as AnyResult};
-ghost use Rattle.mpy_tree.specs.declared.outcome.Halted.{Halted};
-ghost use Rattle.mpy_tree.specs.declared.typing.Ty.{Ty as AnyType};
+ghost use Rattle.std.specs.Prelude.{◌≡◌, ℕ, Bool, List, map, Some, IfOk, IfSome};
 ghost use Rattle.mpy_tree.specs.declared.value.Value.{Value};
-ghost use Rattle.mpy_tree.specs.Outcomes.{outcome_of};
 ghost use Rattle.mpy_tree.specs.Running.{evaluated};
 ghost use Rattle.mpy_tree.specs.Shapes.{program_shape};
 ghost use Rattle.mpy_tree.specs.Syntax.{Routine};
 ghost use Rattle.bit_words.specs.Logic.{OwnsAll};
 ghost use Rattle.choice_tree.specs.Selections.{plain};
 ghost use Rattle.choice_tree.specs.StatementViews.{weighted_prog};
-ghost use Rattle.sym_values.specs.Forms.{form_for, joined, values_bits};
-ghost use Rattle.sym_values.specs.Reading.{OutcomeReads, read, sure};
-ghost use Rattle.sym_values.specs.Results.{IsOutcomeIn};
+ghost use Rattle.sym_values.specs.Forms.{joined, values_bits};
+ghost use Rattle.sym_values.specs.Printed.{DoneReads, IsDoneIn};
+ghost use Rattle.sym_values.specs.Reading.{read, sure};
 ghost use Rattle.sym_nodes.specs.Environments.{HasPicks, PicksRead};
 ghost use Rattle.sym_nodes.specs.Views.{env_of};
-ghost use Rattle.sym_expr.specs.Signatures.{given_type, value_types};
-ghost use Rattle.sym_stmt.specs.Programs.{signatures_of};
+ghost use Rattle.sym_stmt.specs.Programs.{end_form};
 
+use crate::constant_end::constant_end;
 use crate::known_picks::known_selection;
 use crate::program::Program;
 use bit_words::NoMemory;
@@ -28,11 +24,10 @@ use bit_words::logic::Logic;
 use choice_tree::plain;
 use known_values::known_value;
 use mpy_interp::run;
-use mpy_tree::{Limits, Name, Outcome, Ty, Values};
+use mpy_tree::{Name, Values};
 use std::alloc::Global;
 use sym_expr::View;
-use sym_nodes::known::{constant_outcome, fault_outcome};
-use sym_values::{SymOutcome, SymValue};
+use sym_values::{SymDone, SymValue};
 
 /// The values of all arguments, where they are known.
 fn known_arguments<L: Logic>(
@@ -54,32 +49,7 @@ fn known_arguments<L: Logic>(
     Ok(Some(Values::from_vec(values)))
 }
 
-/// How a run ends, as constant bits, where the value has the type and fits the limits.
-fn constant_end<L: Logic>(
-    alloc: Global,
-    g: &L,
-    limits: &Limits,
-    ty: Ty,
-    end: &Outcome,
-) -> Result<Option<SymOutcome<L::Bit>>, NoMemory>
-    ensures made { IfOk result (λ r. IfSome r (λ o.
-        IsOutcomeIn L.owns g.now (form_for limits.now ty) o)) }
-    ensures value { IfOk result (λ r. IfSome r (λ o. (vs : List Bool) (e : AnyResult Value Halted)
-        → outcome_of e ≡ end.now → OutcomeReads (L.reads g.now vs) o e)) }
-{
-    match end {
-        Outcome::Value(value) => {
-            let constant = constant_outcome(alloc, g, limits, ty, value)?;
-            Ok(constant)
-        }
-        Outcome::Fault { .. } => {
-            let fault = fault_outcome(alloc, g, limits, ty)?;
-            Ok(Some(fault))
-        }
-    }
-}
-
-/// The outcome of the program that the picks choose, where these and the arguments are known.
+/// How the program that the picks choose ends, where these and the arguments are known.
 pub fn known_run<L: Logic>(
     alloc: Global,
     g: &L,
@@ -87,22 +57,19 @@ pub fn known_run<L: Logic>(
     view: &View<'_, L::Bit>,
     entry: &Name,
     args: &[SymValue<L::Bit>],
-) -> Result<Option<SymOutcome<L::Bit>>, NoMemory>
+) -> Result<Option<SymDone<L::Bit>>, NoMemory>
     requires picks { OwnsAll L.owns g.now (joined (env_of view.now).picks) }
     requires many { HasPicks (env_of view.now).picks (weighted_prog program.now.tree.now) }
     requires args { OwnsAll L.owns g.now (values_bits args.now) }
-    requires typed { IsSome (given_type (signatures_of program.now.tree.now
-        program.now.types.now.facts) entry.now (value_types args.now)) }
-    ensures made { IfOk result (λ r. IfSome r (λ o. (u : AnyType)
-        → given_type (signatures_of program.now.tree.now program.now.types.now.facts) entry.now
-        (value_types args.now) ≡ Some u
-        → IsOutcomeIn L.owns g.now (form_for (env_of view.now).limits u) o)) }
+    ensures made { IfOk result (λ r. IfSome r (IsDoneIn L.owns g.now (env_of view.now).limits
+        (end_form (env_of view.now).limits program.now.tree.now program.now.types.now.facts
+        entry.now))) }
     ensures value { IfOk result (λ r. IfSome r (λ o.
         (vs : List Bool) (m : ℕ → ℕ) (values : List Value) (p : List Routine)
         → PicksRead (L.reads g.now vs) (env_of view.now).picks m
         → map (read (L.reads g.now vs)) args.now ≡ map sure values
         → program_shape p ≡ plain m (weighted_prog program.now.tree.now)
-        → OutcomeReads (L.reads g.now vs) o
+        → DoneReads (env_of view.now).limits (L.reads g.now vs) o
         (evaluated (env_of view.now).limits p entry.now values))) }
 {
     let Some(values) = known_arguments(alloc, g, args)? else {
@@ -113,7 +80,7 @@ pub fn known_run<L: Logic>(
     };
     let chosen = plain(alloc, program.tree, &selection)?;
     let end = run(alloc, &chosen, program.types, view.limits, entry, &values)?;
-    let ty = program.result_type(entry);
+    let ty = program.given_type(entry);
     let constant = constant_end(alloc, g, view.limits, ty, &end)?;
     Ok(constant)
 }

@@ -131,7 +131,7 @@ impl<L: Logic, C: Functions<L>> Functions<L> for Level<'_, C> {
             None => unreachable!(),
             Some(i) => {
                 let func = &self.program.tree.funcs.items[i];
-                let slots = slots_of(alloc, &self.program, i, func, view.limits)?;
+                let slots = slots_of(alloc, &self.program, i, func, view.limits, 0)?;
                 let run = Body {
                     slots: &slots,
                     picks: view.picks,

@@ -1,6 +1,7 @@
 //! Weighted programs as bits, over any logic.
 #![tactic(auto)]
 
+mod constant_end;
 mod depths;
 mod entering;
 mod known_picks;

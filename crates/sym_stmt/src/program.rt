@@ -52,4 +52,15 @@ impl Program<'_> {
             },
         }
     }
+
+    /// The type of what the entry of a run gives, if it has one.
+    pub fn given_type(&self, f: &Name) -> Option<Ty>
+        ensures { result ≡ result_type
+            (signatures_of self.now.tree.now self.now.types.now.facts) f.now }
+    {
+        match self.number(f) {
+            None => None,
+            Some(i) => self.facts().result(i).only(),
+        }
+    }
 }

@@ -69,29 +69,28 @@ fn local_types(alloc: Global, number: usize, names: &Names, facts: &[Fact]) -> R
 }
 
 /// The slots of a function of a program, by its number: first its parameters, and then each other
-/// local about which there is a fact.
+/// local about which there is a fact. So many printed values are kept.
 pub fn slots_of(
     alloc: Global,
     program: &Program<'_>,
     number: usize,
     func: &WFunc,
     limits: &Limits,
+    prints: u32,
 ) -> Result<Slots, NoMemory>
     requires typed { TypesFunctions program.now.types.now.facts program.now.tree.now }
     requires place { slice_get (functions_of program.now.tree.now) number ≡ Some func.now }
     ensures { IfOk result (AreSlotsOf (single (set_of program.now.types.now.facts)) number
-        func.now.params limits.now) }
+        func.now.params limits.now prints) }
 {
     let facts = program.types.facts.items();
     let names = local_names(number, &func.params, facts)?;
     let types = local_types(alloc, number, &names, facts)?;
-    match program.facts().result(number).only() {
-        None => unreachable!(),
-        Some(result) => Ok(Slots {
-            limits: *limits,
-            names,
-            types,
-            result,
-        }),
-    }
+    Ok(Slots {
+        limits: *limits,
+        names,
+        types,
+        result: program.facts().result(number).only(),
+        prints,
+    })
 }

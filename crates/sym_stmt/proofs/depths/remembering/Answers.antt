@@ -1,7 +1,7 @@
 use Rattle.std.proofs.Common.{◌≡◌, ◌∙◌, sym}
 use Rattle.std.proofs.lemmas.Result.{IfOk-weaker}
 use Rattle.sym_calls.proofs.Pairs.{paired_parts}
-use Rattle.sym_calls.proofs.Within.{outcome_as}
+use Rattle.sym_calls.proofs.Within.{done_as}
 use Rattle.sym_stmt.proofs.depths.remembering.Given.{Over}
 use Rattle.sym_stmt.proofs.depths.remembering.Goals as goal
 
@@ -21,7 +21,7 @@ returns-clause-extends g c =
 
 pub returns-clause-made : goal.returns-clause-made
 returns-clause-made g c =
-    rw (left g c) (IfOk-weaker c.at_depth-outcome.result _ _ (λ r made u e. outcome_as (λ b h. h) (made u e)) c.at_depth-outcome.ensures.made)
+    rw (left g c) (IfOk-weaker c.at_depth-outcome.result _ _ (λ r made. done_as (λ b h. h) made) c.at_depth-outcome.ensures.made)
 
 pub returns-clause-value : goal.returns-clause-value
 returns-clause-value g c = rw (left g c, sym c.new-memory.ensures.value) c.at_depth-outcome.ensures.value

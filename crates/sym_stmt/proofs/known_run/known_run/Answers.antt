@@ -1,35 +1,14 @@
-use Rattle.std.proofs.Common.{◌≡◌, Some, ap, is_some, sym, ◌∙◌}
+use Rattle.std.proofs.Common.{ap, option_map}
 use Rattle.mpy_tree.specs.View.{routines_of}
 use Rattle.choice_tree.specs.Choices.{member_of}
 use Rattle.sym_values.specs.Forms.{form_for}
-use Rattle.sym_values.specs.Results.{IsOutcomeIn}
-use Rattle.sym_expr.specs.Signatures.{given_type, value_types}
-use Rattle.sym_stmt.specs.Programs.{signatures_of}
-use Rattle.sym_stmt.proofs.Calls.{given_result, some_type}
-use Rattle.sym_stmt.proofs.KnownRuns.{each_gives, made_of}
+use Rattle.sym_stmt.proofs.KnownRuns.{each_gives}
 use Rattle.sym_stmt.proofs.known_run.known_run.Goals as goal
-
-pub result_type-ty-requires : goal.result_type-ty-requires
-result_type-ty-requires g c =
-    let w = c.args.program.now.tree.now in
-    let T = c.args.program.now.types.now.facts in
-    let f = c.args.entry.now in
-    let types = value_types c.args.args.now in
-    let t = some_type (given_type (signatures_of w T) f types) c.requires.typed in
-    ap is_some (given_result w T f types t.0 t.1)
 
 pub returns-clause-made : goal.returns-clause-made
 returns-clause-made g c =
-    let w = c.args.program.now.tree.now in
-    let T = c.args.program.now.types.now.facts in
-    let f = c.args.entry.now in
-    let types = value_types c.args.args.now in
-    let t = c.result_type-ty.result in
-    made_of c.in_ok-constant.constant
-    (λ u. IsOutcomeIn g.L.Logic.owns c.args.g.now (form_for c.args.view.now.limits.now u)) t
-    (λ u. given_type (signatures_of w T) f types ≡ Some u)
-    (λ u e. let both : Some t ≡ Some u = sym c.result_type-ty.ensures ∙ given_result w T f types u e in cc)
-    c.in_ok-constant.ensures.made
+    let limits = c.args.view.now.limits.now in
+    rw (ap (option_map (form_for limits)) c.given_type-ty.ensures) at c.in_ok-constant.ensures.made
 
 pub returns-clause-value : goal.returns-clause-value
 returns-clause-value g c =

@@ -1,4 +1,4 @@
-use Rattle.std.proofs.Common.{◌≡◌, None, ap, sym, ◌∙◌, subst, refl, map, IsSome, is_some}
+use Rattle.std.proofs.Common.{ap, sym, ◌∙◌, subst, refl, map, IsSome}
 use Rattle.std.specs.Prelude.{All}
 use Rattle.std.specs.List.{flat_map}
 use Rattle.mpy_tree.specs.declared.typing.Slot.TheVariants as slot
@@ -24,18 +24,6 @@ local_types-requires c =
     (sym c.items-facts.ensures)
     (subst (All (λ x. IsSome (single (set_of T) i (slot.Local x)))) (sym names) all)
 
-pub unreachable-requires : goal.unreachable-requires
-unreachable-requires c =
-    let T = c.args.program.now.types.now.facts in
-    let i = c.args.number in
-    let typed = c.requires.typed.typed i c.args.func.now c.requires.place in
-    let none : single (set_of T) i slot.Result ≡ None =
-    ap (λ fs. only (set_of fs i slot.Result)) (sym c.facts.ensures)
-    ∙ ap only (sym c.result.ensures) ∙ sym c.only.ensures ∙ c.in-None.is in
-    let some = typed.result in
-    let not = ap is_some none in
-    cc
-
 pub returns : goal.returns
 returns c =
     let T = c.args.program.now.types.now.facts in
@@ -52,5 +40,6 @@ returns c =
           c.items-facts.ensures;
       others = λ x e. others_none T i params x (ap (λ ns. is_among ns x) (sym names) ∙ e);
       result = ap (λ fs. only (set_of fs i slot.Result)) (sym c.facts.ensures)
-          ∙ ap only (sym c.result.ensures) ∙ sym c.only.ensures ∙ c.in-Some.is;
+          ∙ ap only (sym c.result.ensures) ∙ sym c.only.ensures;
+      prints = refl;
     }

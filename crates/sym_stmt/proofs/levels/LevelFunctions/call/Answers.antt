@@ -1,4 +1,4 @@
-use Rattle.std.proofs.Common.{◌≡◌, Some, ap, sym, ◌∙◌, subst, refl, length}
+use Rattle.std.proofs.Common.{◌≡◌, ap, sym, ◌∙◌, subst, refl, length, is_some}
 use Rattle.std.proofs.lemmas.Option.{slice_get_read}
 use Rattle.mpy_tree.specs.declared.limits.Limits.{Limits}
 use Rattle.mpy_tree.specs.Rules.{single}
@@ -43,7 +43,24 @@ entered-requires-clause-typed g c =
     let typed = c.requires.many.typed.typed i func place in
     subst (λ (s : Signatures). IsTyped (body_scope s slots) (weighted_body func.body))
     (sym c.requires.many.same)
-    (body_typed w T i func.params c.args.view.now.limits.now slots c.in_ok-slots-in-Some.ensures func typed.body)
+    (body_typed w T i func.params c.args.view.now.limits.now 0 slots c.in_ok-slots-in-Some.ensures func typed.body)
+
+pub entered-requires-clause-result : goal.entered-requires-clause-result
+entered-requires-clause-result g c =
+    let program = c.args.self.now.program in
+    let w = program.tree.now in
+    let T = program.types.now.facts in
+    let fs = functions_of w in
+    let i = c.in-Some.i in
+    let func = c.index-func.result.now in
+    let args = c.args.args in
+    let place = slice_get_read fs (length fs) i func refl c.in-Some.ensures.within c.index-func.ensures in
+    let t = some_type (given_type (signatures_of w T) c.args.f.now (value_types args)) c.requires.typed in
+    let given = given_at w T c.args.f.now (value_types args) i func t.0 (sym c.number.ensures.first ∙ c.in-Some.is) place t.1 in
+    ap is_some (sym c.in_ok-slots-in-Some.ensures.result ∙ given.1)
+
+pub entered-requires-clause-dropped : goal.entered-requires-clause-dropped
+entered-requires-clause-dropped g c = c.in_ok-slots-in-Some.ensures.prints
 
 pub entered-requires-clause-picks : goal.entered-requires-clause-picks
 entered-requires-clause-picks g c =
@@ -83,7 +100,7 @@ entered-requires-clause-forms g c =
     let place = slice_get_read fs (length fs) i func refl c.in-Some.ensures.within c.index-func.ensures in
     let t = some_type (given_type (signatures_of w T) c.args.f.now (value_types args)) c.requires.typed in
     let given = given_at w T c.args.f.now (value_types args) i func t.0 (sym c.number.ensures.first ∙ c.in-Some.is) place t.1 in
-    arguments_begin c.args.view.now.limits.now (single (set_of T)) i func.params c.in_ok-slots-in-Some.slots args
+    arguments_begin c.args.view.now.limits.now (single (set_of T)) i func.params 0 c.in_ok-slots-in-Some.slots args
     c.in_ok-slots-in-Some.ensures c.requires.args.each (arguments_are (single (set_of T)) i func.params args given.0)
 
 pub returns-clause-made : goal.returns-clause-made
@@ -95,15 +112,11 @@ returns-clause-made g c t e =
     let i = c.in-Some.i in
     let func = c.index-func.result.now in
     let slots = c.in_ok-slots-in-Some.slots in
-    let limits = c.args.view.now.limits.now in
     let h = c.in_ok-slots-in-Some.ensures in
     let place = slice_get_read fs (length fs) i func refl c.in-Some.ensures.within c.index-func.ensures in
     let given = given_at w T c.args.f.now (value_types c.args.args) i func t (sym c.number.ensures.first ∙ c.in-Some.is) place e in
-    let both : Some slots.result ≡ Some t = sym h.result ∙ given.1 in
-    let type : slots.result ≡ t = cc in
-    let form = ap (λ (l : Limits). form_for l slots.result) h.limits ∙ ap (form_for limits) type in
-    subst (λ f. IsOutcomeIn g.L.Logic.owns c.entered.new.g f c.in_ok-outcome-in-Some.outcome) form
-    c.in_ok-outcome-in-Some.ensures.made
+    subst (λ (l : Limits). IsOutcomeIn g.L.Logic.owns c.entered.new.g (form_for l t) c.in_ok-outcome-in-Some.outcome) h.limits
+    (c.in_ok-outcome-in-Some.ensures.made t (sym h.result ∙ given.1))
 
 pub returns-clause-value : goal.returns-clause-value
 returns-clause-value g c vs m calls values line deeper picks reads =
