@@ -16,7 +16,7 @@ is_failure : (k : Task) (x : Case) (f : code.Failure) → Contains (wanted_input
 is_failure k x f c so = record {
   is_input = subst (λ (y : Case). IsInput k.bounds y.values) (sym so.case_is) (wanted_is_input k x c);
   reference = ap (λ (y : Case). ends_on k.bounds k.reference y.values) so.case_is ∙ so.wants;
-  done = refl;
+  done = so.done;
   submission = ap (λ (y : Case). ends_on k.bounds k.submission y.values) so.case_is ∙ so.gives_is;
   differ = so.differ;
 }

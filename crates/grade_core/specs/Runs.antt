@@ -1,7 +1,7 @@
 -- When the answer of a search is right.
 use Rattle.std.specs.Prelude.{◌≡◌, ◌≢◌, ℕ, ◌<◌, ◌≤◌, List, [], map, Option, Some, None}
-use Rattle.std.specs.Prelude.{slice_get, All, IsSomeAnd}
-use Rattle.mpy_tree.specs.declared.outcome.Outcome.TheVariants as outcome
+use Rattle.std.specs.Prelude.{slice_get, true, All, IsSomeAnd}
+use Rattle.mpy_tree.specs.Outcomes.{is_done}
 use Rattle.mpy_tree.specs.Syntax.{Routine}
 use Rattle.choice_tree.specs.declared.selection.Choice.{Choice}
 use Rattle.choice_tree.specs.Selections.{Fits}
@@ -158,10 +158,11 @@ IsKeptFor k code.TheVariants.NoMemory kept xs o = o ≡ None
 -- how the submission fails on a case
 pub record FailsSo (k : Task) (x : Case) (f : code_failure.Failure) : Type 0 where
   pub case_is : f.case ≡ x
-  pub wants : ends_on k.bounds k.reference x.values ≡ outcome.Value f.wanted
+  pub wants : ends_on k.bounds k.reference x.values ≡ f.wanted
+  pub done : is_done f.wanted ≡ true
   pub gives_is : ends_on k.bounds k.submission x.values ≡ f.gives
-  pub differ : f.gives ≢ outcome.Value f.wanted
+  pub differ : f.gives ≢ f.wanted
 
--- the submission doesn't give the values of the reference on all of the cases
+-- the submission doesn't end as the reference does on all of the cases
 abbrev pub SomeFails : Task → List Case → Type 0
 SomeFails k xs = All (Meets k k.submission) xs → ⊥

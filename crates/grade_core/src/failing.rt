@@ -1,7 +1,6 @@
 //! The kept case on which a submission fails.
-ghost use Rattle.std.specs.Prelude.{◌≡◌, ◌↔◌, IfOk, IsTrue, MatchOption, All};
+ghost use Rattle.std.specs.Prelude.{IfOk, MatchOption, All};
 ghost use Rattle.std.specs.List.{Contains};
-ghost use Rattle.mpy_tree.specs.declared.outcome.Outcome.TheVariants as ended;
 ghost use Rattle.input_space.specs.TaskParts.{task_with};
 ghost use Rattle.input_space.specs.TaskSpace.{Meets, wanted_inputs};
 ghost use Rattle.feedback_text.specs.AnswerViews.{failure_of};
@@ -10,7 +9,6 @@ ghost use Rattle.grade_core.specs.Runs.{FailsSo, IsFirstFailure, SomeFails};
 use crate::NoMemory;
 use feedback_text::Failure;
 use input_space::{Case, Cases};
-use mpy_tree::{Outcome, Value};
 use task_runs::Runs;
 
 // The failure of the submission on a case, if it fails there.
@@ -19,11 +17,12 @@ fn failure_on(runs: &Runs<'_>, case: &Case) -> Result<Option<Failure>, NoMemory>
         (Meets (task_with runs.now.task.now) (task_with runs.now.task.now).submission case.now)
         (FailsSo (task_with runs.now.task.now) case.now)) }
 {
-    let Outcome::Value(wanted) = runs.reference(case)? else {
+    let wanted = runs.reference(case)?;
+    if !wanted.is_done() {
         return Ok(None);
-    };
+    }
     let gives = runs.submission(case)?;
-    if is_value(&gives, &wanted) {
+    if gives.is(&wanted) {
         return Ok(None);
     }
     Ok(Some(Failure {
@@ -31,16 +30,6 @@ fn failure_on(runs: &Runs<'_>, case: &Case) -> Result<Option<Failure>, NoMemory>
         gives,
         wanted,
     }))
-}
-
-// Whether a run ended with the value.
-fn is_value(outcome: &Outcome, value: &Value) -> bool
-    ensures { IsTrue result ↔ (outcome.now ≡ ended.Value value.now) }
-{
-    match outcome {
-        Outcome::Value(v) => v.is(value),
-        Outcome::Fault { .. } => false,
-    }
 }
 
 /// The first of the kept cases on which the submission fails, where it fails on some.

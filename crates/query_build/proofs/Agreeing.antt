@@ -1,5 +1,6 @@
--- When a program gives the value of the reference.
-use Rattle.std.proofs.Common.{◌≡◌, Bool, true, false, not, ◌&&◌, List, refl, sym, ap, ◌∙◌}
+-- When a program ends as the reference does.
+use Rattle.std.proofs.Common.{◌≡◌, Bool, true, false, not, ◌&&◌, List, [], ◌∷◌, refl, sym, ap, ◌∙◌}
+use Rattle.std.proofs.Common.{Option, Some, None}
 use Rattle.std.specs.Bool.{Decides}
 use Rattle.std.specs.Cmp.Lexicographic.{pointwise}
 use Rattle.std.specs.Ordering.{int_eq}
@@ -23,7 +24,7 @@ use Rattle.input_space.specs.Agreement.{ends_on}
 use Rattle.input_space.specs.Tasks.{Task, tree_of}
 use Rattle.input_space.specs.TaskSpace.{SelectionMeets, wanted}
 use Rattle.input_space.proofs.TaskSpaceLaws.{selection_meets}
-use Rattle.query_build.specs.Comparing.{fails_on, give_one, is_yes, meets_on}
+use Rattle.query_build.specs.Comparing.{end_as_one, fails_on, is_yes, meets_on, same_value, same_values}
 
 truths : (a b : Bool) → Decides (same_truth a b) (a ≡ b)
 truths true true = (λ h. refl, λ h. refl)
@@ -55,26 +56,58 @@ yes (val.Text a) (val.Int b) = (λ h. cc, λ h. cc)
 yes (val.Text a) (val.Bool b) = (λ h. cc, λ h. cc)
 yes (val.Text a) (val.List b) = (λ h. cc, λ h. cc)
 
--- where the first run ends with a value
-one_value : (want got : Outcome) → is_done want ≡ true
-    → (give_one want got ≡ true → got ≡ want) × (got ≡ want → give_one want got ≡ true)
-one_value (outcome.Fault kind line) got h = absurd (true≢false (sym h))
-one_value (outcome.Value v) (outcome.Fault kind line) h =
+all_true : (a b : Bool) → a ≡ true → b ≡ true → (a && b) ≡ true
+all_true true b e h = h
+all_true false b e h = absurd cc
+
+maybe_one : (v w : Option Value) → Decides (same_value v w) (v ≡ w)
+maybe_one None None = (λ h. refl, λ h. refl)
+maybe_one None (Some w) = (λ h. cc, λ h. cc)
+maybe_one (Some v) None = (λ h. cc, λ h. cc)
+maybe_one (Some v) (Some w) =
+    let d = yes v w in (λ h. ap Some (d.0 h), λ h. d.1 cc)
+
+all_one : (vs ws : List Value) → Decides (same_values vs ws) (vs ≡ ws)
+all_one [] [] = (λ h. refl, λ h. refl)
+all_one [] (w ∷ ws) = (λ h. cc, λ h. cc)
+all_one (v ∷ vs) [] = (λ h. cc, λ h. cc)
+all_one (v ∷ vs) (w ∷ ws) =
+    let d = yes v w in
+    let rest = all_one vs ws in (
+      λ h.
+          let both = and_parts (is_yes (equal v w)) (same_values vs ws) h in
+          ap (λ x. x ∷ vs) (d.0 both.0) ∙ ap (λ xs. w ∷ xs) (rest.0 both.1),
+      λ h. all_true (is_yes (equal v w)) (same_values vs ws) (d.1 cc) (rest.1 cc),
+    )
+
+-- two ends without a fault are one exactly where their values are, and what was printed
+pub done_one : (v w : Option Value) (vs ws : List Value)
+    → Decides (same_value v w && same_values vs ws) (outcome.Done v vs ≡ outcome.Done w ws)
+done_one v w vs ws =
+    let d = maybe_one v w in
+    let rest = all_one vs ws in (
+      λ h.
+          let both = and_parts (same_value v w) (same_values vs ws) h in
+          ap (λ x. outcome.Done x vs) (d.0 both.0) ∙ ap (outcome.Done w) (rest.0 both.1),
+      λ h. all_true (same_value v w) (same_values vs ws) (d.1 cc) (rest.1 cc),
+    )
+
+-- where the first run ends without a fault
+one_end : (want got : Outcome) → is_done want ≡ true
+    → (end_as_one want got ≡ true → got ≡ want) × (got ≡ want → end_as_one want got ≡ true)
+one_end (outcome.Fault kind line) got h = absurd (true≢false (sym h))
+one_end (outcome.Done v vs) (outcome.Fault kind line) h =
     (λ e. absurd (true≢false (sym e)), λ e. absurd (true≢false (sym (ap is_done e))))
-one_value (outcome.Value v) (outcome.Value w) h =
-    let d = yes v w in (λ e. ap outcome.Value (sym (d.0 e)), λ e. d.1 cc)
+one_end (outcome.Done v vs) (outcome.Done w ws) h =
+    let d = done_one v w vs ws in (λ e. sym (d.0 e), λ e. d.1 (sym e))
 
-both_end : (want got : Outcome) → give_one want got ≡ true → is_done want ≡ true
-both_end (outcome.Value v) got h = refl
-both_end (outcome.Fault kind line) got h = absurd (true≢false (sym h))
-
--- the reference gives a value, and the program of the selection gives it too
+-- the reference ends without a fault, and the program of the selection ends so, too
 pub meets_so : (k : Task) (s : List Choice) (p : List Routine) (x : Case)
     → program_shape p ≡ plain (member_of s) (tree_of k) → is_done (wanted k x.values) ≡ true
     → (meets_on k p x.values ≡ true → SelectionMeets k s x)
     × (SelectionMeets k s x → meets_on k p x.values ≡ true)
 meets_so k s p x made done =
-    let alike = one_value (wanted k x.values) (ends_on k.bounds p x.values) done in
+    let alike = one_end (wanted k x.values) (ends_on k.bounds p x.values) done in
     (λ h. selection_meets k s p x made (λ d. alike.0 h), λ met. alike.1 (met p made done))
 
 not_true : (b : Bool) → not b ≡ true → b ≡ false
@@ -85,11 +118,7 @@ untrue : (b : Bool) → (b ≡ true → ⊥) → not b ≡ true
 untrue true h = absurd (h refl)
 untrue false h = refl
 
-two : (a b : Bool) → a ≡ true → b ≡ true → (a && b) ≡ true
-two true b e h = h
-two false b e h = absurd cc
-
--- the reference gives a value, and the program of the selection doesn't give it
+-- the reference ends without a fault, and the program of the selection doesn't end so
 pub fails_so : (k : Task) (s : List Choice) (p : List Routine) (x : Case)
     → program_shape p ≡ plain (member_of s) (tree_of k)
     → (fails_on k p x.values ≡ true
@@ -104,6 +133,6 @@ fails_so k s p x made = (
             ∙ not_true (meets_on k p x.values) parts.1),
       ),
   λ done fails.
-      two (is_done (wanted k x.values)) (not (meets_on k p x.values)) done
+      all_true (is_done (wanted k x.values)) (not (meets_on k p x.values)) done
       (untrue (meets_on k p x.values) (λ met. fails ((meets_so k s p x made done).0 met))),
 )

@@ -1,23 +1,20 @@
 -- What later states of a logic leave of the arguments, the picks and the outcomes of a task's
 -- programs: they belong to them, and read there as before.
-use Rattle.std.proofs.Common.{◌≡◌, ◌∙◌, ℕ, Bool, List, [], ◌∷◌, map, ap, refl}
+use Rattle.std.proofs.Common.{◌≡◌, ◌∙◌, ℕ, Bool, List, [], ◌∷◌, map, refl}
 use Rattle.std.specs.Prelude.{All}
 use Rattle.std.proofs.lemmas.List.Elements.{All-cons, All-head, All-nil, All-tail}
-use Rattle.std.specs.declared.result.Result.{Result}
 use Rattle.mpy_tree.specs.declared.limits.Limits.{Limits}
-use Rattle.mpy_tree.specs.declared.value.Value.{Value}
 use Rattle.bounds_reader.specs.declared.bounds.Bounds.{Bounds}
+use Rattle.input_space.specs.Tasks.{Task}
 use Rattle.bit_words.specs.Logic.{Keeps}
 use Rattle.bit_words.specs.Later.{nat_later, owned_later}
-use Rattle.input_space.specs.Tasks.{Task}
-use Rattle.sym_values.specs.declared.value.SymOutcome.{SymOutcome}
 use Rattle.sym_values.specs.declared.value.SymValue.{SymValue}
-use Rattle.sym_values.specs.Later.{outcome_in_later, outcome_later, value_in_later, value_later}
-use Rattle.sym_values.specs.Reading.{OutcomeReads, read, spelled}
+use Rattle.sym_values.specs.Later.{value_in_later, value_later}
+use Rattle.sym_values.specs.Reading.{read, spelled}
 use Rattle.sym_nodes.specs.Environments.{PicksRead}
 use Rattle.sym_nodes.specs.Operands.{IsTypedIn}
 use Rattle.sym_values.specs.Owned.{owns_one}
-use Rattle.task_bits.specs.Tasks.{AreArgumentsOf, ArePicksOf, IsEndOf}
+use Rattle.task_bits.specs.Tasks.{AreArgumentsOf, ArePicksOf}
 
 module _ {S B : Type 0} {owns : S → B → Type 0} {reads : S → List Bool → B → Bool} where
   -- arguments
@@ -61,13 +58,3 @@ module _ {S B : Type 0} {owns : S → B → Type 0} {reads : S → List Bool →
   picks_read_later {s} {t} {k} {ps} p h vs m read = record {
     member = λ i bits e. nat_later p (owns_one (λ w. w) ps i bits h.owned e) vs ∙ read.member i bits e;
   }
-
-  -- outcomes
-  pub end_later : {s t : S} {k : Task} {o : SymOutcome B} → Keeps owns reads s t
-      → IsEndOf owns s k o → IsEndOf owns t k o
-  end_later p h = record { type = h.type; given = h.given; formed = outcome_in_later p h.formed }
-
-  pub end_read_later : {s t : S} {k : Task} {o : SymOutcome B} → Keeps owns reads s t
-      → IsEndOf owns s k o → (vs : List Bool) {E : Type 0} (x : Result Value E)
-      → OutcomeReads (reads s vs) o x → OutcomeReads (reads t vs) o x
-  end_read_later {s} {t} {k} {o} p h vs x = outcome_later o p h.formed vs x

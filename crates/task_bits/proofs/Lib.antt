@@ -4,3 +4,4 @@ pub mod HavePicks
 pub mod FirstValues
 pub mod FirstMembers
 pub mod Later
+pub mod Endings

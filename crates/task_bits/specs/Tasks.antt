@@ -1,15 +1,14 @@
--- The arguments, the picks and the outcome of the programs of a task as bits.
-use Rattle.std.specs.Prelude.{◌≡◌, List, length, map, Some}
-use Rattle.mpy_tree.specs.declared.typing.Ty.{Ty}
+-- The arguments, the picks and the ends of the programs of a task as bits.
+use Rattle.std.specs.Prelude.{◌≡◌, List, length, map, option_map}
 use Rattle.bounds_reader.specs.declared.bounds.Bounds.{Bounds}
 use Rattle.bit_words.specs.Logic.{OwnsAll}
 use Rattle.choice_tree.specs.WeightedTrees.{picks}
 use Rattle.input_space.specs.Inputs.{param_type}
 use Rattle.input_space.specs.Tasks.{Task, result_type, tree_of}
-use Rattle.sym_values.specs.declared.value.SymOutcome.{SymOutcome}
+use Rattle.sym_values.specs.declared.done.SymDone.{SymDone}
 use Rattle.sym_values.specs.declared.value.SymValue.{SymValue}
 use Rattle.sym_values.specs.Forms.{form_for, joined}
-use Rattle.sym_values.specs.Results.{IsOutcomeIn}
+use Rattle.sym_values.specs.Printed.{IsDoneIn}
 use Rattle.sym_nodes.specs.Operands.{ty_of}
 use Rattle.sym_expr.specs.Signatures.{AreArgumentsIn}
 
@@ -25,9 +24,9 @@ pub record ArePicksOf {S B : Type 0} (owns : S → B → Type 0) (s : S) (k : Ta
   pub owned : OwnsAll owns s (joined ps)
   pub many : length ps ≡ picks (tree_of k)
 
--- an outcome of the type of the reference's results, which is also that of the submission's
-pub record IsEndOf {S B : Type 0} (owns : S → B → Type 0) (s : S) (k : Task) (o : SymOutcome B)
-    : Type 0 where
-  pub type : Ty
-  pub given : result_type k.bounds k.reference k.reference_types ≡ Some type
-  pub formed : IsOutcomeIn owns s (form_for k.bounds.limits type) o
+-- an end with a value of the type of the reference's results, which is also that of the
+-- submission's, if these have one
+abbrev pub IsEndOf : {S B : Type 0} → (S → B → Type 0) → S → Task → SymDone B → Type 0
+IsEndOf owns s k d =
+    IsDoneIn owns s k.bounds.limits
+    (option_map (form_for k.bounds.limits) (result_type k.bounds k.reference k.reference_types)) d

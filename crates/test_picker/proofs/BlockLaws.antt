@@ -1,5 +1,5 @@
 -- Inputs of the order side by side, up to 64 of them.
-use Rattle.std.proofs.Common.{◌≡◌, ℕ, ◌+◌, ◌-◌, ◌<◌, ◌≤◌, ◌∙◌, true, List, [], ◌∷◌, ◌++◌, Some, sym, ap, subst, arith, refl, inl, inr, min, map, Option, length, take, drop, append_assoc, length-drop}
+use Rattle.std.proofs.Common.{◌≡◌, ℕ, ◌+◌, ◌-◌, ◌<◌, ◌≤◌, ◌∙◌, true, List, [], ◌∷◌, ◌++◌, Some, sym, ap, subst, arith, refl, inl, inr, min, map, length, take, drop, append_assoc, length-drop}
 use Rattle.std.specs.Prelude.{All, slice_get}
 use Rattle.std.specs.Option.{option_map}
 use Rattle.std.proofs.Math.Seq.{take-add, take-length}
@@ -166,8 +166,3 @@ read_in_lanes law cs args few reads =
           let place : min (lane_of 6 (truths_of_lane lane)) (length cs - 1) ≡ lane = omega (arith, number, below) in
           reads (truths_of_lane lane) here.0 (ap (slice_get cs) place ∙ here.1) ∙ ap (map sure) (sym value);
     }
-
--- TYPES
-
-pub same_type : (o q : Option Ty) (t u : Ty) → q ≡ o → o ≡ Some u → q ≡ Some t → t ≡ u
-same_type o q t u e f g = cc

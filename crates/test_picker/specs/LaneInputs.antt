@@ -1,27 +1,25 @@
 -- Inputs that are run at once, one in each lane of words of 64 bits.
-use Rattle.std.specs.Prelude.{◌≡◌, ℕ, true, false, ◌<◌, ◌≤◌, List, length, map, Some, slice_get}
-use Rattle.mpy_tree.specs.declared.typing.Ty.{Ty}
+use Rattle.std.specs.Prelude.{◌≡◌, ℕ, true, false, ◌<◌, ◌≤◌, List, length, map, Some, option_map}
+use Rattle.std.specs.Prelude.{slice_get}
 use Rattle.mpy_tree.specs.declared.value.Value.{Value}
 use Rattle.mpy_tree.specs.Running.{evaluated}
 use Rattle.bounds_reader.specs.declared.bounds.Bounds.{Bounds}
 use Rattle.bit_lanes.specs.Lane.{IsTable, lane_bit, reads_table, truths_of_lane}
 use Rattle.bit_lanes.specs.declared.lanes.Lanes.{Lanes}
-use Rattle.sym_values.specs.declared.value.SymOutcome.{SymOutcome}
+use Rattle.sym_values.specs.declared.done.SymDone.{SymDone}
 use Rattle.sym_values.specs.declared.value.SymValue.{SymValue}
 use Rattle.sym_values.specs.Forms.{form_for}
-use Rattle.sym_values.specs.Reading.{OutcomeReads, read, sure}
-use Rattle.sym_values.specs.Results.{IsOutcomeIn}
+use Rattle.sym_values.specs.Printed.{DoneReads, IsDoneIn}
+use Rattle.sym_values.specs.Reading.{read, sure}
 use Rattle.task_bits.specs.Tasks.{AreArgumentsOf}
 use Rattle.test_picker.specs.declared.typed_list.Typed.{Typed}
 use Rattle.test_picker.specs.declared.blocks.Block.{Block}
 use Rattle.test_picker.specs.Programs.{gives_type, program_of}
 
--- an outcome of the type of what the program gives
-pub record IsEndIn {S B : Type 0} (owns : S → B → Type 0) (s : S) (b : Bounds) (t : Typed)
-    (o : SymOutcome B) : Type 0 where
-  pub type : Ty
-  pub given : gives_type b t ≡ Some type
-  pub formed : IsOutcomeIn owns s (form_for b.limits type) o
+-- an end with a value of the type of what the program gives, if it gives one
+abbrev pub IsEndIn : {S B : Type 0} → (S → B → Type 0) → S → Bounds → Typed → SymDone B → Type 0
+IsEndIn owns s b t d =
+    IsDoneIn owns s b.limits (option_map (form_for b.limits) (gives_type b t)) d
 
 -- the tables that belong to a state of lanes: all
 abbrev pub Belongs : Lanes → ℕ → Type 0
@@ -39,7 +37,7 @@ pub record ReadInLanes (xs : List (List Value)) (args : List (SymValue ℕ)) : T
   pub reads : (lane : ℕ) (x : List Value) → slice_get xs lane ≡ Some x
       → map (read (reads_table (truths_of_lane lane))) args ≡ map sure x
 
--- arguments of up to 64 inputs, and an outcome of the type of what the reference gives
+-- arguments of up to 64 inputs, and an end of the form of those of the reference
 pub record IsBlock (b : Bounds) (r : Typed) (k : Block) : Type 0 where
   pub few : k.many ≤ 64
   pub args : (s : Lanes) → AreArgumentsOf Belongs s b k.args.items
@@ -50,5 +48,5 @@ pub record IsBlockOf (b : Bounds) (r : Typed) (xs : List (List Value)) (k : Bloc
   pub many : k.many ≡ length xs
   pub read : ReadInLanes xs k.args.items
   pub ends : (lane : ℕ) (x : List Value) → slice_get xs lane ≡ Some x
-      → OutcomeReads (reads_table (truths_of_lane lane)) k.wanted
+      → DoneReads b.limits (reads_table (truths_of_lane lane)) k.wanted
       (evaluated b.limits (program_of r) b.entry x)

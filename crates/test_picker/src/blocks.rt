@@ -22,7 +22,7 @@ use bit_words::logic::Logic;
 use bounds_reader::Bounds;
 use input_space::{Cases, case_at, inputs_fit};
 use std::alloc::Global;
-use sym_values::{SymOutcome, SymValue};
+use sym_values::{SymDone, SymValue};
 
 /// How many inputs are run at once.
 pub(crate) const LANES: u64 = 64;
@@ -33,7 +33,7 @@ pub(crate) const LANES: u64 = 64;
 pub(crate) struct Block {
     pub(crate) many: u32,
     pub(crate) args: Vec<SymValue<u64>>,
-    pub(crate) wanted: SymOutcome<u64>,
+    pub(crate) wanted: SymDone<u64>,
 }
 
 /// The bounds within which programs are compared, and the reference.
@@ -131,7 +131,13 @@ impl Setting<'_> {
         lanes_are_numbers();
         let mut lanes = Lanes::new();
         let given = program.run(self.alloc, &mut lanes, self.bounds, &block.args)?;
-        let failing = fails(&mut lanes, &block.wanted, &given)?;
+        let failing = fails(
+            self.alloc,
+            &mut lanes,
+            &self.bounds.limits,
+            &block.wanted,
+            &given,
+        )?;
         Ok(first_lane(failing, block.many))
     }
 

@@ -1,38 +1,41 @@
-//! Two outcomes as bits, compared.
-ghost use Rattle.std.specs.Prelude.{◌≡◌, ◌≢◌, ◌≤◌, Bool, List, true, false, IfOk};
+//! The ends of two runs as bits, compared.
+ghost use Rattle.std.specs.Prelude.{Bool, List, Option, IfOk, option_map};
 ghost use Rattle.std.specs.declared.result.Result.{Result as AnyResult};
 ghost use Rattle.mpy_tree.specs.declared.outcome.Halted.{Halted};
-ghost use Rattle.mpy_tree.specs.declared.value.Value.{Value};
-ghost use Rattle.mpy_tree.specs.Outcomes.{is_done, outcome_of};
+ghost use Rattle.mpy_tree.specs.declared.typing.Ty.{Ty as AnyType};
+ghost use Rattle.mpy_tree.specs.Outcomes.{outcome_of};
+ghost use Rattle.mpy_tree.specs.Running.{Done};
 ghost use Rattle.bit_words.specs.Logic.{Extends};
-ghost use Rattle.sym_values.specs.Forms.{form_of};
-ghost use Rattle.sym_values.specs.Reading.{OutcomeReads};
-ghost use Rattle.sym_values.specs.Results.{IsOutcomeIn};
-ghost use Rattle.sym_values.specs.Rooms.{room_of};
+ghost use Rattle.sym_values.specs.Forms.{form_for};
+ghost use Rattle.sym_values.specs.Printed.{DoneReads, IsDoneIn};
 ghost use Rattle.test_picker.specs.Comparing.{TellsFailure};
 
 use crate::NoMemory;
 use bit_words::logic::Logic;
-use sym_values::SymOutcome;
-use sym_values::equality::equal_bit;
+use mpy_tree::Limits;
+use std::alloc::Global;
+use sym_values::SymDone;
+use sym_values::alike::ends_alike;
 
-/// Whether an outcome is a value that another outcome, of its form, isn't.
+/// Whether a run ends without a fault, and another, whose end has its form, doesn't end so.
 pub(crate) fn fails<L: Logic>(
+    alloc: Global,
     g: &mut L,
-    wanted: &SymOutcome<L::Bit>,
-    given: &SymOutcome<L::Bit>,
+    limits: &Limits,
+    wanted: &SymDone<L::Bit>,
+    given: &SymDone<L::Bit>,
 ) -> Result<L::Bit, NoMemory>
-    requires short { room_of wanted.now.value ≤ 16 }
-    requires wanted { IsOutcomeIn L.owns g.old (form_of wanted.now.value) wanted.now }
-    requires given { IsOutcomeIn L.owns g.old (form_of wanted.now.value) given.now }
+    requires formed { (t : Option AnyType)
+        × IsDoneIn L.owns g.old limits.now (option_map (form_for limits.now) t) wanted.now
+        × IsDoneIn L.owns g.old limits.now (option_map (form_for limits.now) t) given.now }
     ensures extends { Extends L.owns L.reads L.count g.old g.new }
     ensures owned { IfOk result (λ r. L.owns g.new r) }
-    ensures value { IfOk result (λ r. (vs : List Bool) (x y : AnyResult Value Halted)
-        → OutcomeReads (L.reads g.old vs) wanted.now x
-        → OutcomeReads (L.reads g.old vs) given.now y
+    ensures value { IfOk result (λ r. (vs : List Bool) (x y : AnyResult Done Halted)
+        → DoneReads limits.now (L.reads g.old vs) wanted.now x
+        → DoneReads limits.now (L.reads g.old vs) given.now y
         → TellsFailure (L.reads g.new vs r) (outcome_of x) (outcome_of y)) }
 {
-    let equal = equal_bit(g, &wanted.value, &given.value)?;
+    let equal = ends_alike(alloc, g, limits, wanted, given)?;
     let ends = g.not(wanted.fault);
     let given_ends = g.not(given.fault);
     let alike = g.and(given_ends, equal)?;

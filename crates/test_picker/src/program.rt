@@ -3,7 +3,8 @@ ghost use Rattle.std.specs.Prelude.{◌≡◌, Bool, List, map, IfOk};
 ghost use Rattle.mpy_tree.specs.declared.value.Value.{Value};
 ghost use Rattle.mpy_tree.specs.Running.{evaluated};
 ghost use Rattle.bit_words.specs.Logic.{Extends};
-ghost use Rattle.sym_values.specs.Reading.{OutcomeReads, read, sure};
+ghost use Rattle.sym_values.specs.Printed.{DoneReads};
+ghost use Rattle.sym_values.specs.Reading.{read, sure};
 ghost use Rattle.task_bits.specs.Tasks.{AreArgumentsOf};
 ghost use Rattle.test_picker.specs.LaneInputs.{IsEndIn};
 ghost use Rattle.test_picker.specs.Programs.{IsTypedFor, program_of};
@@ -17,7 +18,7 @@ use choice_tree::WProg;
 use std::alloc::Global;
 use sym_expr::Picks;
 use sym_stmt::sym_run;
-use sym_values::{SymOutcome, SymValue};
+use sym_values::{SymDone, SymValue};
 use tree_weights::lift;
 
 /// A typed program, and its weighted tree, which has no picks.
@@ -37,15 +38,15 @@ impl Program<'_> {
         Ok(Program { typed, tree })
     }
 
-    /// The outcome on arguments: under all truth values it reads as what the program gives on their
-    /// values.
+    /// How the program ends on arguments: under all truth values it reads as the end of its run on
+    /// their values.
     pub(crate) fn run<L: Logic>(
         &self,
         alloc: Global,
         g: &mut L,
         bounds: &Bounds,
         args: &Vec<SymValue<L::Bit>>,
-    ) -> Result<SymOutcome<L::Bit>, NoMemory>
+    ) -> Result<SymDone<L::Bit>, NoMemory>
         requires whole { IsWhole self.now }
         requires typed { IsTypedFor bounds.now self.now.typed.now }
         requires args { AreArgumentsOf L.owns g.old bounds.now args.now.items }
@@ -53,11 +54,11 @@ impl Program<'_> {
         ensures made { IfOk result (λ r. IsEndIn L.owns g.new bounds.now self.now.typed.now r) }
         ensures value { IfOk result (λ r. (vs : List Bool) (x : List Value)
             → map (read (L.reads g.old vs)) args.now.items ≡ map sure x
-            → OutcomeReads (L.reads g.new vs) r (evaluated bounds.now.limits
+            → DoneReads bounds.now.limits (L.reads g.new vs) r (evaluated bounds.now.limits
             (program_of self.now.typed.now) bounds.now.entry x)) }
     {
         let picks = Picks::new(alloc);
-        let outcome = sym_run(
+        let done = sym_run(
             alloc,
             g,
             &self.tree,
@@ -67,6 +68,6 @@ impl Program<'_> {
             &picks,
             args,
         )?;
-        Ok(outcome)
+        Ok(done)
     }
 }

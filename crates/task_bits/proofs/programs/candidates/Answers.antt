@@ -24,10 +24,7 @@ pub returns-clause-made : goal.returns-clause-made
 returns-clause-made g c =
     let k = task_with c.args.task.now in
     let w = c.tree-tree.result.now in
-    let typed = rw (sym c.requires.args.typed) at (candidates_typed c.args.task.now w
-    c.is_sound.ensures c.tree-tree.ensures) in
     let made = rw (c.submission_types-types.ensures, c.bounds-bounds.ensures) at
-    c.in_ok-outcome.ensures.made in
-    end_of k k.submission_types k.submission w c.args.args.now.items c.in_ok-outcome.outcome
-    (sym c.is_sound.ensures.results)
-    (sym (base_is (setting k) k.submission) ∙ ap base_of (sym c.tree-tree.ensures)) typed made
+    c.in_ok-done.ensures.made in
+    end_of k k.submission_types k.submission w c.in_ok-done.done (sym c.is_sound.ensures.results)
+    (sym (base_is (setting k) k.submission) ∙ ap base_of (sym c.tree-tree.ensures)) made

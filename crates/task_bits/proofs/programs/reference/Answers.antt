@@ -8,7 +8,7 @@ use Rattle.choice_tree.specs.WeightedTrees.{base_of}
 use Rattle.choice_tree.proofs.EditLaws.{no_choice}
 use Rattle.choice_tree.proofs.Giving.{base_lifted}
 use Rattle.input_space.specs.TaskParts.{task_with}
-use Rattle.sym_values.specs.Reading.{OutcomeReads}
+use Rattle.sym_values.specs.Printed.{DoneReads}
 use Rattle.sym_nodes.specs.Environments.{HasPicks}
 use Rattle.task_bits.proofs.HavePicks.{lifted_has, none_read}
 use Rattle.task_bits.proofs.Typed.{end_of, reference_typed}
@@ -30,13 +30,10 @@ pub returns-clause-made : goal.returns-clause-made
 returns-clause-made g c =
     let k = task_with c.args.task.now in
     let is = rw c.reference.ensures at c.in_ok-tree.ensures in
-    let typed = rw (sym c.requires.args.typed) at (reference_typed k c.in_ok-tree.tree
-    c.is_sound.ensures is) in
     let made = rw (c.reference_types-types.ensures, c.bounds-bounds.ensures) at
-    c.in_ok-outcome.ensures.made in
-    end_of k k.reference_types k.reference c.in_ok-tree.tree c.args.args.now.items
-    c.in_ok-outcome.outcome refl
-    (sym (base_lifted (program_shape k.reference)) ∙ ap base_of (sym is)) typed made
+    c.in_ok-done.ensures.made in
+    end_of k k.reference_types k.reference c.in_ok-tree.tree c.in_ok-done.done refl
+    (sym (base_lifted (program_shape k.reference)) ∙ ap base_of (sym is)) made
 
 pub returns-clause-value : goal.returns-clause-value
 returns-clause-value g c vs values read =
@@ -46,7 +43,7 @@ returns-clause-value g c vs values read =
     ∙ sym (no_choice (weighted_prog c.in_ok-tree.tree)) in
     let none = none_read c.new-picks.result (g.L.Logic.reads c.args.g.now vs) (λ p. 0)
     c.new-picks.ensures in
-    subst (λ (b : Bounds). OutcomeReads (g.L.Logic.reads c.sym_run.new.g vs)
-    c.in_ok-outcome.outcome (evaluated b.limits k.reference b.entry values))
+    subst (λ (b : Bounds). DoneReads b.limits (g.L.Logic.reads c.sym_run.new.g vs)
+    c.in_ok-done.done (evaluated b.limits k.reference b.entry values))
     c.bounds-bounds.ensures
-    (c.in_ok-outcome.ensures.value vs (λ p. 0) values k.reference none read chosen)
+    (c.in_ok-done.ensures.value vs (λ p. 0) values k.reference none read chosen)

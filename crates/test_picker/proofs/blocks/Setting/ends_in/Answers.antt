@@ -4,10 +4,10 @@ use Rattle.std.specs.Prelude.{MatchOption, slice_get, false}
 use Rattle.std.proofs.lemmas.Option.{slice_get_within}
 use Rattle.mpy_tree.specs.declared.value.Value.{Value}
 use Rattle.mpy_tree.specs.Running.{evaluated}
-use Rattle.bit_lanes.specs.Lane.{lane_bit, truths_of_lane}
+use Rattle.bit_lanes.specs.Lane.{lane_bit, reads_table, truths_of_lane}
 use Rattle.test_picker.specs.LaneInputs.{IsFirstLane}
 use Rattle.test_picker.specs.Programs.{program_of}
-use Rattle.test_picker.proofs.Comparisons.{done_reads}
+use Rattle.task_bits.proofs.Endings.{done_reads}
 use Rattle.test_picker.proofs.LaneFacts.{ends_if, in_lane}
 use Rattle.test_picker.proofs.blocks.Setting.ends_in.Goals as goal
 
@@ -22,7 +22,8 @@ returns c xs block =
     let tells = λ (lane : ℕ) (x : List Value) (at : slice_get xs lane ≡ Some x).
     sym (in_lane c.lanes_are_numbers.ensures table lane (below lane x at))
     ∙ c.not-ended.ensures.value (truths_of_lane lane)
-    ∙ done_reads _ _ (evaluated b.limits r b.entry x) (block.ends lane x at) in
+    ∙ done_reads b.limits (reads_table (truths_of_lane lane)) c.args.block.now.wanted
+    (evaluated b.limits r b.entry x) (block.ends lane x at) in
     let first = subst (λ n. MatchOption c.first_lane.result
     ((lane : ℕ) → lane < n → lane_bit table lane ≡ false) (IsFirstLane table n)) block.many
     c.first_lane.ensures in

@@ -1,48 +1,30 @@
 -- the program and the reference compared in each lane
-use Rattle.std.proofs.Common.{◌≡◌, ◌∙◌, ◌<◌, ℕ, List, Some, ap, arith, length, refl, subst, sym}
+use Rattle.std.proofs.Common.{◌≡◌, ◌<◌, ℕ, List, Option, Some, arith, length, option_map, subst}
 use Rattle.std.specs.Prelude.{MatchOption, slice_get, false}
 use Rattle.std.proofs.lemmas.Option.{slice_get_within}
+use Rattle.mpy_tree.specs.declared.typing.Ty.{Ty}
 use Rattle.mpy_tree.specs.declared.value.Value.{Value}
 use Rattle.mpy_tree.specs.Running.{evaluated}
 use Rattle.bit_lanes.specs.Lane.{lane_bit, truths_of_lane}
 use Rattle.input_space.specs.Agreement.{ends_on}
 use Rattle.sym_values.specs.Forms.{form_for}
-use Rattle.sym_values.specs.Rooms.{short_room}
+use Rattle.sym_values.specs.Printed.{IsDoneIn}
 use Rattle.test_picker.specs.Comparing.{TellsFailure}
-use Rattle.test_picker.specs.LaneInputs.{IsFirstLane}
+use Rattle.test_picker.specs.LaneInputs.{Belongs, IsFirstLane}
 use Rattle.test_picker.specs.Programs.{gives_type, program_of}
-use Rattle.test_picker.proofs.BlockLaws.{same_type}
 use Rattle.test_picker.proofs.LaneFacts.{failure_in, in_lane}
 use Rattle.test_picker.proofs.blocks.Setting.first_failure.Goals as goal
 
 pub run-requires-clause-args : goal.run-requires-clause-args
 run-requires-clause-args c = c.requires.block.args c.new-lanes.result
 
-pub fails-requires-clause-short : goal.fails-requires-clause-short
-fails-requires-clause-short c =
-    let wanted = c.requires.block.formed c.new-lanes.result in
-    short_room c.args.self.now.bounds.now.limits wanted.type c.args.block.now.wanted.value
-    wanted.formed.form
-
-pub fails-requires-clause-wanted : goal.fails-requires-clause-wanted
-fails-requires-clause-wanted c =
-    let wanted = c.requires.block.formed c.run.new.g in
-    record { owned = wanted.formed.owned; owned_fault = wanted.formed.owned_fault; form = refl }
-
-pub fails-requires-clause-given : goal.fails-requires-clause-given
-fails-requires-clause-given c =
+pub fails-requires : goal.fails-requires
+fails-requires c =
     let b = c.args.self.now.bounds.now in
-    let wanted = c.requires.block.formed c.run.new.g in
-    let given = c.in_ok-given.ensures.made in
-    let types : given.type ≡ wanted.type = same_type
-    (gives_type b c.args.self.now.reference.now.typed.now)
-    (gives_type b c.args.program.now.typed.now) given.type wanted.type c.requires.one_type
-    wanted.given given.given in
-    record {
-      owned = given.formed.owned;
-      owned_fault = given.formed.owned_fault;
-      form = given.formed.form ∙ ap (form_for b.limits) types ∙ sym wanted.formed.form;
-    }
+    let r = c.args.self.now.reference.now.typed.now in
+    let given = subst (λ (t : Option Ty). IsDoneIn Belongs c.run.new.g b.limits (option_map (form_for b.limits) t) c.in_ok-given.given)
+    c.requires.one_type c.in_ok-given.ensures.made in
+    record { formed = (gives_type b r, c.requires.block.formed c.run.new.g, given) }
 
 pub returns : goal.returns
 returns c xs block =

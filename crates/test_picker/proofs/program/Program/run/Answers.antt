@@ -26,11 +26,9 @@ sym_run-requires-clause-many g c =
 pub returns-clause-made : goal.returns-clause-made
 returns-clause-made g c =
     let self = c.args.self.now in
-    let typed = rw (sym c.requires.args.typed) at (program_typed c.args.bounds.now self.typed.now
-    self.tree c.requires.typed c.requires.whole) in
-    end_in c.args.bounds.now self.typed.now self.tree c.args.args.now.items c.in_ok-outcome.outcome
+    end_in c.args.bounds.now self.typed.now self.tree c.in_ok-done.done
     (sym (base_lifted (program_shape (program_of self.typed.now))) ∙ ap base_of (sym c.requires.whole))
-    typed c.in_ok-outcome.ensures.made
+    c.in_ok-done.ensures.made
 
 pub returns-clause-value : goal.returns-clause-value
 returns-clause-value g c vs values read =
@@ -40,4 +38,4 @@ returns-clause-value g c vs values read =
     ∙ sym (no_choice (weighted_prog self.tree)) in
     let none = none_read c.new-picks.result (g.L.Logic.reads c.args.g.now vs) (λ i. 0)
     c.new-picks.ensures in
-    c.in_ok-outcome.ensures.value vs (λ i. 0) values p none read chosen
+    c.in_ok-done.ensures.value vs (λ i. 0) values p none read chosen
