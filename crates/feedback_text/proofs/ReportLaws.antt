@@ -55,10 +55,10 @@ regroup a b c d = simp append_assoc
 pub corrected_report : (k : Task) (a : code.Answer) (s : List Choice) (n : ℕ) (fails : code_failure.Failure) (lines text : List ℕ)
     → a ≡ code.TheVariants.Corrected s n fails
     → ShowsCorrection k s lines
-    → text ≡ codes "cost " ++ decimal n ++ codes "\n" ++ fails_text k.bounds.entry (failure_of fails) ++ lines → IsReportOf k a text
+    → text ≡ codes "cost " ++ decimal n ++ codes "\n" ++ fails_text k.bounds (failure_of fails) ++ lines → IsReportOf k a text
 corrected_report k a s n fails lines text is shows all =
     let b = Corrected n (failure_of fails) shows.edits shows.program in
-    let front = codes "cost " ++ decimal n ++ codes "\n" ++ fails_text k.bounds.entry (failure_of fails) in
+    let front = codes "cost " ++ decimal n ++ codes "\n" ++ fails_text k.bounds (failure_of fails) in
     record {
       answer = b;
       stands = subst (λ (x : code.Answer). StandsFor k x b) (sym is) (refl, refl, shows.makes);
@@ -69,7 +69,7 @@ corrected_report k a s n fails lines text is shows all =
 
 pub failing_report : (k : Task) (a : code.Answer) (fails : code_failure.Failure) (text : List ℕ)
     → a ≡ code.TheVariants.NoCorrection fails
-    → text ≡ codes "no correction\n" ++ fails_text k.bounds.entry (failure_of fails) → IsReportOf k a text
+    → text ≡ codes "no correction\n" ++ fails_text k.bounds (failure_of fails) → IsReportOf k a text
 failing_report k a fails text is all =
     let b = NoCorrection (failure_of fails) in
     record {

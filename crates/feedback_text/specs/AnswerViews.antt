@@ -6,7 +6,6 @@ use Rattle.choice_tree.specs.declared.selection.Choice.{Choice}
 use Rattle.choice_tree.specs.Choices.{member_of}
 use Rattle.choice_tree.specs.Selections.{Fits, edits, plain}
 use Rattle.choice_tree.specs.WeightedTrees.{Weighted}
-use Rattle.mpy_tree.specs.declared.outcome.Outcome.TheVariants as outcome
 use Rattle.input_space.specs.Agreement.{Failure}
 use Rattle.input_space.specs.Tasks.{Task, tree_of}
 use Rattle.feedback_text.specs.Answers.{Answer, Correct, Corrected, NoCorrection, EmptyReference}
@@ -18,7 +17,7 @@ abbrev pub failure_of : code_failure.Failure → Failure
 failure_of f = record {
   input = f.case.values;
   gives = f.gives;
-  wanted = outcome.Value f.wanted;
+  wanted = f.wanted;
 }
 
 -- the program and the edits of a selection
@@ -40,8 +39,8 @@ StandsFor k code.TheVariants.EmptyReference a = a ≡ EmptyReference
 StandsFor k (code.TheVariants.Spent at_least budget) a = a ≡ Spent at_least budget
 StandsFor k code.TheVariants.NoMemory a = ⊥
 
--- What a report is written of: a selection fits the tree. Of a reference without values there is
--- none.
+-- What a report is written of: a selection fits the tree. Of a reference that faults on all inputs
+-- there is none.
 abbrev pub IsReported : Task → code.Answer → Type 0
 IsReported k code.TheVariants.Correct = Unit {0}
 IsReported k (code.TheVariants.Corrected s n fails) = Fits (tree_of k) s

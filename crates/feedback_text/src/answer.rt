@@ -2,14 +2,15 @@
 
 use choice_tree::Selection;
 use input_space::Case;
-use mpy_tree::{Outcome, Value};
+use mpy_tree::Outcome;
 
-/// An input on which the submission doesn't give the value of the reference.
+/// An input on which the submission doesn't end as the reference does, which ends there without a
+/// fault.
 #[derive(Drop)]
 pub struct Failure {
     pub case: Case,
     pub gives: Outcome,
-    pub wanted: Value,
+    pub wanted: Outcome,
 }
 
 /// The answer to a task.
@@ -27,7 +28,7 @@ pub enum Answer {
     NoCorrection {
         fails: Failure,
     },
-    /// The reference gives no value on any input.
+    /// The reference ends by a fault on each input.
     EmptyReference,
     /// As many clauses were logged as the budget allows; no rewriting of a cost below `at_least`
     /// agrees.

@@ -57,13 +57,13 @@ pub fn report(alloc: Global, t: &Task, a: &Answer) -> Result<Vec<u8>, NoMemory>
             let mut text = b"cost ".to_vec(alloc)?;
             push_number(alloc, &mut text, *cost)?;
             text.extend_from_slice(b"\n")?;
-            text.extend_from_slice(fails_line(alloc, &t.bounds().entry, fails)?.as_slice())?;
+            text.extend_from_slice(fails_line(alloc, t.bounds(), fails)?.as_slice())?;
             text.extend_from_slice(correction_lines(alloc, t, selection)?.as_slice())?;
             Ok(text)
         }
         Answer::NoCorrection { fails } => {
             let mut text = b"no correction\n".to_vec(alloc)?;
-            text.extend_from_slice(fails_line(alloc, &t.bounds().entry, fails)?.as_slice())?;
+            text.extend_from_slice(fails_line(alloc, t.bounds(), fails)?.as_slice())?;
             Ok(text)
         }
         Answer::Spent { at_least, budget } => {

@@ -1,7 +1,9 @@
 -- The bytes of the usage, of runs, of samples and of refusals of values. Each line ends with
 -- byte 10.
 use Rattle.std.specs.Prelude.{ℕ, List, [], ◌++◌, Option, None, Some, codes, length}
+use Rattle.std.specs.List.{flat_map}
 use Rattle.std.specs.Fmt.{decimal}
+use Rattle.mpy_tree.specs.declared.value.Value.{Value}
 use Rattle.mpy_tree.specs.declared.outcome.Outcome.{Outcome}
 use Rattle.mpy_tree.specs.declared.outcome.Outcome.TheVariants as outcome
 use Rattle.mpy_tree.specs.declared.refusal.Cause.{Cause}
@@ -12,6 +14,7 @@ use Rattle.mpy_limits.specs.Limits.{all_statements}
 use Rattle.input_space.specs.Tasks.{Task}
 use Rattle.feedback_text.specs.Answers.{Answer, Correct, Corrected, NoCorrection, EmptyReference}
 use Rattle.feedback_text.specs.Answers.{Spent}
+use Rattle.feedback_text.specs.Reports.{maybe_text}
 use Rattle.grade_core.specs.Commands.{answer_text}
 
 abbrev pub usage_text : List ℕ
@@ -25,9 +28,14 @@ usage_text =
     ++ codes "       mpygrade sat CNF LOG BUDGET\n"
     ++ codes "       mpygrade unsat CNF LOG\n"
 
--- how a run ended
+-- the line of a value that was printed
+abbrev pub printed_line : Value → List ℕ
+printed_line v = codes "printed " ++ value_text v ++ codes "\n"
+
+-- how a run ended: the value or `None`, and then the printed values that were kept, one a line
 abbrev pub run_text : Outcome → List ℕ
-run_text (outcome.Value v) = codes "value " ++ value_text v ++ codes "\n"
+run_text (outcome.Done v vs) =
+    codes "value " ++ maybe_text v ++ codes "\n" ++ flat_map printed_line vs
 run_text (outcome.Fault kind line) =
     codes "fault " ++ fault_text kind ++ codes " line " ++ decimal line ++ codes "\n"
 
