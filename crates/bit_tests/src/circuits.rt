@@ -10,7 +10,7 @@ use choice_tree::Selection;
 use input_space::{Case, Task};
 use mpy_tree::{Limits, Outcome};
 use std::alloc::Global;
-use sym_values::{SymOutcome, SymValue};
+use sym_values::{SymDone, SymValue};
 use task_bits::{candidates, reference};
 use test_bits::{Truths, arguments, picks_of};
 
@@ -22,14 +22,14 @@ pub(crate) enum Program<'a> {
     Rewriting(Option<&'a Selection>),
 }
 
-/// The outcome of one of them.
+/// How one of them ends.
 fn outcome<V: Variables>(
     alloc: Global,
     g: &mut V,
     task: &Task,
     program: Program<'_>,
     args: &Vec<SymValue<V::Bit>>,
-) -> Result<SymOutcome<V::Bit>, NoMemory>
+) -> Result<SymDone<V::Bit>, NoMemory>
     requires { AreArgumentsOf V.owns g.old task.now.bounds args.now.items }
 {
     match program {
@@ -45,11 +45,11 @@ fn outcome<V: Variables>(
     }
 }
 
-/// An outcome over a graph, whose first variables are those of the arguments and of the picks.
+/// An end over a graph, whose first variables are those of the arguments and of the picks.
 #[derive(Drop)]
 pub(crate) struct Circuit {
     graph: Graph,
-    outcome: SymOutcome<GraphBit>,
+    outcome: SymDone<GraphBit>,
 }
 
 impl Circuit {
@@ -75,6 +75,6 @@ impl Circuit {
         end: &Outcome,
     ) -> Result<bool, NoMemory> {
         let truths = Truths::under(alloc, &self.graph, variables)?;
-        truths.read(alloc, &self.graph, limits, &self.outcome, end)
+        truths.read_done(alloc, &self.graph, limits, &self.outcome, end)
     }
 }

@@ -3,7 +3,7 @@
 use crate::circuits::{Circuit, Program};
 use bit_words::NoMemory;
 use input_space::{Case, Task, read_case};
-use mpy_tree::{FaultKind, Outcome};
+use mpy_tree::{FaultKind, Outcome, Values};
 use std::alloc::Global;
 use std::test::Fail;
 use test_bits::{Texts, bytes_of, task_of, truths_of_case};
@@ -74,7 +74,10 @@ fn outcome_of(alloc: Global, end: End) -> Result<Outcome, Fail> {
         End::Value(text) => {
             let mut values = read_case(alloc, bytes_of(text))?.values.into_vec();
             let value = values.pop().ok_or("no value")?;
-            Ok(Outcome::Value(value))
+            Ok(Outcome::Done {
+                value: Some(value),
+                printed: Values::from_vec(Vec::new(alloc)),
+            })
         }
     }
 }

@@ -13,6 +13,8 @@ mod host;
 #[cfg(test)]
 mod layout;
 #[cfg(test)]
+mod printed;
+#[cfg(test)]
 mod prints;
 #[cfg(test)]
 mod refusals;

@@ -14,6 +14,15 @@ const LIMITS: Limits = Limits {
     prints: 0,
 };
 
+/// The same, where two printed values are kept.
+const KEEPS_TWO: Limits = Limits {
+    width: 6,
+    turns: 4,
+    depth: 2,
+    cap: 4,
+    prints: 2,
+};
+
 /// Expressions, each with what it gives where `x` is 3, `v` is `[1, 2]`, and `g` gives one more
 /// than its argument.
 const EXPRESSIONS: [(&str, &str); 64] = [
@@ -117,6 +126,34 @@ const BODIES: [(&str, &str); 15] = [
     ("print(h(x))\n    return x", "Depth 7"),
 ];
 
+/// Bodies of statements, each with how it ends where two printed values are kept.
+const KEEPING: [(&str, &str); 15] = [
+    ("pass", "None printing nothing"),
+    ("return", "None printing nothing"),
+    ("return x", "3 printing nothing"),
+    ("print(x)\n    print(x + 1)", "None printing 3, 4"),
+    (
+        "print(x)\n    print(x + 1)\n    return v",
+        "[1, 2] printing 3, 4",
+    ),
+    (
+        "print(v)\n    v[0] = 7\n    print(v)",
+        "None printing [1, 2], [7, 2]",
+    ),
+    ("print('ab')\n    print(x == 3)", "None printing 'ab', True"),
+    ("print(x)\n    print(x)\n    print(x)", "Length 4"),
+    ("print(x)\n    print(x)\n    print(1 // 0)", "Divisor 4"),
+    ("print(x)\n    print(x)\n    return 1 // 0", "Divisor 4"),
+    (
+        "for i in v:\n        print(i)\n        if i == 1:\n            continue\n        return",
+        "None printing 1, 2",
+    ),
+    ("while x:\n        x -= 1\n        print(x)", "Length 4"),
+    ("print(p(x))\n    return p(x)", "3 printing 3"),
+    ("print(n(x))", "NoValue 7"),
+    ("print(x)\n    return f(0, v) if x else 5", "5 printing 3"),
+];
+
 fn name(alloc: Global, text: &str) -> Result<Name, Fail> {
     Ok(Name::from_vec(Vec::from_slice(alloc, text.as_bytes())?))
 }
@@ -129,31 +166,50 @@ fn calling(alloc: Global, body: &str) -> Result<Prog, Fail> {
     program(alloc, text.as_str())
 }
 
-/// What `f` gives on 3 and `[1, 2]`.
-fn outcome(alloc: Global, program: &Prog) -> Result<Outcome, Fail> {
+/// How `f` ends on 3 and `[1, 2]` within these limits.
+fn outcome(alloc: Global, program: &Prog, limits: &Limits) -> Result<Outcome, Fail> {
     let types = Types {
         facts: Facts::from_vec(Vec::new(alloc)),
     };
     let list = Ints::from_vec(Vec::from_slice(alloc, &[1, 2])?);
     let args = Values::from_vec(vec![in alloc; Value::Int(3), Value::List(list)]?);
-    Ok(run(alloc, program, &types, &LIMITS, &name(alloc, "f")?, &args)?)
+    Ok(run(alloc, program, &types, limits, &name(alloc, "f")?, &args)?)
 }
 
-/// The value as Python writes it, or the fault with its line.
-fn shown(alloc: Global, outcome: &Outcome) -> Result<String, Fail> {
-    Ok(match outcome {
-        Outcome::Value(Value::Int(number)) => format!(in alloc; "{number}")?,
-        Outcome::Value(Value::Bool(true)) => format!(in alloc; "True")?,
-        Outcome::Value(Value::Bool(false)) => format!(in alloc; "False")?,
-        Outcome::Value(Value::List(list)) => format!(in alloc; "{:?}", list.items())?,
-        Outcome::Value(Value::Text(text)) => {
-            match String::from_utf8(Vec::from_slice(alloc, text.bytes())?) {
-                Ok(text) => format!(in alloc; "'{text}'")?,
-                Err(_) => Err("no text")?,
-            }
-        }
-        Outcome::Fault { kind, line } => format!(in alloc; "{kind:?} {line}")?,
+/// A value as Python writes it.
+fn shown_value(alloc: Global, value: &Value) -> Result<String, Fail> {
+    Ok(match value {
+        Value::Int(number) => format!(in alloc; "{number}")?,
+        Value::Bool(true) => format!(in alloc; "True")?,
+        Value::Bool(false) => format!(in alloc; "False")?,
+        Value::List(list) => format!(in alloc; "{:?}", list.items())?,
+        Value::Text(text) => match String::from_utf8(Vec::from_slice(alloc, text.bytes())?) {
+            Ok(text) => format!(in alloc; "'{text}'")?,
+            Err(_) => Err("no text")?,
+        },
     })
+}
+
+/// The value, or the fault with its line. Where printed values are kept they stand behind the
+/// value.
+fn shown(alloc: Global, outcome: &Outcome, kept: bool) -> Result<String, Fail> {
+    let (value, printed) = match outcome {
+        Outcome::Fault { kind, line } => return Ok(format!(in alloc; "{kind:?} {line}")?),
+        Outcome::Done { value, printed } => (value, printed),
+    };
+    let mut text = match value {
+        None => format!(in alloc; "None")?,
+        Some(value) => shown_value(alloc, value)?,
+    };
+    if kept && printed.items().is_empty() {
+        text = format!(in alloc; "{text} printing nothing")?;
+    }
+    for (i, value) in printed.items().iter().enumerate() {
+        let joint = if i == 0 { " printing" } else { "," };
+        let value = shown_value(alloc, value)?;
+        text = format!(in alloc; "{text}{joint} {value}")?;
+    }
+    Ok(text)
 }
 
 #[test]
@@ -161,8 +217,8 @@ fn expressions_give_their_values(rt: HostRuntime) -> Result<(), Fail> {
     let alloc = rt.alloc();
     for (text, wanted) in &EXPRESSIONS {
         let body = format!(in alloc; "return {text}")?;
-        let given = outcome(alloc, &calling(alloc, body.as_str())?)?;
-        assert_eq!(rt; shown(alloc, &given)?.as_str(), *wanted, "of {text}");
+        let given = outcome(alloc, &calling(alloc, body.as_str())?, &LIMITS)?;
+        assert_eq!(rt; shown(alloc, &given, false)?.as_str(), *wanted, "of {text}");
     }
     Ok(())
 }
@@ -171,8 +227,21 @@ fn expressions_give_their_values(rt: HostRuntime) -> Result<(), Fail> {
 fn statements_run_in_order(rt: HostRuntime) -> Result<(), Fail> {
     let alloc = rt.alloc();
     for (body, wanted) in &BODIES {
-        let given = outcome(alloc, &calling(alloc, *body)?)?;
-        assert_eq!(rt; shown(alloc, &given)?.as_str(), *wanted, "of {body}");
+        let given = outcome(alloc, &calling(alloc, *body)?, &LIMITS)?;
+        assert_eq!(rt; shown(alloc, &given, false)?.as_str(), *wanted, "of {body}");
+    }
+    Ok(())
+}
+
+#[test]
+fn printed_values_are_kept(rt: HostRuntime) -> Result<(), Fail> {
+    let alloc = rt.alloc();
+    for (body, wanted) in &KEEPING {
+        let text = format!(in alloc;
+            "def f(x, v):\n    {body}\ndef p(x):\n    print(x)\n    return x\ndef n(x):\n    return\n"
+        )?;
+        let given = outcome(alloc, &program(alloc, text.as_str())?, &KEEPS_TWO)?;
+        assert_eq!(rt; shown(alloc, &given, true)?.as_str(), *wanted, "of {body}");
     }
     Ok(())
 }

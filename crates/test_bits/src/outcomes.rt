@@ -6,7 +6,8 @@ use bit_words::NoMemory;
 use mpy_tree::{Limits, Outcome, Value};
 use std::alloc::Global;
 use sym_values::constant::constant_value;
-use sym_values::{SymOutcome, SymValue};
+use sym_values::printed::{kind_of, print_width, value_within};
+use sym_values::{PrintSlot, SymDone, SymOutcome, SymValue};
 
 /// The truth values of a graph's variables, and those of its gates that follow.
 #[derive(Drop)]
@@ -71,13 +72,103 @@ impl Truths {
         let fault = self.of(outcome.fault);
         match end {
             Outcome::Fault { .. } => Ok(fault),
-            Outcome::Value(value) => {
-                if fault {
-                    return Ok(false);
-                }
-                self.read_value(alloc, g, limits, &outcome.value, value)
+            Outcome::Done { value, .. } => match value {
+                Some(value) if !fault => self.read_value(alloc, g, limits, &outcome.value, value),
+                _ => Ok(false),
+            },
+        }
+    }
+
+    /// Whether the end of a run as bits reads as that end.
+    pub fn read_done(
+        &self,
+        alloc: Global,
+        g: &Graph,
+        limits: &Limits,
+        done: &SymDone<GraphBit>,
+        end: &Outcome,
+    ) -> Result<bool, NoMemory> {
+        let fault = self.of(done.fault);
+        match end {
+            Outcome::Fault { .. } => Ok(fault),
+            Outcome::Done { value, printed } => {
+                let given = self.read_result(alloc, g, limits, done, value)?;
+                let kept = self.read_printed(alloc, g, limits, done, printed.items())?;
+                Ok(!fault && given && kept)
             }
         }
+    }
+
+    // Whether a run ends with the value, or without one.
+    fn read_result(
+        &self,
+        alloc: Global,
+        g: &Graph,
+        limits: &Limits,
+        done: &SymDone<GraphBit>,
+        value: &Option<Value>,
+    ) -> Result<bool, NoMemory> {
+        let has = self.of(done.has);
+        match (&done.value, value) {
+            (_, None) => Ok(!has),
+            (None, Some(_)) => Ok(false),
+            (Some(shown), Some(value)) => {
+                Ok(has && self.read_value(alloc, g, limits, shown, value)?)
+            }
+        }
+    }
+
+    // Whether these values were printed.
+    fn read_printed(
+        &self,
+        alloc: Global,
+        g: &Graph,
+        limits: &Limits,
+        done: &SymDone<GraphBit>,
+        printed: &[Value],
+    ) -> Result<bool, NoMemory> {
+        if self.number(done.len.as_slice()) as usize != printed.len() {
+            return Ok(false);
+        }
+        for i in 0..printed.len() {
+            if i >= done.slots.len() {
+                return Ok(false);
+            }
+            let slot = done.slots.at(i);
+            if !self.read_slot(alloc, g, limits, slot, &printed[i])? {
+                return Ok(false);
+            }
+        }
+        Ok(true)
+    }
+
+    // Whether a printed value as bits reads as a value.
+    fn read_slot(
+        &self,
+        alloc: Global,
+        g: &Graph,
+        limits: &Limits,
+        slot: &PrintSlot<GraphBit>,
+        value: &Value,
+    ) -> Result<bool, NoMemory> {
+        let bits = slot.bits.as_slice();
+        if bits.len().saturating_add(2) < print_width(limits) {
+            return Ok(false);
+        }
+        let ty = value.ty();
+        let shown = value_within(alloc, limits, ty, bits)?;
+        let is = self.number(slot.kind.as_slice()) == kind_of(ty);
+        Ok(is && self.read_value(alloc, g, limits, &shown, value)?)
+    }
+
+    // The number that bits read as, without a sign.
+    fn number(&self, bits: &[GraphBit]) -> u32 {
+        let mut number = 0u32;
+        for bit in bits.iter().rev() {
+            let last = u32::from(self.of(*bit));
+            number = number.wrapping_mul(2).wrapping_add(last);
+        }
+        number
     }
 
     // Whether two lists of bits have the same truth values.

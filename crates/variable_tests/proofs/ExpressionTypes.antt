@@ -1,5 +1,5 @@
 -- The environment of the tests' expressions, and their types in it.
-use Rattle.std.proofs.Common.{◌≡◌, ◌∙◌, ◌<◌, ℕ, zero, suc, List, [], ◌∷◌, Some, Option, ap}
+use Rattle.std.proofs.Common.{◌≡◌, ◌∙◌, ◌<◌, ℕ, zero, suc, List, [], ◌∷◌, Some, Option, ap, arith}
 use Rattle.std.proofs.Common.{length, map, refl, subst, sym}
 use Rattle.std.specs.Prelude.{slice_get}
 use Rattle.std.proofs.lemmas.List.{length-map}
@@ -51,9 +51,11 @@ pub one_named : {S B : Type 0} {owns : S → B → Type 0} {s : S} (env : Env B)
     → OwnsAll owns s (values_bits env.values) → OwnsAll owns s env.set
     → OwnsAll owns s (joined env.picks) → IsEnvIn owns s env
 one_named env names set forms values marks picks = record {
-  valued = sym (length-map env.values form_of) ∙ ap length forms ∙ sym (ap length names);
-  marked = set ∙ sym (ap length names);
-  forms = λ i v at. form_is env.limits env.values i v forms at;
+  valued =
+      let each = sym (length-map env.values form_of) ∙ ap length forms ∙ sym (ap length names) in
+      omega (arith, each);
+  marked = let each = set ∙ sym (ap length names) in omega (arith, each);
+  forms = λ i v below at. form_is env.limits env.values i v forms at;
   values = values;
   marks = marks;
   picks = picks;

@@ -14,7 +14,7 @@ use bit_words::inputs::fresh_bits;
 use bit_words::logic::Variables;
 use choice_tree::{Other, Others, WExpr};
 use input_bits::fresh_values;
-use mpy_tree::{ArithOp, FaultKind, Limits, Name, Names, Outcome, Ty, Value};
+use mpy_tree::{ArithOp, FaultKind, Limits, Name, Names, Outcome, Ty, Value, Values};
 use std::alloc::Global;
 use std::test::Fail;
 use sym_expr::{sym_expr, sym_node};
@@ -154,14 +154,17 @@ const SUMS: [i32; 16] = [1, 2, 3, 4, 5, 6, 7, FAULT, -7, -6, -5, -4, -3, -2, -1,
 const QUOTIENTS: [i32; 16] = [FAULT, 3, 1, 1, 0, 0, 0, 0, -1, -1, -1, -1, -1, -1, -2, -3];
 
 /// The end that a number stands for.
-fn end_of(number: i32) -> Outcome {
+fn end_of(alloc: Global, number: i32) -> Outcome {
     if number == FAULT {
         Outcome::Fault {
             kind: FaultKind::Divisor,
             line: 1,
         }
     } else {
-        Outcome::Value(Value::Int(number))
+        Outcome::Done {
+            value: Some(Value::Int(number)),
+            printed: Values::from_vec(Vec::new(alloc)),
+        }
     }
 }
 
@@ -176,7 +179,7 @@ fn expressions_read_as_given(rt: HostRuntime) -> Result<(), Fail> {
         let x = number % 16;
         let is_set = number / 16 % 2 == 1;
         let given = if number < 32 { SUMS } else { QUOTIENTS };
-        let end = end_of(if is_set { given[x as usize] } else { FAULT });
+        let end = end_of(alloc, if is_set { given[x as usize] } else { FAULT });
         assert!(rt; outcomes.read(alloc, values, &end)?, "at {number}");
     }
     Ok(())
