@@ -1,0 +1,4 @@
+def countdown(n):
+    while n > 0:
+        print(n)
+        n = n - 1

@@ -1,0 +1,6 @@
+def countdown(n):
+    i = n
+    while i > 0:
+        print(n)
+        i -= 1
+    print(0)

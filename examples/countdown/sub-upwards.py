@@ -1,0 +1,3 @@
+def countdown(n):
+    for i in range(n + 1):
+        print(i)
