@@ -3,16 +3,16 @@
 
     MODEL=PATH tests/compare.py KIND SEED COUNT [--program PROGRAM] [--try] [--first NUMBER] [--stage STAGE]
 
-KIND is `run` for random programs of every form on random inputs, `grade` for random pairs of such programs, `rules` for
-such pairs with rules by which the submission may be mended, `formulas` for formulas that are corrected by rules, and
-for words and files with something wrong, `all` for such requests with every cheapest correction listed, or `picks` for inputs
-on which wrong programs fail. MODEL is the path of
-the model's command line; its modules lie beside it. Each request is made from the kind, the seed and its own number, so
-`--first NUMBER` with COUNT 1 repeats one. The model says of each answer whether it is one of those that are allowed,
-since which failing input is shown, and which of several cheapest corrections, is open. Some requests stand at the edge
-of a limit, and are also to be answered as their side is made for. Printed are the counts of the answers and of both
-sides of each limit, and each difference with its files; the exit status is 1 where there is one. With `--try` the
-program isn't a built one: `rt try` runs its sources, which is slow and serves a few requests.
+KIND is `run` for random programs of every form on random inputs, `grade` for random pairs of such programs, `rules`
+for such pairs with rules by which the submission may be mended, `formulas` for formulas that are corrected by rules,
+and for words and files with something wrong, `printed` for runs and gradings with what is printed compared, `all` for
+such requests with every cheapest correction listed, or `picks` for inputs on which wrong programs fail. MODEL is the
+path of the model's command line; its modules lie beside it. Each request is made from the kind, the seed and its own
+number, so `--first NUMBER` with COUNT 1 repeats one. The model says of each answer whether it is one of those that are
+allowed, since which failing input is shown, and which of several cheapest corrections, is open. Some requests stand at
+the edge of a limit, and are also to be answered as their side is made for. Printed are the counts of the answers and
+of both sides of each limit, and each difference with its files; the exit status is 1 where there is one. With `--try`
+the program isn't a built one: `rt try` runs its sources, which is slow and serves a few requests.
 """
 import argparse
 import collections
@@ -27,13 +27,15 @@ import formula_requests
 import list_requests
 import pick_requests
 import plain_lists
+import print_requests
 import program_requests
 import programs
 import rule_requests
 from edge_requests import EdgeRequest
 
 KINDS = {'run': program_requests.a_run, 'grade': program_requests.a_pair, 'formulas': formula_requests.a_request,
-         'rules': rule_requests.a_request, 'all': list_requests.a_request, 'picks': pick_requests.a_request}
+         'rules': rule_requests.a_request, 'printed': print_requests.a_request, 'all': list_requests.a_request,
+         'picks': pick_requests.a_request}
 TOP = os.path.join(os.path.dirname(os.path.realpath(__file__)), '..')
 CRATE = os.path.join(TOP, 'crates/grader_cli')
 BATCH = 100

@@ -22,6 +22,7 @@ TOP = pathlib.Path(__file__).resolve().parent.parent
 sys.path.insert(0, str(TOP / 'tools'))
 from mpyexplain import command, texts                                   # noqa: E402
 from mpyexplain.bounds import read_bounds                               # noqa: E402
+from mpyexplain.kinds import NO_VALUE                                   # noqa: E402
 from mpyexplain.place import Task                                       # noqa: E402
 from mpyexplain.places import find                                      # noqa: E402
 from mpyexplain.source import Source                                    # noqa: E402
@@ -31,6 +32,7 @@ WORDS = ['grade', 'bounds.txt', 'reference.py', 'sub.py', 'rules.eml', 'cert.txt
 FORMS = {'x': 'int 0..3', 'y': 'int 0..3', 'b': 'bool', 'v': 'list 0..2 of 0..2', 'w': 'list 0..2 of 0..2',
          's': "text 0..2 of 'ab'"}
 BOUNDS = 'width 6\nturns 4\ndepth 3\ncap 5\nentry f\n'
+PRINTED = {'printed': '    return 0\n', 'nothing': '    print(0)\n'}       # with printed values compared, by references
 wrong = []
 
 
@@ -40,7 +42,15 @@ def check(holds, *what):
 
 
 def bounds_of(parameters):
-    return (BOUNDS + ''.join('param %s %s\n' % (name, FORMS[name]) for name in parameters)).encode()
+    params = ['param %s %s\n' % (name, FORMS[name]) for name in parameters if name in FORMS]
+    compare = ['compare printed 4\n' for name in parameters if name in PRINTED]
+    return (BOUNDS + ''.join(params + compare)).encode()
+
+
+def reference_of(parameters):
+    """A reference that gives a number, or with `nothing` among the parameters one that prints it."""
+    body = next((PRINTED[name] for name in parameters if name in PRINTED), '    return 0\n')
+    return 'def f(%s):\n%s' % (', '.join(name for name in parameters if name in FORMS), body)
 
 
 # The table
@@ -60,7 +70,8 @@ def trials():
 def check_row(cause, key, parameters, line, mark, text):
     """That the row with the key is told of the text, with the mark; gives what it proposes to write."""
     source = Source(text)
-    place = find(cause, line, Task(source, read_bounds(bounds_of(parameters)), 'a whole number'))
+    wanted = NO_VALUE if 'nothing' in parameters else 'a whole number'
+    place = find(cause, line, Task(source, read_bounds(bounds_of(parameters)), wanted))
     row = next((row for row in texts.TABLE[cause] if row.fits(place)), None)
     shown = source.text[place.start:place.end].strip('\n') if place.start is not None else ''
     check(row and row.key == key, key, 'is told as', row and row.key)
@@ -97,9 +108,8 @@ def check_model(path):
     causes = {row.key: cause for cause, rows in texts.TABLE.items() for row in rows}
     count = 0
     for count, (key, parameters, line, _, text) in enumerate(trials(), 1):
-        reference = 'def f(%s):\n    return 0\n' % ', '.join(parameters)
-        sources = bounds_of(parameters), reference.encode(), text, b''
-        answer = top(WORDS, dict(zip(WORDS[1:5], sources)), 15)[1]
+        sources = bounds_of(parameters), reference_of(parameters).encode(), text, b''
+        answer = top(WORDS, dict(zip(WORDS[1:5], sources)), 16)[1]
         check(answer == 'refused sub.py line %d: %s\n' % (line, causes[key]), key, 'is answered', answer)
     return '%d answers of the model' % count
 
@@ -109,8 +119,8 @@ def check_model(path):
 REFUSED = {
     'balance/sub-float': 'float', 'balance/sub-print': 'print of several', 'balance/sub-slash': 'division',
     'count/sub-documented': 'documentation over lines', 'count/sub-method': 'count',
-    'count/sub-one-equals': '= in a test', 'derivative/sub-documented': 'documentation string',
-    'derivative/sub-floats': 'float', 'derivative/sub-shared': 'second name', 'digits/sub-slash': 'division',
+    'count/sub-one-equals': '= in a test', 'countdown/sub-list': 'value given',
+    'derivative/sub-documented': 'documentation string', 'derivative/sub-floats': 'float', 'derivative/sub-shared': 'second name', 'digits/sub-slash': 'division',
     'digits/sub-text': 'str', 'evaluate/sub-caret': 'sign for a power', 'evaluate/sub-enumerate': 'enumerate',
     'evaluate/sub-none': 'is None', 'every_second/sub-number-added': 'list and number',
     'every_second/sub-stepped': 'step', 'fare/sub-slash': 'division', 'gcd/sub-both-at-once': 'two targets',
@@ -122,7 +132,8 @@ REFUSED = {
     'power/sub-calls': 'too large', 'power/sub-float': 'float', 'power/sub-print': 'print for return',
     'recur_power/sub-documented': 'documentation over lines', 'recur_power/sub-forgotten-return': 'expression',
     'recur_power/sub-other-name': 'unknown function', 'remove/sub-comprehension': 'comprehension',
-    'remove/sub-method': 'pop or remove', 'second/sub-at-once': 'two targets', 'second/sub-sort': 'sort',
+    'remove/sub-method': 'pop or remove', 'running_sums/sub-no-value': 'no value given',
+    'running_sums/sub-words': 'print of several', 'second/sub-at-once': 'two targets', 'second/sub-sort': 'sort',
     'second/sub-sorted': 'sorted', 'square/sub-misspelt': 'other functions', 'vowels/sub-list': 'list of texts',
     'vowels/sub-or-letters': 'or of a value',
 }

@@ -285,6 +285,13 @@ def g(w):
 -- other type | x | 1 | f
 def f(x):
     return x > 0
+-- value given | x nothing | 1 | f
+def f(x):
+    print(0)
+    return x
+-- no value given | x printed | 1 | f
+def f(x):
+    print(x)
 -- too large | x | 1 | f
 def f(x):
     while x > 1:
