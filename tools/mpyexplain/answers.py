@@ -5,8 +5,8 @@ from dataclasses import dataclass
 VALUE = r"""(?:-?[0-9]+|True|False|\[(?:-?[0-9]+(?:, -?[0-9]+)*)?\]|'(?:[^'\\\n]|\\[\\'])*')"""
 FAULT = r'(?:Overflow|Divisor|Index|Unset|Turns|Depth|Length|Power|Step|NoValue)'
 CALL = r'(?P<call>\w+\((?:%s(?:, %s)*)?\))' % (VALUE, VALUE)
-FAILS = r'fails %s: gives (?:fault (?P<fault>%s)|(?P<gives>%s)), wanted (?P<wanted>%s)\n' % (
-    CALL, FAULT, VALUE, VALUE)
+END = r'(?:%s|None)(?: printing (?:nothing|%s(?:, %s)*))?' % (VALUE, VALUE, VALUE)
+FAILS = r'fails %s: gives (?:fault (?P<fault>%s)|(?P<gives>%s)), wanted (?P<wanted>%s)\n' % (CALL, FAULT, END, END)
 EDIT = re.compile(r'line ([0-9]{1,9}) \[(\w+), ([1-9])\]: (.*)\n', re.ASCII)
 EDITS = r'(?P<edits>(?:line [0-9]{1,9} \[\w+, [1-9]\]: .*\n)+)'
 FORMS = [re.compile(form, re.ASCII) for form in (

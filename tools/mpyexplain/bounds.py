@@ -17,6 +17,7 @@ class Bounds:
     limits: dict
     entry: str
     kinds: list             # the types of the parameters
+    prints: int             # how many printed values are compared; 0 where none are
 
     @property
     def range(self):
@@ -32,10 +33,15 @@ def read_bounds(data):
     rows = [row for row in rows if row]
     if [row[0] for row in rows[:5]] != [*LIMITS, 'entry'] or any(len(row) != 2 for row in rows[:5]):
         raise NoBounds()
-    kinds = [row[2] if row[0] == 'param' and len(row) > 2 else '' for row in rows[5:]]
+    compares = [row for row in rows[5:] if row[:2] == ['compare', 'printed'] and len(row) == 3]
+    params = [row for row in rows[5:] if row not in compares]
+    kinds = [row[2] if row[0] == 'param' and len(row) > 2 else '' for row in params]
+    if len(compares) > 1 or not all(re.match('[1-8]\\Z', row[2]) for row in compares):
+        raise NoBounds()
     if not all(NUMBER.match(row[1]) for row in rows[:4]) or not set(kinds) <= set(KINDS):
         raise NoBounds()
     limits = {row[0]: int(row[1]) for row in rows[:4]}
     if limits['width'] not in range(3, 17):
         raise NoBounds()
-    return Bounds(limits, rows[4][1], [KINDS[kind] for kind in kinds])
+    prints = int(compares[0][2]) if compares else 0
+    return Bounds(limits, rows[4][1], [KINDS[kind] for kind in kinds], prints)

@@ -7,7 +7,7 @@ from . import texts
 from .answers import NoAnswer, read_answer
 from .bounds import NoBounds, read_bounds
 from .change import NotAligned, corrected
-from .kinds import RESULT, TEXTS, Kinds
+from .kinds import NO_VALUE, RESULT, TEXTS, Kinds
 from .place import Task
 from .places import find
 from .program import Program
@@ -73,6 +73,8 @@ class Grading:
             facts = Kinds(program, self.bounds()).facts[self.bounds().entry, RESULT]
         except (Unreadable, LookupError):
             return ''
+        if not facts and self.bounds().prints:
+            return NO_VALUE
         return TEXTS[next(iter(facts))] if len(facts) == 1 else ''
 
 
@@ -175,7 +177,7 @@ def of_none(grading, answer):
 
 
 def of_correct(grading, answer):
-    return paragraph(texts.CORRECT)
+    return paragraph(texts.CORRECT_PRINTED if grading.bounds().prints else texts.CORRECT)
 
 
 def of_spent(grading, answer):

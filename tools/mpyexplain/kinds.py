@@ -4,6 +4,7 @@
 """
 from .program import BUILTINS
 
+NO_VALUE = 'no value'
 TEXTS = {'Int': 'a whole number', 'Bool': 'a truth value', 'List': 'a list', 'Text': 'a text'}
 ELEMENTS = {'List': 'Int', 'Text': 'Text'}
 MANY = ('List', 'Text')

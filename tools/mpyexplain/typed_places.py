@@ -1,5 +1,5 @@
 """The places of faults of types, of results and of lists with two names."""
-from .kinds import BY_BOUNDS, RESULT, TEXTS, Kinds
+from .kinds import BY_BOUNDS, NO_VALUE, RESULT, TEXTS, Kinds
 from .place import marked, on_node, on_word
 from .program import ASSIGNS, CHANGES_IN_PLACE, Program
 
@@ -124,9 +124,12 @@ def of_result(task, line):
     facts = Kinds(program, task.bounds).facts
     function = next(function for function in program.functions if function.name == task.bounds.entry)
     given = [TEXTS[kind] for kind in facts[function.name, RESULT]]
+    if not given and task.bounds.prints:
+        given = [NO_VALUE]
     if len(given) != 1 or not task.wanted or given[0] == task.wanted:
         return None
-    return on_word(task.source, 'result', function.item, function.name, given=given[0], wanted=task.wanted)
+    kind = 'no value wanted' if task.wanted == NO_VALUE else 'no value' if given[0] == NO_VALUE else 'result'
+    return on_word(task.source, kind, function.item, function.name, given=given[0], wanted=task.wanted)
 
 
 # Sharing

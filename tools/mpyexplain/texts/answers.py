@@ -42,6 +42,9 @@ NONE = ('None of the corrections that the teacher expected mends it, and no set 
         'how far it is from a right one: a small mistake of another kind gets this answer too.')
 CORRECT = ('Your function is correct: on every input of the assignment for which the teacher\'s function gives a '
            'value, it gives the same. Other inputs were not tried, and how it is written was not judged.')
+CORRECT_PRINTED = ('Your function is correct: on every input of the assignment for which the teacher\'s function ends '
+                   'without a fault, it gives the same and prints the same. Other inputs were not tried, and how it '
+                   'is written was not judged.')
 SPENT = 'The grader gave up after {budget} steps.'
 SPENT_OPEN = 'Nothing is known of your function: it may be right, and it may be wrong.'
 SPENT_WRONG = ('As it stands your function does not give what is wanted on some input, and corrections of a cost '

@@ -159,5 +159,9 @@ TABLE = {
     ],
     'ResultType': [
         Row('other type', 'result', 'It gives {given}, and {wanted} is asked for.', 'Give {wanted} by every return.'),
+        Row('value given', 'no value wanted', 'It gives {given}, and no value is asked for: what it prints counts.',
+            'Print what is asked for, and write return alone or leave it out.'),
+        Row('no value given', 'no value', 'It gives no value, and {wanted} is asked for beside what it prints.',
+            'Give {wanted} by every return.'),
     ],
 }
