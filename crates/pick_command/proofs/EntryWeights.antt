@@ -17,7 +17,7 @@ use Rattle.mpy_tree.specs.declared.typing.Ty.TheVariants as ty
 use Rattle.mpy_tree.specs.declared.refusal.Cause.TheVariants as cause
 use Rattle.mpy_tree.specs.declared.typing.TypeError.{TypeError}
 use Rattle.mpy_tree.specs.declared.typing.TypeError.TheVariants.{Fault}
-use Rattle.mpy_tree.specs.Faults.{Place, place, entry_fault, fact, facts_at, facts_with, listed, local_line, nodes_fault, or_fault, routine_slots, slot_fault, slots, slots_fault, slots_from, names_fault}
+use Rattle.mpy_tree.specs.Faults.{Place, place, entry_fault, fact, facts_at, facts_with, free_function, listed, local_line, may_lack, nodes_fault, or_fault, routine_slots, slot_fault, slots, slots_fault, slots_from, names_fault}
 use Rattle.mpy_tree.specs.Locals.{and_new, is_among, locals}
 use Rattle.mpy_tree.specs.Rules.{single}
 use Rattle.mpy_tree.specs.Running.{found}
@@ -126,21 +126,49 @@ both_none : (a b : Option TypeError) → or_fault a b ≡ None → (a ≡ None) 
 both_none None b e = (refl, e)
 both_none (Some x) b e = absurd (cc)
 
--- slots without a fault have facts
-facts_of_slots : (F : FactSet) (i : ℕ) (ss : List Place) → slots_fault None F ss ≡ None
-    → list_any (is_slot_of i) ss ≡ true → list_any (is_fact_of i) (facts_at F ss) ≡ true
-facts_of_slots F i [] none e = e
-facts_of_slots F i (s ∷ ss) none e =
+and_false : (a : Bool) → (a && false) ≡ false
+and_false true = refl
+and_false false = refl
+
+-- a local has a type, whichever result may have none
+not_result : (j n : ℕ) (x : Slot) (here : Bool) → (here && is_local x) ≡ true
+    → same_place j slot.Result n x ≡ false
+not_result j n (slot.Local x) here e = and_false (j == n)
+not_result j n slot.Result true e = absurd (cc)
+not_result j n slot.Result false e = absurd (cc)
+
+never_lacks : (free : Option ℕ) (i : ℕ) (s : Place) → is_slot_of i s ≡ true
+    → may_lack free s ≡ false
+never_lacks None i s e = refl
+never_lacks (Some j) i s e = not_result j s.func s.slot (s.func == i) e
+
+-- a slot more, with or without a fact
+with_facts : (i : ℕ) (s : Place) (o : Option Ty) (fs : List Fact)
+    → list_any (is_fact_of i) fs ≡ true → list_any (is_fact_of i) (facts_with s o fs) ≡ true
+with_facts i s None fs h = h
+with_facts i s (Some t) fs h = or_right (is_slot_of i s) (list_any (is_fact_of i) fs) h
+
+-- slots without a fault have facts, but for a result that may have none
+facts_of_slots : (free : Option ℕ) (F : FactSet) (i : ℕ) (ss : List Place)
+    → slots_fault free F ss ≡ None → list_any (is_slot_of i) ss ≡ true
+    → list_any (is_fact_of i) (facts_at F ss) ≡ true
+facts_of_slots free F i [] none e = e
+facts_of_slots free F i (s ∷ ss) none e =
     let S = F s.func s.slot in
-    let parts = both_none (slot_fault false (listed S) s.line) (slots_fault None F ss) none in
-    let t = one_type S.int S.bool S.list S.text s.line parts.0 in
+    let parts =
+    both_none (slot_fault (may_lack free s) (listed S) s.line) (slots_fault free F ss) none in
+    or_cases (is_slot_of i s) (list_any (is_slot_of i) ss)
+    (list_any (is_fact_of i) (facts_at F (s ∷ ss)) ≡ true)
+    (λ a.
+    let own : slot_fault false (listed S) s.line ≡ None =
+    subst (λ (b : Bool). slot_fault b (listed S) s.line ≡ None) (never_lacks free i s a) parts.0 in
+    let t = one_type S.int S.bool S.list S.text s.line own in
     let all : facts_at F (s ∷ ss) ≡ fact s.func s.slot t.0 ∷ facts_at F ss =
     ap (λ o. facts_with s o (facts_at F ss)) t.1 in
     subst (λ fs. list_any (is_fact_of i) fs ≡ true) (sym all)
-    (or_cases (is_slot_of i s) (list_any (is_slot_of i) ss)
-    ((is_slot_of i s || list_any (is_fact_of i) (facts_at F ss)) ≡ true)
-    (λ a. or_left (is_slot_of i s) (list_any (is_fact_of i) (facts_at F ss)) a)
-    (λ b. or_right (is_slot_of i s) (list_any (is_fact_of i) (facts_at F ss)) (facts_of_slots F i ss parts.1 b)) e)
+    (or_left (is_slot_of i s) (list_any (is_fact_of i) (facts_at F ss)) a))
+    (λ b. with_facts i s (only_of S.int S.bool S.list S.text) (facts_at F ss)
+    (facts_of_slots free F i ss parts.1 b)) e
 
 -- THE ENTRY
 
@@ -325,14 +353,15 @@ pub weighs_something : (b : Bounds) (text : List ℕ) (p : Typed)
 weighs_something b text p read some =
     let t = read.typing in
     let types = map param_type b.params in
+    let free = free_function p.program (entry_at b) in
     let none = second_and_third (names_fault p.program) (entry_fault (found p.program b.entry) (length types))
-    (slots_fault None t.set (slots p.program)) (nodes_fault (single t.set) p.program) t.faultless in
+    (slots_fault free t.set (slots p.program)) (nodes_fault (single t.set) p.program) t.faultless in
     let r = entry_found (found p.program b.entry) (length types) none.0 in
     let many = length-map b.params param_type in
     let e = is_entered p.program b.entry 0 r.0 r.1 (omega (arith, many, r.2)) (bodies_have read.read.reads.nested) in
     let typed : list_any (is_fact_of e.number) p.types ≡ true =
     subst (λ fs. list_any (is_fact_of e.number) fs ≡ true) (sym t.facts)
-    (facts_of_slots t.set e.number (slots p.program) none.1 e.local) in
+    (facts_of_slots free t.set e.number (slots p.program) none.1 e.local) in
     let deep : b.limits.depth ≡ suc (b.limits.depth - 1) = omega (arith, b.limits.depth_range.0) in
     entry_weighs b p (b.limits.depth - 1) deep r.0 e typed
 
