@@ -27,7 +27,8 @@ def a_print(rng, lines, place):
     head = max((at for at in range(place + 1) if lines[at].startswith('def ')), default=0)
     above = '\n'.join(lines[head:place])
     names = [name for found in ASSIGNED.finditer(above) for name in found.groups() if name]
-    names += re.findall(r'\w+', re.match(r'def \w+\(([^()]*)\)', lines[head])[1])
+    params = re.match(r'def \w+\(([^()]*)\)', lines[head])
+    names += re.findall(r'\w+', params[1]) if params else []
     return 'print(%s)' % (rng.choice(names) if names and rng.random() < 0.8 else rng.choice(PRINTED))
 
 
