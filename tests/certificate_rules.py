@@ -122,7 +122,7 @@ class Certificate:
         for given in self.inputs:
             if not judge.meets(task.sub, given):
                 ended = [judge.outcome(program, given) for program in (task.sub, task.ref)]
-                return judge.model.report.fails(judge.entry, given, ended[0], ended[1], 0)
+                return judge.model.report.fails(judge.entry, given, ended[0], ended[1], judge.limits.prints)
         return ''
 
     def faults_of_cost(self):

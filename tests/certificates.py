@@ -4,7 +4,7 @@
     MODEL=PATH tests/certificates.py [SEED COUNT] [--examples] [--first NUMBER] [--program PROGRAM] [--unproved]
 
 Run it at the top of the repository. `--examples` grades every submission of the examples, and SEED and COUNT so many random requests:
-tasks with rules, with a budget of 2000 or less, and submissions of the examples with a small one. Either may stand alone. MODEL is the path of the
+tasks with rules, some of which compare printed values, with a budget of 2000 or less, and submissions of the examples with a small one. Either may stand alone. MODEL is the path of the
 model's command line; its modules lie beside it. PROGRAM is crates/grader_cli/out/grader_cli unless it is given; a request is one
 process of it. With `--unproved`, which needs `rt` on the path, its sources are run instead, unproved and over files in memory. Each
 random request is made from the seed and its own number, so `--first NUMBER` with COUNT 1 repeats one.
@@ -25,6 +25,7 @@ import random
 import sys
 import tempfile
 
+import print_requests
 from certificate_rules import REFUSED, SPENT, Certificate
 from graders import Built, Unproved
 from programs import Model, some_sources
@@ -38,8 +39,10 @@ BUDGETS = (2000,) * 6 + (1, 2, 7, 30, 100)
 # One random request in so many is of an example, with a budget up to SMALL.
 EXAMPLES = 12
 SMALL = 40
-# The language of rules with neither guards nor deletions, and the limit by weights.
-STAGE = 15
+# One in so many has printed values that are compared.
+PRINTED = 3
+# The language of rules with neither guards nor deletions, and printed values that are compared.
+STAGE = 16
 # The sources as the model calls them.
 KINDS = ('bounds', 'reference', 'submission', 'rules')
 
@@ -69,6 +72,9 @@ def random_case(seed, number):
     if rng.randrange(EXAMPLES) == 0:
         path, sources = rng.choice(list(examples()))
         return Case('task %d, %s' % (number, path), sources, rng.randint(1, SMALL))
+    if rng.randrange(PRINTED) == 0:
+        request = print_requests.a_grading(rng)
+        return Case('task %d' % number, [request.files[name] for name in request.words[1:5]], rng.choice(BUDGETS))
     return Case('task %d' % number, some_sources(rng), rng.choice(BUDGETS))
 
 

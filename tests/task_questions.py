@@ -101,6 +101,10 @@ def signed(bits, width):
     return bits - (1 << width) if bits >> width - 1 else bits
 
 
+def typed(value):
+    return type(value).__name__, value
+
+
 class Judge:
     """A task, with the runs of its programs by the model."""
 
@@ -117,11 +121,11 @@ class Judge:
         return self.model.interp.run(program, self.limits, self.entry, list(given))
 
     def value(self, program, given):
-        """The value that a program gives, with its type, or None for a fault."""
+        """The value that a program gives and what it prints where that is compared, with their types, or None for a fault."""
         key = id(program), given
         if key not in self.ended:
             ended = self.outcome(program, given)
-            self.ended[key] = (type(ended[1]).__name__, ended[1]) if ended[0] == 'Done' else None
+            self.ended[key] = [typed(value) for value in (ended[1], *ended[2])] if ended[0] == 'Done' else None
         return self.ended[key]
 
     def walk(self, members):
