@@ -5,6 +5,7 @@ the same value; other rules make the same programs once more. The others are sou
 """
 import formula_requests
 import rule_requests
+from print_requests import as_printing, compared
 from request import SOURCES, Request
 
 # Rules by which many selections cost the same, and make the same program.
@@ -30,9 +31,15 @@ FORMS = ('0', '007', '101', '', '-1', '1.', '200000')
 def a_mended(rng):
     """The sources of a program with mistakes and rules for them."""
     params, reference = rng.choice(rule_requests.COURSE)
+    bounds = rule_requests.HEAD + params
+    if rng.random() < 0.25:
+        bounds, reference = compared(rng, bounds), as_printing(rng, reference, rng.random() < 0.5)
     submission, rules = reference, []
     for _ in range(rng.choice((1, 1, 2, 2, 3))):
-        old, new, among = rng.choice([it for it in MISTAKES if it[0] in submission[submission.find(':'):]])
+        possible = [it for it in MISTAKES if it[0] in submission[submission.find(':'):]]
+        if not possible:
+            break
+        old, new, among = rng.choice(possible)
         places = [place for place in range(submission.find(':'), len(submission)) if submission.startswith(old, place)]
         place = rng.choice(places)
         submission = submission[:place] + new + submission[place + len(old):]
@@ -41,7 +48,7 @@ def a_mended(rng):
     rng.shuffle(rules)
     costs = rng.choice((('',), ('',), ('', ' cost 2'), (' cost 1', ' cost 2', ' cost 3')))
     text = ''.join('rule r%d%s: %s => %s\n' % (number, rng.choice(costs), *rule) for number, rule in enumerate(rules))
-    return rule_requests.HEAD + params, reference, submission, text
+    return bounds, reference, submission, text
 
 
 def some_files(rng):

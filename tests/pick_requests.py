@@ -1,6 +1,7 @@
 """Random requests of `pick`, which finds few inputs on which wrong programs fail; `compare.py` takes them from here."""
 import rule_requests
 from formula_requests import spoiled
+from print_requests import as_printing, changed_prints, compared
 from program_requests import a_program
 from random_programs import TYPES, Bounds, changed
 from request import Request
@@ -34,9 +35,19 @@ def of_random_programs(rng):
     return bounds.text(), reference, others
 
 
+def printing(rng, bounds, reference, others):
+    """The same where what is printed is compared."""
+    gives = rng.random() < 0.5
+    reference = as_printing(rng, reference, gives)
+    others = [changed_prints(rng, reference) if rng.random() < 0.5 else as_printing(rng, other, gives) for other in others]
+    return compared(rng, bounds), reference, others
+
+
 def a_request(rng):
-    """A reference and some submissions; a few have a spoiled source, too many words, or a file that is absent."""
+    """A reference and some submissions; of some what they print is compared; a few have a spoiled source, too many words, or a file that is absent."""
     bounds, reference, others = (of_a_course if rng.random() < 0.4 else of_random_programs)(rng)
+    if rng.random() < 0.25:
+        bounds, reference, others = printing(rng, bounds, reference, others)
     names = ['s%d.py' % number for number in range(1, len(others) + 1)]
     files = {'b.txt': bounds.encode(), 'ref.py': reference.encode()}
     files.update(zip(names, (text.encode() for text in others)))
